@@ -1,5 +1,6 @@
 -- What the streams answer to who asks again.
-use Rattle.std.proofs.Common.{◌≡◌, ℕ, true, false, cond, List, [], ◌∷◌, ◌++◌, map, Option, Some, None, refl, sym, ap, ◌∙◌}
+use Rattle.std.proofs.Common.{◌≡◌, ℕ, true, false, cond, List, [], ◌∷◌, ◌++◌, map, Option, Some, None, refl, sym, ap}
+use Rattle.std.proofs.Common.{◌∙◌}
 use Rattle.std.specs.Prelude.{filter}
 use Rattle.std.specs.List.{filter_map}
 use Rattle.rtp_codec.specs.declared.address.Address.{Address}
@@ -58,25 +59,46 @@ module _ {A : Type 0} (at : LaneVisit A) (streams : StreamList) (request : Reque
   stay : (before : List Visit) → AreLeft lane lanes streams before → AreLeft lane lanes streams (before ++ visit ∷ [])
   stay before left j mine = left j mine ∙ ap (stream_of j) (sym (not_routed j before visit refl))
 
-  window_left : (rs : List Routed) (o : Option StreamOf) → o ≡ stream_of k rs → window_of o ≡ latest window_size (packets_sent k rs)
+  window_left : (rs : List Routed) (o : Option StreamOf) → o ≡ stream_of k rs
+      → window_of o ≡ latest window_size (packets_sent k rs)
   window_left [] o e = ap window_of e
   window_left (r ∷ rs) o e = ap window_of e
 
-  share : (window : List SentPacket) → filter (is_lanes lane lanes) (map (goes k (Some at.stamp.version)) (resends desk request.from request.numbers window))
-      ≡ cond (is_mine lane lanes k) (map (goes k (Some at.stamp.version)) (resends desk request.from request.numbers window)) []
-  share window = all_or_none (is_lanes lane lanes) (is_mine lane lanes k) k (Some at.stamp.version) (λ p. refl) (resends desk request.from request.numbers window)
+  share : (window : List SentPacket)
+      → filter (is_lanes lane lanes)
+      (map (goes k (Some at.stamp.version)) (resends desk request.from request.numbers window))
+      ≡ cond (is_mine lane lanes k)
+      (map (goes k (Some at.stamp.version)) (resends desk request.from request.numbers window)) []
+  share window =
+      all_or_none (is_lanes lane lanes) (is_mine lane lanes k) k (Some at.stamp.version) (λ p. refl)
+      (resends desk request.from request.numbers window)
 
   -- the stream is another lane's
   pub others_answered : is_mine lane lanes k ≡ false → sent ≡ [] → Answers at streams streams (Input.nack request) sent
   others_answered not is before left =
-      let window = latest window_size (packets k before) in
-      (is ∙ sym (ap (λ b. cond b (map (goes k (Some at.stamp.version)) (resends desk request.from request.numbers window)) []) not) ∙ sym (share window), stay before left)
+      let window = latest window_size (packets k before) in (
+        is
+            ∙ sym (ap
+            (λ b. cond b (map (goes k (Some at.stamp.version)) (resends desk request.from request.numbers window)) [])
+            not)
+            ∙ sym (share window),
+        stay before left,
+      )
 
   -- the stream is the lane's
-  pub mine_answered : is_mine lane lanes k ≡ true → sent ≡ map (goes k (Some at.stamp.version)) (resends desk request.from request.numbers (window_of (stream_at k streams))) → Answers at streams streams (Input.nack request) sent
+  pub mine_answered : is_mine lane lanes k ≡ true
+      → sent
+      ≡ map (goes k (Some at.stamp.version))
+      (resends desk request.from request.numbers (window_of (stream_at k streams)))
+      → Answers at streams streams (Input.nack request) sent
   mine_answered mine is before left =
       let window = latest window_size (packets k before) in (
-        is ∙ ap (λ w. map (goes k (Some at.stamp.version)) (resends desk request.from request.numbers w)) (window_left (routed k before) (stream_at k streams) (left k mine))
-            ∙ sym (ap (λ b. cond b (map (goes k (Some at.stamp.version)) (resends desk request.from request.numbers window)) []) mine) ∙ sym (share window),
+        is
+            ∙ ap (λ w. map (goes k (Some at.stamp.version)) (resends desk request.from request.numbers w))
+            (window_left (routed k before) (stream_at k streams) (left k mine))
+            ∙ sym (ap
+            (λ b. cond b (map (goes k (Some at.stamp.version)) (resends desk request.from request.numbers window)) [])
+            mine)
+            ∙ sym (share window),
         stay before left,
       )

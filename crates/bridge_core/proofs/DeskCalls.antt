@@ -16,51 +16,70 @@ use Rattle.bridge_core.specs.Following.{HasCalled, IsAnswered}
 
 -- a core with this desk
 abbrev pub core_with : DeskOf → List LaneOf → IntakeOf → CoreOf
-core_with d lanes intake = record { version = d.version; desk = d.desk; done = d.done; undone = d.undone; lanes = lanes; intake = intake }
+core_with d lanes intake =
+    record { version = d.version; desk = d.desk; done = d.done; undone = d.undone; lanes = lanes; intake = intake }
 
 -- ---- how much memory a desk has makes no difference
 
-does_same : (old new : DeskOf) (call : Call) → Does old new call → Does (record old { spare = 0 }) (record new { spare = 0 }) call
+does_same : (old new : DeskOf) (call : Call) → Does old new call
+    → Does (record old { spare = 0 }) (record new { spare = 0 }) call
 does_same old new (Apply command) does = does
 does_same old new (Group commands) does = does
 does_same old new (Undo last) does = does
 does_same old new (Redo last) does = does
 
-reason_same : (d : DeskOf) (call : Call) (why : Refusal) → IsReason d call why → IsReason (record d { spare = 0 }) call why
+reason_same : (d : DeskOf) (call : Call) (why : Refusal) → IsReason d call why
+    → IsReason (record d { spare = 0 }) call why
 reason_same d (Apply command) why reason = reason
 reason_same d (Group commands) why reason = reason
 reason_same d (Undo last) why reason = reason
 reason_same d (Redo last) why reason = reason
 
-called_core : (d : DeskOf) (lanes : List LaneOf) (intake : IntakeOf) (h : CallHistory) → DeskHasCalled d h → HasCalled (core_with d lanes intake) h
-called_core d lanes intake h called = record { version = called.version; desk = called.desk; follows = called.follows; ahead = called.ahead }
+called_core : (d : DeskOf) (lanes : List LaneOf) (intake : IntakeOf) (h : CallHistory) → DeskHasCalled d h
+    → HasCalled (core_with d lanes intake) h
+called_core d lanes intake h called =
+    record { version = called.version; desk = called.desk; follows = called.follows; ahead = called.ahead }
 
-called_desk : (d : DeskOf) (lanes : List LaneOf) (intake : IntakeOf) (h : CallHistory) → HasCalled (core_with d lanes intake) h → DeskHasCalled d h
-called_desk d lanes intake h called = record { version = called.version; desk = called.desk; follows = called.follows; ahead = called.ahead }
+called_desk : (d : DeskOf) (lanes : List LaneOf) (intake : IntakeOf) (h : CallHistory)
+    → HasCalled (core_with d lanes intake) h → DeskHasCalled d h
+called_desk d lanes intake h called =
+    record { version = called.version; desk = called.desk; follows = called.follows; ahead = called.ahead }
 
 -- ---- an accepted call
 
-pub accepted_answer : {A : Type 0} (was ready is : DeskOf) (lanes : List LaneOf) (intake : IntakeOf) (call : Call) (prepared : Prepared A) (number : ℕ) → ready ≡ record was { spare = ready.spare } → IsReady ready call prepared → Does ready is call
-    → (number ≡ ready.version + 1) × (is.version ≡ number) → Answers (core_with was lanes intake) (core_with is lanes intake) call (Accepted number)
+pub accepted_answer : {A : Type 0} (was ready is : DeskOf) (lanes : List LaneOf) (intake : IntakeOf) (call : Call)
+    (prepared : Prepared A) (number : ℕ)
+    → ready ≡ record was { spare = ready.spare } → IsReady ready call prepared → Does ready is call
+    → (number ≡ ready.version + 1) × (is.version ≡ number)
+    → Answers (core_with was lanes intake) (core_with is lanes intake) call (Accepted number)
 accepted_answer was ready is lanes intake call prepared number same free does version = (
   version.0 ∙ ap (λ (d : DeskOf). d.version + 1) same,
   version.1,
   refl,
   subst (λ (d : DeskOf). call_refused d call ≡ None) same free.0,
-  subst (λ (d : DeskOf). Does (record d { spare = 0 }) (record is { spare = 0 }) call) same (does_same ready is call does),
+  subst (λ (d : DeskOf). Does (record d { spare = 0 }) (record is { spare = 0 }) call) same
+      (does_same ready is call does),
 )
 
-pub accepted_history : (was ready is : DeskOf) (lanes : List LaneOf) (intake : IntakeOf) (call : Call) (number : ℕ) → ((h : CallHistory) → DeskHasCalled was h → refusal_of h call ≡ None) → ((h : CallHistory) → DeskHasCalled was h → DeskHasCalled ready h)
-    → ((h : CallHistory) → DeskHasCalled ready h → DeskHasCalled is (after_call h call)) → number ≡ ready.version + 1 → (h : CallHistory) → HasCalled (core_with was lanes intake) h
+pub accepted_history : (was ready is : DeskOf) (lanes : List LaneOf) (intake : IntakeOf) (call : Call) (number : ℕ)
+    → ((h : CallHistory) → DeskHasCalled was h → refusal_of h call ≡ None)
+    → ((h : CallHistory) → DeskHasCalled was h → DeskHasCalled ready h)
+    → ((h : CallHistory) → DeskHasCalled ready h → DeskHasCalled is (after_call h call)) → number ≡ ready.version + 1
+    → (h : CallHistory) → HasCalled (core_with was lanes intake) h
     → IsAnswered h (core_with is lanes intake) call (Accepted number)
 accepted_history was ready is lanes intake call number free prepares commits next h called =
     let before = called_desk was lanes intake h called in
-    let between = prepares h before in
-    (free h before, next ∙ ap (λ n. n + 1) between.version, called_core is lanes intake (after_call h call) (commits h between))
+    let between = prepares h before in (
+      free h before,
+      next ∙ ap (λ n. n + 1) between.version,
+      called_core is lanes intake (after_call h call) (commits h between),
+    )
 
 -- ---- a refused call
 
-pub refused_answer : (was ready : DeskOf) (lanes : List LaneOf) (intake : IntakeOf) (call : Call) (at : ℕ) (why : Refusal) → ready ≡ record was { spare = ready.spare } → at ≡ ready.version → IsReason was call why
+pub refused_answer : (was ready : DeskOf) (lanes : List LaneOf) (intake : IntakeOf) (call : Call) (at : ℕ)
+    (why : Refusal)
+    → ready ≡ record was { spare = ready.spare } → at ≡ ready.version → IsReason was call why
     → Answers (core_with was lanes intake) (core_with ready lanes intake) call (Refused at why)
 refused_answer was ready lanes intake call at why same now reason = (
   now ∙ ap (λ (d : DeskOf). d.version) same,
@@ -68,8 +87,12 @@ refused_answer was ready lanes intake call at why same now reason = (
   reason_same was call why reason,
 )
 
-pub refused_history : (was ready : DeskOf) (lanes : List LaneOf) (intake : IntakeOf) (call : Call) (at : ℕ) (why : Refusal) → ((h : CallHistory) → DeskHasCalled was h → IsTold h call why) → ((h : CallHistory) → DeskHasCalled was h → DeskHasCalled ready h)
-    → at ≡ ready.version → (h : CallHistory) → HasCalled (core_with was lanes intake) h → IsAnswered h (core_with ready lanes intake) call (Refused at why)
+pub refused_history : (was ready : DeskOf) (lanes : List LaneOf) (intake : IntakeOf) (call : Call) (at : ℕ)
+    (why : Refusal)
+    → ((h : CallHistory) → DeskHasCalled was h → IsTold h call why)
+    → ((h : CallHistory) → DeskHasCalled was h → DeskHasCalled ready h)
+    → at ≡ ready.version → (h : CallHistory) → HasCalled (core_with was lanes intake) h
+    → IsAnswered h (core_with ready lanes intake) call (Refused at why)
 refused_history was ready lanes intake call at why told prepares now h called =
     let before = called_desk was lanes intake h called in
     let after = prepares h before in

@@ -10,9 +10,11 @@ rate_within rate h = by (nat_eq rate 8000) refl
     by true e = let is = eqb-true rate 8000 e in (omega (arith, is), omega (arith, is))
     by false e = let is = eqb-true rate 44100 (rw e at h) in (omega (arith, is), omega (arith, is))
 
-pub sized_sound : (s : Sound) → is_sized (Input.audio s) ≡ true → (50 ≤ s.rate) × (s.rate ≤ 48000) × (0 < length s.samples) × (length s.samples * 5 ≤ s.rate)
+pub sized_sound : (s : Sound) → is_sized (Input.audio s) ≡ true
+    → (50 ≤ s.rate) × (s.rate ≤ 48000) × (0 < length s.samples) × (length s.samples * 5 ≤ s.rate)
 sized_sound s h =
-    let parts = and_parts (is_audio_rate s.rate) (nat_le 1 (length s.samples) && nat_le (length s.samples) (most_at s.rate)) h in
+    let parts =
+    and_parts (is_audio_rate s.rate) (nat_le 1 (length s.samples) && nat_le (length s.samples) (most_at s.rate)) h in
     let within = rate_within s.rate parts.0 in
     let sizes = and_parts (nat_le 1 (length s.samples)) (nat_le (length s.samples) (most_at s.rate)) parts.1 in
     let low = leb-true 1 (length s.samples) sizes.0 in

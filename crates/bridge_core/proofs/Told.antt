@@ -10,7 +10,8 @@ module _ {X Y : Type 0} (f : X → List Y) where
   last_of_all (y ∷ xs) x = ap (λ rest. f y ++ rest) (last_of_all xs x) ∙ sym (append_assoc (f y) (flat_map f xs) (f x))
 
   -- what the next one adds
-  pub one_more : (front : List Y) (xs : List X) (i : ℕ) (e : X) (now next : List Y) → i < length xs → now ≡ front ++ flat_map f (take i xs) → next ≡ now ++ f (slice_index_or xs i e)
+  pub one_more : (front : List Y) (xs : List X) (i : ℕ) (e : X) (now next : List Y) → i < length xs
+      → now ≡ front ++ flat_map f (take i xs) → next ≡ now ++ f (slice_index_or xs i e)
       → next ≡ front ++ flat_map f (take (i + 1) xs)
   one_more front xs i e now next lt so adds =
       let x = slice_index_or xs i e in
@@ -19,11 +20,14 @@ module _ {X Y : Type 0} (f : X → List Y) where
 
 module _ {T E Y : Type 0} where
   -- what is added is the same
-  pub ok_alike : (r : Result T E) (out front these those : List Y) → these ≡ those → OnOk r (out ≡ front ++ these) → OnOk r (out ≡ front ++ those)
+  pub ok_alike : (r : Result T E) (out front these those : List Y) → these ≡ those → OnOk r (out ≡ front ++ these)
+      → OnOk r (out ≡ front ++ those)
   ok_alike (Ok x) out front these those same h = h ∙ ap (λ ys. front ++ ys) same
   ok_alike (Err e) out front these those same h = tt
 
   -- what is added in two parts
-  pub ok_joined : (r : Result T E) (out between front first second those : List Y) → between ≡ front ++ first → second ≡ those → OnOk r (out ≡ between ++ second) → OnOk r (out ≡ front ++ (first ++ those))
-  ok_joined (Ok x) out between front first second those is same h = h ∙ ap (λ ys. ys ++ second) is ∙ append_assoc front first second ∙ ap (λ ys. front ++ (first ++ ys)) same
+  pub ok_joined : (r : Result T E) (out between front first second those : List Y) → between ≡ front ++ first
+      → second ≡ those → OnOk r (out ≡ between ++ second) → OnOk r (out ≡ front ++ (first ++ those))
+  ok_joined (Ok x) out between front first second those is same h =
+      h ∙ ap (λ ys. ys ++ second) is ∙ append_assoc front first second ∙ ap (λ ys. front ++ (first ++ ys)) same
   ok_joined (Err e) out between front first second those is same h = tt

@@ -151,6 +151,7 @@ pub record LeadsBack (who : Asker) (lanes : ℕ) (start : Desk) (before : List S
   pub packet : SentPacket
   pub same : sent ≡ goes request.out_ssrc (Some visit.version) packet
   pub owed : IsOwed start before lane visit request packet
-  pub sent_before : Contains (firsts who lanes start (record { kind = StreamKind.video; ssrc = request.out_ssrc }) before)
+  pub sent_before : Contains
+      (firsts who lanes start (record { kind = StreamKind.video; ssrc = request.out_ssrc }) before)
       (goes request.out_ssrc None packet)
   pub carries : Carries request.out_ssrc (visits lane start before) packet

@@ -32,7 +32,8 @@ desk_of desk (Step.item to input ∷ steps) = desk_of desk steps
 abbrev pub items_given : ℕ → List Step → ℕ
 items_given lane [] = 0
 items_given lane (Step.publish next ∷ steps) = items_given lane steps
-items_given lane (Step.item to input ∷ steps) = if nat_eq to lane then 1 + items_given lane steps else items_given lane steps
+items_given lane (Step.item to input ∷ steps) =
+    if nat_eq to lane then 1 + items_given lane steps else items_given lane steps
 
 -- what each step gives after those before it, joined
 abbrev pub along : {X : Type 0} → (List Step → Step → List X) → List Step → List Step → List X

@@ -1,5 +1,6 @@
--- What is reported of outgoing streams: reports count what was sent for the first time, notes lead back to it, and a lost
--- picture is asked for at its source (RFC 3550 section 6.4, RFC 4585 section 6.3.1; that notes name the packet is own).
+-- What is reported of outgoing streams: reports count what was sent for the first time, notes lead back to it, and a
+-- lost picture is asked for at its source (RFC 3550 section 6.4, RFC 4585 section 6.3.1; that notes name the packet is
+-- own).
 use Rattle.std.specs.Prelude.{◌≡◌, ℕ, ◌+◌, ◌-◌, ◌*◌, ◌%◌, ◌^◌, true, List}
 use Rattle.std.specs.Prelude.{[], ◌∷◌, length, map, sum_by, Some, None, IfSome, option_and_then}
 use Rattle.std.specs.List.{Contains}

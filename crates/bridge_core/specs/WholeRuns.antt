@@ -120,8 +120,8 @@ IsKept who lanes start before lane (report moment) = IsReported who lanes start 
 IsKept who lanes start before lane renew = sent_after who lanes start before lane renew ≡ []
 
 -- What holds of all that is sent over these steps, on this many lanes and from this desk on. It is what the definition
--- gives. Each stream's first sendings are its routed list or its mix list, numbered without a gap. Each item is answered
--- as was promised.
+-- gives. Each stream's first sendings are its routed list or its mix list, numbered without a gap. Each item is
+-- answered as was promised.
 pub record Holds (who : Asker) (lanes : ℕ) (start : Desk) (steps : List Step) (sent : List (List Sent)) : Type 0 where
   pub given : sent ≡ sends who lanes start steps
   pub lists : (ssrc : ℕ)

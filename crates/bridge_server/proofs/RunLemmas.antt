@@ -1,5 +1,6 @@
 -- From a bridge's beginning to what its lanes sent.
-use Rattle.std.proofs.Common.{◌≡◌, ◌∙◌, ◌<◌, ℕ, Bool, true, zero, suc, List, [], ◌∷◌, map, length, All, Some, slice_get, refl, ap, sym, subst, arith}
+use Rattle.std.proofs.Common.{◌≡◌, ◌∙◌, ◌<◌, ℕ, Bool, true, zero, suc, List, [], ◌∷◌, map, length, All, Some, slice_get}
+use Rattle.std.proofs.Common.{refl, ap, sym, subst, arith}
 use Rattle.std.proofs.lemmas.List.{get_or-map, length-map}
 use Rattle.logbook.specs.Pages.{Book}
 use Rattle.desk_rows.specs.Desk.{Desk, good}
@@ -27,7 +28,8 @@ of_map : {X Y : Type 0} (P : Y → Type 0) (f : X → Y) (xs : List X) → All P
 of_map {X} P f xs all k d low =
     subst P (get_or-map f xs k d (f d) low) (all k (f d) (subst (λ (n : ℕ). k < n) (sym (length-map xs f)) low))
 
-lane_readers : (q : ReaderOf → Type 0) (lanes : List LaneNow) (readers : List ReaderOf) → map (λ (lane : LaneNow). lane.reader) lanes ≡ readers
+lane_readers : (q : ReaderOf → Type 0) (lanes : List LaneNow) (readers : List ReaderOf)
+    → map (λ (lane : LaneNow). lane.reader) lanes ≡ readers
     → All q readers → All (λ (lane : LaneNow). q lane.reader) lanes
 lane_readers q lanes readers are all = of_map q (λ (lane : LaneNow). lane.reader) lanes (subst (All q) (sym are) all)
 
@@ -61,7 +63,9 @@ lanes_begun who many publisher start lanes readers new named are count all =
 
 -- ---- ends
 
-as_many_ends : {N P S : Type 0} (answers : P → ℕ → Bool → Type 0) (taken : Taking S) (ports : List (PortOf P S)) (ends : List (LaneEnd N S)) → AllEnded answers taken ports ends
+as_many_ends : {N P S : Type 0} (answers : P → ℕ → Bool → Type 0) (taken : Taking S) (ports : List (PortOf P S))
+    (ends : List (LaneEnd N S))
+    → AllEnded answers taken ports ends
     → length (sent_by taken ends) ≡ length ports
 as_many_ends answers taken [] [] ended = refl
 as_many_ends answers taken [] (e ∷ es) ended = absurd ended
@@ -69,7 +73,8 @@ as_many_ends answers taken (p ∷ ps) [] ended = absurd ended
 as_many_ends answers taken (p ∷ ps) (e ∷ es) ended = ap suc (as_many_ends answers taken ps es ended.1)
 
 -- what the sinks tell of themselves is what they took
-told_took : {N S : Type 0} (taken : Taking S) (told : S → LaneSent) → ((sink : S) → taken_list (told sink).taken ≡ taken sink) → (ends : List (LaneEnd N S))
+told_took : {N S : Type 0} (taken : Taking S) (told : S → LaneSent)
+    → ((sink : S) → taken_list (told sink).taken ≡ taken sink) → (ends : List (LaneEnd N S))
     → sent_into (map (λ (end : LaneEnd N S). told end.sink) ends) ≡ sent_by taken ends
 told_took taken told is [] = refl
 told_took {N} {S} taken told is (e ∷ es) =
@@ -88,20 +93,33 @@ as_many {N} {P} {S} answers taken who many start publisher feed ends begun ended
     (fed, sym sent ∙ (as_many_ends answers taken (ports_in feed) ends ended ∙ ports))
 
 -- lanes of this publisher have ended
-pub have_ended : {N P S : Type 0} (answers : P → ℕ → Bool → Type 0) (taken : Taking S) (who : Asker) (many : ℕ) (start : Desk) (publisher other : Book) (feed : List (FedLane P S)) (ends : List (LaneEnd N S))
-    → HaveBegun who many start publisher (lanes_in feed) → AllEnded answers taken (ports_in feed) ends → other ≡ publisher → HaveEnded answers taken other ends
-have_ended answers taken who many start publisher other feed ends begun ended same =
-    (ports_in feed, ended, subst (λ (b : Book). AllRead b (lanes_of (ports_in feed))) (sym same) (subst (AllRead publisher) (sym (lanes_of_ports feed)) begun.read))
+pub have_ended : {N P S : Type 0} (answers : P → ℕ → Bool → Type 0) (taken : Taking S) (who : Asker) (many : ℕ)
+    (start : Desk) (publisher other : Book) (feed : List (FedLane P S)) (ends : List (LaneEnd N S))
+    → HaveBegun who many start publisher (lanes_in feed) → AllEnded answers taken (ports_in feed) ends
+    → other ≡ publisher → HaveEnded answers taken other ends
+have_ended answers taken who many start publisher other feed ends begun ended same = (
+  ports_in feed,
+  ended,
+  subst (λ (b : Book). AllRead b (lanes_of (ports_in feed))) (sym same)
+      (subst (AllRead publisher) (sym (lanes_of_ports feed)) begun.read),
+)
 
 -- what the headline says of lanes that knew no more than the notice of the log
-pub one_run : {N P S : Type 0} (answers : P → ℕ → Bool → Type 0) (taken : Taking S) (told : S → LaneSent) → ((sink : S) → taken_list (told sink).taken ≡ taken sink)
-    → (who : Asker) (many : ℕ) (start : Desk) (publisher : Book) (log : List EntryOf) (last : NoticeOf) (feed : List (FedLane P S)) (ends : List (LaneEnd N S))
-    → HaveBegun who many start publisher (lanes_in feed) → good start ≡ true → IsLegal start log → Tells start publisher log last
-    → (ended : AllEnded answers taken (ports_in feed) ends) → AllSeen last.lists answers taken (ports_in feed) ends ended
-    → ((h : EndedAfter answers taken start log (ports_in feed) ends) → IsOneList (h.new).0 (length (ports_in feed)) start (calls_of log) (sent_by taken ends) (merged h))
-    → (EndedAfter answers taken start log (ports_in feed) ends → SendByVersions start (calls_of log) (sent_by taken ends))
+pub one_run : {N P S : Type 0} (answers : P → ℕ → Bool → Type 0) (taken : Taking S) (told : S → LaneSent)
+    → ((sink : S) → taken_list (told sink).taken ≡ taken sink)
+    → (who : Asker) (many : ℕ) (start : Desk) (publisher : Book) (log : List EntryOf) (last : NoticeOf)
+    (feed : List (FedLane P S)) (ends : List (LaneEnd N S))
+    → HaveBegun who many start publisher (lanes_in feed) → good start ≡ true → IsLegal start log
+    → Tells start publisher log last
+    → (ended : AllEnded answers taken (ports_in feed) ends)
+    → AllSeen last.lists answers taken (ports_in feed) ends ended
+    → ((h : EndedAfter answers taken start log (ports_in feed) ends)
+    → IsOneList (h.new).0 (length (ports_in feed)) start (calls_of log) (sent_by taken ends) (merged h))
+    → (EndedAfter answers taken start log (ports_in feed) ends
+    → SendByVersions start (calls_of log) (sent_by taken ends))
     → IsOneRun who start (calls_of log) (sent_into (map (λ (end : LaneEnd N S). told end.sink) ends))
-one_run {N} {P} {S} answers taken told is who many start publisher log last feed ends begun first legal tells ended seen holds sends =
+one_run {N} {P} {S} answers taken told is who many start publisher log last feed ends begun first legal tells ended seen
+    holds sends =
     let lanes = sym (lanes_of_ports feed) in
     let h : EndedAfter answers taken start log (ports_in feed) ends = record {
       first = first;
@@ -110,7 +128,10 @@ one_run {N} {P} {S} answers taken told is who many start publisher log last feed
       desks = tells.1;
       new = (
         who,
-        subst (λ (ls : List LaneNow). (place : ℕ) (lane : LaneNow) → slice_get ls place ≡ Some lane → IsNew who (length ls) place lane) lanes
+        subst
+            (λ (ls : List LaneNow).
+            (place : ℕ) (lane : LaneNow) → slice_get ls place ≡ Some lane → IsNew who (length ls) place lane)
+            lanes
             (λ place lane at. subst (λ (n : ℕ). IsNew who n place lane) (sym begun.count) (begun.new place lane at)),
       );
       begin = subst (AllBegin start) lanes begun.begin;

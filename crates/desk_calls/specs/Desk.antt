@@ -13,7 +13,8 @@ use Rattle.desk_calls.specs.Edits.{fits, after, inverse}
 use Rattle.desk_calls.specs.declared.prepared.Prepared.{Prepared}
 use Rattle.desk_calls.specs.declared.prepared.Prepared.TheVariants as prepared
 
--- a desk: how many calls were accepted, the desk of their rows, and the edits of each call that is done and of each that is undone
+-- a desk: how many calls were accepted, the desk of their rows, and the edits of each call that is done and of each
+-- that is undone
 pub record DeskOf : Type 0 where
   pub version : ℕ
   pub desk : Desk
@@ -26,17 +27,20 @@ pub record DeskOf : Type 0 where
 -- the desk is edited, and what was undone is forgotten
 abbrev pub DoesEdit : DeskOf → DeskOf → Type 0
 DoesEdit old new =
-    (es : List EditOf) × (fits old.desk es ≡ true) × (new.desk ≡ after old.desk es) × (new.done ≡ old.done ++ es ∷ []) × (new.undone ≡ [])
+    (es : List EditOf) × (fits old.desk es ≡ true) × (new.desk ≡ after old.desk es) × (new.done ≡ old.done ++ es ∷ [])
+    × (new.undone ≡ [])
 
 -- the last edit is taken back: it leads from the new desk to the old one, and its inverse from the old one to the new
 abbrev pub UndoesEdit : DeskOf → DeskOf → Type 0
 UndoesEdit old new =
-    (es : List EditOf) × (old.done ≡ new.done ++ es ∷ []) × (new.undone ≡ old.undone ++ es ∷ []) × (old.desk ≡ after new.desk es) × (new.desk ≡ after old.desk (inverse es))
+    (es : List EditOf) × (old.done ≡ new.done ++ es ∷ []) × (new.undone ≡ old.undone ++ es ∷ [])
+    × (old.desk ≡ after new.desk es) × (new.desk ≡ after old.desk (inverse es))
 
 -- the edit that was undone last is done again: it leads from the old desk to the new one, and its inverse back
 abbrev pub RedoesEdit : DeskOf → DeskOf → Type 0
 RedoesEdit old new =
-    (es : List EditOf) × (old.undone ≡ new.undone ++ es ∷ []) × (new.done ≡ old.done ++ es ∷ []) × (new.desk ≡ after old.desk es) × (old.desk ≡ after new.desk (inverse es))
+    (es : List EditOf) × (old.undone ≡ new.undone ++ es ∷ []) × (new.done ≡ old.done ++ es ∷ [])
+    × (new.desk ≡ after old.desk es) × (old.desk ≡ after new.desk (inverse es))
 
 -- the first reason for which a call is refused, out of memory apart
 abbrev pub call_refused : DeskOf → Call → Option Refusal
@@ -46,7 +50,8 @@ call_refused d call = refusal_at d.version d.desk (length d.done) (length d.undo
 abbrev pub early_call_refused : DeskOf → Call → Option Refusal
 early_call_refused d call = early_refusal_at d.version d.desk (length d.done) (length d.undone) call
 
--- what a call is to do: a command makes of the desk what its equation says, and a group what those of its commands say one after another
+-- what a call is to do: a command makes of the desk what its equation says, and a group what those of its commands say
+-- one after another
 abbrev pub Does : DeskOf → DeskOf → Call → Type 0
 Does old new (Apply command) = (new.desk ≡ desk_after old.desk command) × DoesEdit old new
 Does old new (Group commands) = (new.desk ≡ desk_after_all old.desk commands) × DoesEdit old new
@@ -56,9 +61,11 @@ Does old new (Redo last) = RedoesEdit old new
 -- this is why the call is refused: the first reason, or else out of memory, which an undo or a redo never is
 abbrev pub IsReason : DeskOf → Call → Refusal → Type 0
 IsReason d (Apply command) why =
-    (why ≢ OutOfMemory → call_refused d (Apply command) ≡ Some why) × (why ≡ OutOfMemory → call_refused d (Apply command) ≡ None)
+    (why ≢ OutOfMemory → call_refused d (Apply command) ≡ Some why)
+    × (why ≡ OutOfMemory → call_refused d (Apply command) ≡ None)
 IsReason d (Group commands) why =
-    (why ≢ OutOfMemory → call_refused d (Group commands) ≡ Some why) × (why ≡ OutOfMemory → early_call_refused d (Group commands) ≡ None)
+    (why ≢ OutOfMemory → call_refused d (Group commands) ≡ Some why)
+    × (why ≡ OutOfMemory → early_call_refused d (Group commands) ≡ None)
 IsReason d (Undo last) why = call_refused d (Undo last) ≡ Some why
 IsReason d (Redo last) why = call_refused d (Redo last) ≡ Some why
 
@@ -66,7 +73,8 @@ IsReason d (Redo last) why = call_refused d (Redo last) ≡ Some why
 abbrev pub CanTake : DeskOf → List EditOf → Type 0
 CanTake d es = (fits d.desk es ≡ true) × (0 < d.spare)
 
--- what was prepared does what the call is to do: edits that make of the desk what its equation says, or an undo or a redo of what there is
+-- what was prepared does what the call is to do: edits that make of the desk what its equation says, or an undo or a
+-- redo of what there is
 abbrev pub Serves : {A : Type 0} → DeskOf → Call → Prepared A → Type 0
 Serves d (Apply command) (prepared.Apply es) = CanTake d es × (after d.desk es ≡ desk_after d.desk command)
 Serves d (Apply command) prepared.Undo = ⊥

@@ -32,7 +32,8 @@ unopposed d c h = none (first_case (cases_of d (form_of c))) h where
   none None h = refl
   none (Some why) h = absurd cc
 
-pub planned : (d : Desk) (c : Command) → good d ≡ true → reason_against d c ≡ None → Leads d (edit_for d (form_of c)) (desk_after d c)
+pub planned : (d : Desk) (c : Command) → good d ≡ true → reason_against d c ≡ None
+    → Leads d (edit_for d (form_of c)) (desk_after d c)
 unfolding desk_after reason_against
 planned d c g h = led d (form_of c) g h
 

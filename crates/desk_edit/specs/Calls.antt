@@ -1,5 +1,6 @@
 -- The history of calls: which commands are done, which are undone, and how each call is answered.
-use Rattle.std.specs.Prelude.{ℕ, ◌+◌, not, nat_eq, List, [], ◌∷◌, ◌++◌, length, fold, take, Option, Some, None, option_map, if◌then◌else◌}
+use Rattle.std.specs.Prelude.{ℕ, ◌+◌, not, nat_eq, List, [], ◌∷◌, ◌++◌, length, fold, take, Option, Some, None}
+use Rattle.std.specs.Prelude.{option_map, if◌then◌else◌}
 use Rattle.desk_rows.specs.Desk.{Desk}
 use Rattle.desk_edit.specs.declared.command.Command.{Command}
 use Rattle.desk_edit.specs.Asked.{CallOf}
@@ -11,7 +12,8 @@ use Rattle.desk_edit.specs.Groups.{desk_after_all, size_refused, part_refused}
 use Rattle.desk_edit.specs.Reasons.{refusal_of_group}
 use Rattle.desk_edit.specs.Refusals.{refused}
 
--- what the accepted calls have led to: the desk of the start, the groups of commands that are done and those that are undone (a single command is a group too), and how many calls were accepted
+-- what the accepted calls have led to: the desk of the start, the groups of commands that are done and those that are
+-- undone (a single command is a group too), and how many calls were accepted
 pub record CallHistory : Type 0 where
   pub start : Desk
   pub done : List (List Command)
@@ -36,10 +38,10 @@ abbrev pub or_log_full : Option Refusal → ℕ → Option Refusal
 or_log_full (Some why) version = Some why
 or_log_full None version = if nat_eq version call_limit then Some LogFull else None
 
--- the first reason against a call, out of memory apart, by the number of accepted calls, the desk, and how many commands
--- are done and undone. A command: its own reason, then a full log. A group: too few or too many commands, a full log, then
--- the reason against its first refused command. An undo or a redo: another call than the last accepted one, nothing to
--- undo or redo, a full log.
+-- the first reason against a call, out of memory apart, by the number of accepted calls, the desk, and how many
+-- commands are done and undone. A command: its own reason, then a full log. A group: too few or too many commands, a
+-- full log, then the reason against its first refused command. An undo or a redo: another call than the last accepted
+-- one, nothing to undo or redo, a full log.
 abbrev pub refusal_at : ℕ → Desk → ℕ → ℕ → CallOf → Option Refusal
 refusal_at version d done undone (Apply command) = or_log_full (refused d command) version
 refusal_at version d done undone (Group commands) =
@@ -58,11 +60,14 @@ refusal_at version d done undone (Redo last) =
 abbrev pub refusal_of : CallHistory → CallOf → Option Refusal
 refusal_of h call = refusal_at h.accepted (desk_now h) (length h.done) (length h.undone) call
 
--- the first reason against a call as far as it is judged before it takes memory: a group by its size, the log and its first command, any other call as a whole
+-- the first reason against a call as far as it is judged before it takes memory: a group by its size, the log and its
+-- first command, any other call as a whole
 abbrev pub early_refusal_at : ℕ → Desk → ℕ → ℕ → CallOf → Option Refusal
 early_refusal_at version d done undone (Group commands) =
     option_or (option_map refusal_of_group (size_refused (length commands)))
-    (if nat_eq version call_limit then Some LogFull else option_map refusal_of_group (part_refused 0 d (take 1 commands)))
+    (if nat_eq version call_limit
+    then Some LogFull
+    else option_map refusal_of_group (part_refused 0 d (take 1 commands)))
 early_refusal_at version d done undone call = refusal_at version d done undone call
 
 abbrev pub early_refusal_of : CallHistory → CallOf → Option Refusal
@@ -80,9 +85,12 @@ final [] = []
 final (x ∷ []) = x ∷ []
 final (x ∷ y ∷ ys) = final (y ∷ ys)
 
--- after a call that is accepted: a command is done and what was undone is forgotten; an undo moves the last command from one list to the other, and a redo moves it back
+-- after a call that is accepted: a command is done and what was undone is forgotten; an undo moves the last command
+-- from one list to the other, and a redo moves it back
 unfoldable pub after_call : CallHistory → CallOf → CallHistory
 after_call h (Apply command) = record h { done = h.done ++ (command ∷ []) ∷ []; undone = []; accepted = h.accepted + 1 }
 after_call h (Group commands) = record h { done = h.done ++ commands ∷ []; undone = []; accepted = h.accepted + 1 }
-after_call h (Undo last) = record h { done = front h.done; undone = h.undone ++ final h.done; accepted = h.accepted + 1 }
-after_call h (Redo last) = record h { done = h.done ++ final h.undone; undone = front h.undone; accepted = h.accepted + 1 }
+after_call h (Undo last) =
+    record h { done = front h.done; undone = h.undone ++ final h.done; accepted = h.accepted + 1 }
+after_call h (Redo last) =
+    record h { done = h.done ++ final h.undone; undone = front h.undone; accepted = h.accepted + 1 }

@@ -27,7 +27,9 @@ with_member_in d member room = record d { members = map (into_room member room) 
 
 -- the desk with the member in the room, and without the rows whose two sides are then in different rooms
 abbrev pub with_moved : Desk → ℕ → ℕ → Desk
-with_moved d member room = record (with_member_in d member room) { others = filter (λ r. are_together (with_member_in d member room) (names r)) d.others }
+with_moved d member room =
+    record (with_member_in d member room)
+    { others = filter (λ r. are_together (with_member_in d member room) (names r)) d.others }
 
 -- the desk after what a command does to rows
 abbrev pub desk_led : Desk → Form → Desk

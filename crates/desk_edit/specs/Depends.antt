@@ -23,9 +23,11 @@ IsDependent d key r = (s : Row) × (holds d s ≡ true) × (has_key key s ≡ tr
 -- the row of this key, and what depends on it through at most so many rows between
 abbrev pub goes_within : ℕ → Desk → Key → Row → Bool
 goes_within zero d key r = has_key key r
-goes_within (suc n) d key r = has_key key r || list_any (λ k. list_any (λ s. has_key k s && goes_within n d key s) (rows_of d)) (names r)
+goes_within (suc n) d key r =
+    has_key key r || list_any (λ k. list_any (λ s. has_key k s && goes_within n d key s) (rows_of d)) (names r)
 
--- what goes with the row of this key: a sub names a slot, a slot a member, a member a room, so three steps are all there are
+-- what goes with the row of this key: a sub names a slot, a slot a member, a member a room, so three steps are all
+-- there are
 abbrev pub goes_with : Desk → Key → Row → Bool
 goes_with d key r = goes_within 3 d key r
 

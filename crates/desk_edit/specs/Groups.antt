@@ -19,10 +19,12 @@ abbrev pub part_or_later : ℕ → Option Reason → Option GroupRefusal → Opt
 part_or_later part (Some why) later = Some (Part part why)
 part_or_later part None later = later
 
--- the reason against the first command that is refused on the desk after those before it; the first of all has this number
+-- the reason against the first command that is refused on the desk after those before it; the first of all has this
+-- number
 abbrev pub part_refused : ℕ → Desk → List Command → Option GroupRefusal
 part_refused part d [] = None
-part_refused part d (command ∷ commands) = part_or_later part (reason_against d command) (part_refused (part + 1) (desk_after d command) commands)
+part_refused part d (command ∷ commands) =
+    part_or_later part (reason_against d command) (part_refused (part + 1) (desk_after d command) commands)
 
 -- a group has a command at least, and no more than the limit
 abbrev pub size_refused : ℕ → Option GroupRefusal

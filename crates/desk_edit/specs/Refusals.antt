@@ -1,5 +1,6 @@
 -- When commands are refused, and by which refusal: the first that holds.
-use Rattle.std.specs.Prelude.{ℕ, ◌+◌, Bool, true, false, not, ◌&&◌, ◌||◌, List, [], ◌∷◌, ◌++◌, map, nat_eq, nat_le, nat_lt, count_by, Option, Some, None, option_map, if◌then◌else◌}
+use Rattle.std.specs.Prelude.{ℕ, ◌+◌, Bool, true, false, not, ◌&&◌, ◌||◌, List, [], ◌∷◌, ◌++◌, map, nat_eq, nat_le}
+use Rattle.std.specs.Prelude.{nat_lt, count_by, Option, Some, None, option_map, if◌then◌else◌}
 use Rattle.std.specs.List.{list_any}
 use Rattle.std.specs.Option.{option_and_then}
 use Rattle.desk_rows.specs.declared.row.Row.{Row}
@@ -14,7 +15,8 @@ use Rattle.desk_rows.specs.declared.claim.Claim.TheVariants as claims
 use Rattle.desk_rows.specs.Limits.{room_audio_limit}
 use Rattle.desk_rows.specs.Kinds.{is_of, limits}
 use Rattle.desk_rows.specs.Row.{kind_of, key_of, owner_of, has_key, names, other_claims, makes, same_media, is_in_range}
-use Rattle.desk_rows.specs.Desk.{Desk, rows_of, row_at, holds, count_of, is_bridges, room_of_member, room_of, rate_of_room, same_room, are_together, all_suit, is_audio_in}
+use Rattle.desk_rows.specs.Desk.{Desk, rows_of, row_at, holds, count_of, is_bridges, room_of_member, room_of}
+use Rattle.desk_rows.specs.Desk.{rate_of_room, same_room, are_together, all_suit, is_audio_in}
 use Rattle.desk_edit.specs.declared.command.Command.{Command}
 use Rattle.desk_edit.specs.declared.command.Form.{Form}
 use Rattle.desk_edit.specs.declared.command.Form.TheVariants.{Put, Remove, Move}
@@ -98,7 +100,8 @@ ssrc_is_taken d r = list_any (is_ssrc_taken d) (other_claims r)
 abbrev pub is_wrong_kind : Desk → Row → Bool
 is_wrong_kind d r = not (is_of kinds.Member r) && not (all_suit d r)
 
--- a source that it names is of the other kind; what it names is in two rooms; its SSRC is taken; a value is out of its range; the same row is there
+-- a source that it names is of the other kind; what it names is in two rooms; its SSRC is taken; a value is out of its
+-- range; the same row is there
 abbrev pub rule_cases : Desk → Row → List (Bool × Reason)
 rule_cases d r =
     (is_wrong_kind d r, reasons.WrongKind)
@@ -108,7 +111,8 @@ rule_cases d r =
     ∷ (holds d r, reasons.Already)
     ∷ []
 
--- the table that bounds how many rows of a kind there are: a sub's is its slot's, a mute's its source's, a pin's and a floor's its room's
+-- the table that bounds how many rows of a kind there are: a sub's is its slot's, a mute's its source's, a pin's and a
+-- floor's its room's
 abbrev pub table_of : Kind → Table
 table_of kinds.Room = tables.Rooms
 table_of kinds.Member = tables.Members
@@ -135,7 +139,11 @@ room_is_full d None = false
 
 -- a source of audio is one too many in its member's room
 abbrev pub audio_cases : Desk → Row → List (Bool × Reason)
-audio_cases d (rows.Source s) = (same_media s.media Audio && room_is_full d (room_of d (rows.Source s)), reasons.Full tables.RoomAudio room_audio_limit) ∷ []
+audio_cases d (rows.Source s) = (
+  same_media s.media Audio && room_is_full d (room_of d (rows.Source s)),
+  reasons.Full tables.RoomAudio room_audio_limit,
+)
+    ∷ []
 audio_cases d _ = []
 
 -- a member's room doesn't carry its codec
@@ -146,9 +154,12 @@ is_mismatch d r = is_of kinds.Member r && not (all_suit d r)
 abbrev pub rate_cases : Desk → Row → List (Bool × Reason)
 rate_cases d r = (is_mismatch d r, reasons.RateMismatch) ∷ []
 
--- the reasons against a row, by number: it exists; what it names is missing; it breaks a rule; its table is full; its rate is another
+-- the reasons against a row, by number: it exists; what it names is missing; it breaks a rule; its table is full; its
+-- rate is another
 abbrev pub put_cases : Desk → Row → List (Bool × Reason)
-put_cases d r = (is_there d r, reasons.Exists) ∷ (lacking d (names r) ++ (rule_cases d r ++ (full_cases d r ++ (audio_cases d r ++ rate_cases d r))))
+put_cases d r =
+    (is_there d r, reasons.Exists)
+    ∷ (lacking d (names r) ++ (rule_cases d r ++ (full_cases d r ++ (audio_cases d r ++ rate_cases d r))))
 
 -- ---- against a row that is taken, and a member that is moved
 
@@ -177,13 +188,17 @@ abbrev pub same_rate : Option ℕ → Option ℕ → Bool
 same_rate (Some a) (Some b) = nat_eq a b
 same_rate _ _ = false
 
--- the room is missing; the member is missing; it is there already; the room would have more audio sources than it may; the room has another rate than its own
+-- the room is missing; the member is missing; it is there already; the room would have more audio sources than it may;
+-- the room has another rate than its own
 abbrev pub move_cases : Desk → ℕ → ℕ → List (Bool × Reason)
 move_cases d member room =
     (not (has d (keys.Room room)), reasons.NoRoom)
     ∷ (not (has d (keys.Member member)), reasons.NoMember)
     ∷ (same_room (room_of_member (row_at d (keys.Member member))) (Some room), reasons.Already)
-    ∷ (nat_lt room_audio_limit (count_by (is_audio_in d room) d.others + count_by (is_audio_of member) d.others), reasons.Full tables.RoomAudio room_audio_limit)
+    ∷ (
+      nat_lt room_audio_limit (count_by (is_audio_in d room) d.others + count_by (is_audio_of member) d.others),
+      reasons.Full tables.RoomAudio room_audio_limit,
+    )
     ∷ (not (same_rate (rate_of_member d member) (rate_at d room)), reasons.RateMismatch)
     ∷ []
 

@@ -3,7 +3,11 @@ use Rattle.std.specs.Prelude.{ℕ, List, codes}
 use Rattle.desk_edit.specs.declared.refusal.Table.{Table}
 use Rattle.desk_edit.specs.declared.refusal.Table.TheVariants.{Rooms, Members, Sources, Slots, Gains, RoomAudio}
 use Rattle.desk_edit.specs.declared.refusal.Refusal.{Refusal}
-use Rattle.desk_edit.specs.declared.refusal.Refusal.TheVariants.{Exists, NoRoom, NoMember, NoSource, NoSlot, WrongKind, OtherRoom, SsrcTaken, BadValue, Already, NotThere, Full, OutOfMemory, NewerCommand, NothingToUndo, NothingToRedo, LogFull, EmptyGroup, GroupTooLong, PartRefused, RateMismatch}
+use Rattle.desk_edit.specs.declared.refusal.Refusal.TheVariants.{Exists, NoRoom, NoMember, NoSource, NoSlot, WrongKind}
+use Rattle.desk_edit.specs.declared.refusal.Refusal.TheVariants.{OtherRoom, SsrcTaken, BadValue, Already, NotThere}
+use Rattle.desk_edit.specs.declared.refusal.Refusal.TheVariants.{Full, OutOfMemory, NewerCommand, NothingToUndo}
+use Rattle.desk_edit.specs.declared.refusal.Refusal.TheVariants.{NothingToRedo, LogFull, EmptyGroup, GroupTooLong}
+use Rattle.desk_edit.specs.declared.refusal.Refusal.TheVariants.{PartRefused, RateMismatch}
 use Rattle.desk_edit.specs.declared.refusal.Carried.{Carried}
 use Rattle.desk_edit.specs.declared.refusal.Carried.TheVariants.{Nothing, Limit, Last, Most, Part}
 use Rattle.desk_edit.specs.declared.refusal.RefusalRow.{RefusalRow}

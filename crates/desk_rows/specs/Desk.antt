@@ -1,5 +1,6 @@
 -- The desk, and what makes it good.
-use Rattle.std.specs.Prelude.{ℕ, Bool, true, false, ◌&&◌, not, List, [], ◌∷◌, ◌++◌, map, filter, count_by, nat_eq, nat_le, Option, None, Some}
+use Rattle.std.specs.Prelude.{ℕ, Bool, true, false, ◌&&◌, not, List, [], ◌∷◌, ◌++◌, map, filter, count_by, nat_eq}
+use Rattle.std.specs.Prelude.{nat_le, Option, None, Some}
 use Rattle.std.specs.List.{find, list_any, list_all}
 use Rattle.rtp_codec.specs.declared.address.Address.{Address}
 use Rattle.rtp_codec.specs.Address.{same_address}
@@ -142,7 +143,8 @@ has_few_audio d (rows.Gain g) = true
 has_few_audio d (rows.Pin p) = true
 has_few_audio d (rows.Floor f) = true
 
--- the rule of rows: values are in their ranges, a room has few audio sources, and what a row names is of the kind that it wants and in one room
+-- the rule of rows: values are in their ranges, a room has few audio sources, and what a row names is of the kind that
+-- it wants and in one room
 abbrev pub obeys : Desk → Row → Bool
 obeys d r = (is_in_range r && has_few_audio d r) && (all_suit d r && are_together d (names r))
 
@@ -158,4 +160,5 @@ is_listed d = in_order d.others && list_all (λ r. not (is_of kinds.Member r)) d
 unfoldable pub good : Desk → Bool
 good d =
     (is_listed d && is_within_limits d)
-    && (list_all (is_named_there d) (rows_of d) && (list_all (is_alone d) (rows_of d) && list_all (obeys d) (rows_of d)))
+    && (list_all (is_named_there d) (rows_of d)
+    && (list_all (is_alone d) (rows_of d) && list_all (obeys d) (rows_of d)))

@@ -6,7 +6,8 @@ use Rattle.desk_rows.specs.Places.{take_at, put_at, can_take, can_put, places_ri
 use Rattle.desk_rows.specs.Edit.{EditOf, outs, ins}
 use Rattle.desk_rows.specs.Desk.{Desk, good}
 
--- the rows that go are there, at their places; those that come have places; all are listed in order, and a row is replaced by one of its key
+-- the rows that go are there, at their places; those that come have places; all are listed in order, and a row is
+-- replaced by one of its key
 unfoldable pub is_apt : Desk → EditOf → Bool
 is_apt d e =
     ((places_rise e.taken.members && can_take e.taken.members d.members)

@@ -33,6 +33,7 @@ gain_limit = 65536
 abbrev pub q8_limit : ℕ
 q8_limit = 1024
 
--- the most rows beside the members: gains, rooms with a pin and a floor each, sources with a mute each, and slots with a sub each
+-- the most rows beside the members: gains, rooms with a pin and a floor each, sources with a mute each, and slots with
+-- a sub each
 abbrev pub other_limit : ℕ
 other_limit = gain_limit + 3 * room_limit + 2 * source_limit + 2 * slot_limit

@@ -1,5 +1,6 @@
 -- Member rows with places, taken out of a list and put into one.
-use Rattle.std.specs.Prelude.{ℕ, zero, suc, ◌+◌, Bool, true, false, ◌&&◌, if◌then◌else◌, List, [], ◌∷◌, length, nat_eq, nat_le, nat_lt, insert, remove, Option, None, Some}
+use Rattle.std.specs.Prelude.{ℕ, zero, suc, ◌+◌, Bool, true, false, ◌&&◌, if◌then◌else◌, List, [], ◌∷◌, length, nat_eq}
+use Rattle.std.specs.Prelude.{nat_le, nat_lt, insert, remove, Option, None, Some}
 use Rattle.std.specs.Option.{option_map}
 use Rattle.std.specs.List.{list_all}
 use Rattle.desk_rows.specs.Row.{same_row}

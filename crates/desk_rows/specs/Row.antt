@@ -87,7 +87,8 @@ same_media a b = nat_eq (media_number a) (media_number b)
 
 -- whether two rows are one: of one kind, and with the same values
 abbrev pub same_row : Row → Row → Bool
-same_row a b = nat_eq (rank (kind_of (key_of a))) (rank (kind_of (key_of b))) && same_values (row_values a) (row_values b)
+same_row a b =
+    nat_eq (rank (kind_of (key_of a))) (rank (kind_of (key_of b))) && same_values (row_values a) (row_values b)
 
 -- ---- what a row needs of others
 
@@ -103,7 +104,8 @@ names (Gain g) = keys.Member g.member ∷ keys.Source g.source ∷ []
 names (Pin p) = keys.Room p.room ∷ keys.Source p.source ∷ []
 names (Floor f) = keys.Room f.room ∷ keys.Member f.member ∷ []
 
--- the key whose number a key has: a sub's is its slot's, a mute's its source's, a pin's and a floor's its room's; any other is its own
+-- the key whose number a key has: a sub's is its slot's, a mute's its source's, a pin's and a floor's its room's; any
+-- other is its own
 abbrev pub owner_of : Key → Key
 owner_of (keys.Room n) = keys.Room n
 owner_of (keys.Member n) = keys.Member n
@@ -147,7 +149,8 @@ suits (Sends media) (Some (Source s)) = same_media s.media media
 suits (Carries codec) (Some (Room r)) = carries r.rate codec
 suits _ _ = true
 
--- the values are in their ranges: a room's rate is one of two, a port is not 0, a slot has a place among few, a gain a greatest value
+-- the values are in their ranges: a room's rate is one of two, a port is not 0, a slot has a place among few, a gain a
+-- greatest value
 abbrev pub is_in_range : Row → Bool
 is_in_range (Room r) = nat_eq r.rate 8000 || nat_eq r.rate 44100
 is_in_range (Member m) = not (nat_eq m.address.port 0)
@@ -159,7 +162,8 @@ is_in_range (Gain g) = nat_le g.q8 q8_limit
 is_in_range (Pin p) = true
 is_in_range (Floor f) = true
 
--- what a row has to itself beside its key: a member its address and the SSRC of its mix; a source its SSRC; a slot its SSRC and its place among its member's
+-- what a row has to itself beside its key: a member its address and the SSRC of its mix; a source its SSRC; a slot its
+-- SSRC and its place among its member's
 abbrev pub other_claims : Row → List Claim
 other_claims (Room r) = []
 other_claims (Member m) = claims.Address m.address ∷ claims.Ssrc m.out_audio ∷ []

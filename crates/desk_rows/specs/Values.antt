@@ -1,4 +1,5 @@
--- The values of rows (own): those of a row's fields, in the order in which `show` and the command that puts it have them.
+-- The values of rows (own): those of a row's fields, in the order in which `show` and the command that puts it have
+-- them.
 use Rattle.std.specs.Prelude.{ℕ, Bool, true, false, ◌&&◌, List, [], ◌∷◌, nat_eq, slice_index_or}
 use Rattle.rtp_codec.specs.declared.address.Address.{Address}
 use Rattle.rtp_codec.specs.Address.{same_address}

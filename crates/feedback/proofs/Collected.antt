@@ -1,5 +1,6 @@
 -- Numbers collected one by one are each number at its first place.
-use Rattle.std.proofs.Common.{◌≡◌, ℕ, Bool, true, false, ◌&&◌, ◌||◌, not, nat_eq, List, [], ◌∷◌, ◌++◌, fold, filter, cond, refl, ap, sym, ◌∙◌, append_assoc, inl, inr, arith}
+use Rattle.std.proofs.Common.{◌≡◌, ℕ, Bool, true, false, ◌&&◌, ◌||◌, not, nat_eq, List, [], ◌∷◌, ◌++◌, fold, filter}
+use Rattle.std.proofs.Common.{cond, refl, ap, sym, ◌∙◌, append_assoc, inl, inr, arith}
 use Rattle.std.proofs.lemmas.List.{append-nil}
 use Rattle.std.proofs.lemmas.List.Folds.{list_any-append}
 use Rattle.std.proofs.lemmas.Bool.{cases_eq}
@@ -8,11 +9,14 @@ use Rattle.feedback.specs.Resends.{firsts}
 use Rattle.feedback.specs.inner.Seen.{has, added}
 
 -- one filter for two
-pub filter-both : (p q r : ℕ → Bool) → ((x : ℕ) → r x ≡ (q x && p x)) → (xs : List ℕ) → filter r xs ≡ filter p (filter q xs)
+pub filter-both : (p q r : ℕ → Bool) → ((x : ℕ) → r x ≡ (q x && p x)) → (xs : List ℕ)
+    → filter r xs ≡ filter p (filter q xs)
 filter-both p q r h [] = refl
-filter-both p q r h (x ∷ xs) = ap (λ b. cond b (x ∷ filter r xs) (filter r xs)) (h x) ∙ by (q x) (filter-both p q r h xs)
+filter-both p q r h (x ∷ xs) =
+    ap (λ b. cond b (x ∷ filter r xs) (filter r xs)) (h x) ∙ by (q x) (filter-both p q r h xs)
   where
-    by : (b : Bool) → filter r xs ≡ filter p (filter q xs) → cond (b && p x) (x ∷ filter r xs) (filter r xs) ≡ filter p (cond b (x ∷ filter q xs) (filter q xs))
+    by : (b : Bool) → filter r xs ≡ filter p (filter q xs)
+        → cond (b && p x) (x ∷ filter r xs) (filter r xs) ≡ filter p (cond b (x ∷ filter q xs) (filter q xs))
     by true e = ap (λ (ys : List ℕ). cond (p x) (x ∷ ys) ys) e
     by false e = e
 
@@ -47,22 +51,29 @@ free-there out n ns e =
     ap (λ b. cond (not b) (n ∷ free out (others n ns)) (free out (others n ns))) e
     ∙ sym (filter-both (λ m. not (has out m)) (λ m. not (nat_eq m n)) (λ m. not (has out m)) (other out n e) ns)
 
-free-new : (out : List ℕ) (n : ℕ) (ns : List ℕ) → has out n ≡ false → free out (n ∷ others n ns) ≡ n ∷ free (out ++ n ∷ []) ns
+free-new : (out : List ℕ) (n : ℕ) (ns : List ℕ) → has out n ≡ false
+    → free out (n ∷ others n ns) ≡ n ∷ free (out ++ n ∷ []) ns
 free-new out n ns e =
     ap (λ b. cond (not b) (n ∷ free out (others n ns)) (free out (others n ns))) e
-    ∙ ap (λ (ys : List ℕ). n ∷ ys) (sym (filter-both (λ m. not (has out m)) (λ m. not (nat_eq m n)) (λ m. not (has (out ++ n ∷ []) m))
+    ∙ ap (λ (ys : List ℕ). n ∷ ys)
+    (sym (filter-both (λ m. not (has out m)) (λ m. not (nat_eq m n)) (λ m. not (has (out ++ n ∷ []) m))
     (λ m. ap not (list_any-append (nat_eq m) out (n ∷ [])) ∙ neither (has out m) (nat_eq m n)) ns))
 
 collected : (ns out : List ℕ) → fold added out ns ≡ out ++ free out (firsts ns)
 collected [] out = sym (append-nil out)
 collected (n ∷ ns) out = by (has out n) refl (collected ns out) (collected ns (out ++ n ∷ []))
   where
-    by : (b : Bool) → has out n ≡ b → fold added out ns ≡ out ++ free out (firsts ns) → fold added (out ++ n ∷ []) ns ≡ (out ++ n ∷ []) ++ free (out ++ n ∷ []) (firsts ns)
+    by : (b : Bool) → has out n ≡ b → fold added out ns ≡ out ++ free out (firsts ns)
+        → fold added (out ++ n ∷ []) ns ≡ (out ++ n ∷ []) ++ free (out ++ n ∷ []) (firsts ns)
         → fold added (added out n) ns ≡ out ++ free out (firsts (n ∷ ns))
     by true e there new =
-        ap (λ b. fold added (cond b out (out ++ n ∷ [])) ns) e ∙ there ∙ ap (λ (ys : List ℕ). out ++ ys) (sym (free-there out n (firsts ns) e))
+        ap (λ b. fold added (cond b out (out ++ n ∷ [])) ns) e
+        ∙ there
+        ∙ ap (λ (ys : List ℕ). out ++ ys) (sym (free-there out n (firsts ns) e))
     by false e there new =
-        ap (λ b. fold added (cond b out (out ++ n ∷ [])) ns) e ∙ new ∙ append_assoc out (n ∷ []) (free (out ++ n ∷ []) (firsts ns))
+        ap (λ b. fold added (cond b out (out ++ n ∷ [])) ns) e
+        ∙ new
+        ∙ append_assoc out (n ∷ []) (free (out ++ n ∷ []) (firsts ns))
         ∙ ap (λ (ys : List ℕ). out ++ ys) (sym (free-new out n (firsts ns) e))
 
 filter-all : (ns : List ℕ) → filter (λ m. not (has [] m)) ns ≡ ns

@@ -1,5 +1,6 @@
 -- Each number once.
-use Rattle.std.proofs.Common.{◌≡◌, ℕ, Bool, true, false, ◌&&◌, ◌||◌, not, nat_eq, List, [], ◌∷◌, ◌++◌, filter, cond, refl, ap, sym, ◌∙◌, inl, inr, arith}
+use Rattle.std.proofs.Common.{◌≡◌, ℕ, Bool, true, false, ◌&&◌, ◌||◌, not, nat_eq, List, [], ◌∷◌, ◌++◌, filter, cond}
+use Rattle.std.proofs.Common.{refl, ap, sym, ◌∙◌, inl, inr, arith}
 use Rattle.std.proofs.lemmas.List.Sums.{fold_push}
 use Rattle.std.proofs.lemmas.Bool.{cases_eq}
 use Rattle.std.proofs.lemmas.Bool.Decides.{nat_tests}
@@ -42,12 +43,16 @@ no_more (n ∷ ns) = no_more ns
 not_both : (n k : ℕ) → false ≡ (is_other n k && nat_eq n k)
 not_both n k = elim (cases_eq k n) [
   | inl e ↦ let yes : nat_eq k n ≡ true = same k n e in rw yes refl
-  | inr e ↦ let no : nat_eq n k ≡ false = differ n k (λ is. e (sym is)) in let other : nat_eq k n ≡ false = differ k n e in rw (other, no) refl
+  | inr e ↦
+      let no : nat_eq n k ≡ false = differ n k (λ is. e (sym is)) in
+      let other : nat_eq k n ≡ false = differ k n e in rw (other, no) refl
 ]
 
 implied : (n m : ℕ) → (m ≡ n → ⊥) → (k : ℕ) → nat_eq m k ≡ (is_other n k && nat_eq m k)
 implied n m d k = elim (cases_eq k n) [
-  | inl e ↦ let yes : nat_eq k n ≡ true = same k n e in let no : nat_eq m k ≡ false = differ m k (λ is. d (is ∙ e)) in rw (yes, no) refl
+  | inl e ↦
+      let yes : nat_eq k n ≡ true = same k n e in
+      let no : nat_eq m k ≡ false = differ m k (λ is. d (is ∙ e)) in rw (yes, no) refl
   | inr e ↦ let no : nat_eq k n ≡ false = differ k n e in rw no refl
 ]
 
@@ -56,8 +61,10 @@ once [] m = refl
 once (n ∷ ns) m = elim (cases_eq m n) [
   | inl e ↦
       let yes : nat_eq m n ≡ true = same m n e in
-      let rest : filter (nat_eq n) (filter (is_other n) (firsts ns)) ≡ [] = sym (filter-both (nat_eq n) (is_other n) (λ k. false) (not_both n) (firsts ns)) ∙ no_more (firsts ns) in
-      let left : filter (nat_eq m) (filter (is_other n) (firsts ns)) ≡ [] = ap (λ k. filter (nat_eq k) (filter (is_other n) (firsts ns))) e ∙ rest in
+      let rest : filter (nat_eq n) (filter (is_other n) (firsts ns)) ≡ [] =
+      sym (filter-both (nat_eq n) (is_other n) (λ k. false) (not_both n) (firsts ns)) ∙ no_more (firsts ns) in
+      let left : filter (nat_eq m) (filter (is_other n) (firsts ns)) ≡ [] =
+      ap (λ k. filter (nat_eq k) (filter (is_other n) (firsts ns))) e ∙ rest in
       rw yes (ap (λ (ks : List ℕ). n ∷ ks) left ∙ ap (λ k. k ∷ []) (sym e))
   | inr e ↦
       let no : nat_eq m n ≡ false = differ m n e in

@@ -1,4 +1,5 @@
--- What a receiver's report block says of an outgoing stream (RFC 3550 section 6.4.1; which packet of a source it leads back to is own).
+-- What a receiver's report block says of an outgoing stream (RFC 3550 section 6.4.1; which packet of a source it leads
+-- back to is own).
 use Rattle.std.specs.Prelude.{◌%◌, ◌^◌, List}
 use Rattle.std.specs.Option.{option_map}
 use Rattle.rtcp_codec.specs.declared.report.ReportBlock.{ReportBlock}
@@ -7,7 +8,8 @@ use Rattle.retransmit.specs.SentPacket.{SentPacket}
 use Rattle.retransmit.specs.Window.{resend_of}
 use Rattle.feedback.specs.declared.noting.LossNote.{LossNote}
 
--- what a block from this owner says: its losses, and which packet of which source went to the owner under the block's highest number, if that is among the stream's last
+-- what a block from this owner says: its losses, and which packet of which source went to the owner under the block's
+-- highest number, if that is among the stream's last
 abbrev pub note_of : ReportBlock → Owner → List SentPacket → LossNote
 note_of block owner window = record {
   out_ssrc = block.ssrc;

@@ -1,4 +1,5 @@
--- Which picture losses of receivers are passed up (picture loss indications, RFC 4585 section 6.3.1; who is believed is own).
+-- Which picture losses of receivers are passed up (picture loss indications, RFC 4585 section 6.3.1; who is believed is
+-- own).
 use Rattle.std.specs.Prelude.{ℕ, Bool, false, if◌then◌else◌, Option, None, Some}
 use Rattle.std.specs.Option.{option_map, option_and_then}
 use Rattle.rtp_codec.specs.declared.address.Address.{Address}
@@ -16,7 +17,8 @@ is_of_member_at d from (Some slot) = is_this slot.member (member_from d from)
 abbrev pub with_address : Desk → ℕ → Option (Address × ℕ)
 with_address d source = option_map (λ m. (m.address, source)) (option_and_then (member_at d) (sender_of d source))
 
--- to which address, and for which source, a picture loss of the stream of this SSRC is passed up: to the member of the source that the slot chose, if who asks from an address is the slot's member
+-- to which address, and for which source, a picture loss of the stream of this SSRC is passed up: to the member of the
+-- source that the slot chose, if who asks from an address is the slot's member
 abbrev pub pli_up : Desk → Address → ℕ → Option (Address × ℕ)
 pli_up d from out_ssrc =
     if is_of_member_at d from (slot_at d out_ssrc) then option_and_then (with_address d) (choice d out_ssrc) else None

@@ -7,4 +7,5 @@ use Rattle.feedback.specs.Times.{ntp_of, ts_at}
 
 -- a sender report of a moment without blocks, then the stream's canonical name
 abbrev pub sender_packets : Counts → (moment : ℕ) → (cname : List ℕ) → List Packet
-sender_packets c moment cname = Sender c.ssrc (ntp_of moment) (ts_at c moment) c.packets c.octets [] ∷ named c.ssrc cname ∷ []
+sender_packets c moment cname =
+    Sender c.ssrc (ntp_of moment) (ts_at c moment) c.packets c.octets [] ∷ named c.ssrc cname ∷ []

@@ -18,7 +18,8 @@ second_in_microseconds = 10 ^ 6
 abbrev pub from_1900_to_1970 : ℕ
 from_1900_to_1970 = 2208988800
 
--- the NTP timestamp of a moment: 32 bits of seconds since 1900, which begin anew in 2036, and 32 bits of the fraction of a second
+-- the NTP timestamp of a moment: 32 bits of seconds since 1900, which begin anew in 2036, and 32 bits of the fraction
+-- of a second
 abbrev pub ntp_of : ℕ → ℕ
 ntp_of moment = (moment / second + from_1900_to_1970) % 2 ^ 32 * 2 ^ 32 + moment % second * 2 ^ 32 / second
 
@@ -26,6 +27,7 @@ ntp_of moment = (moment / second + from_1900_to_1970) % 2 ^ 32 * 2 ^ 32 + moment
 abbrev pub elapsed : ℕ → ℕ → ℕ
 elapsed from to = (to - from) / microsecond
 
--- the RTP timestamp of a moment: that of the stream's last frame or tick, advanced by the time that has gone by since, at the stream's rate
+-- the RTP timestamp of a moment: that of the stream's last frame or tick, advanced by the time that has gone by since,
+-- at the stream's rate
 abbrev pub ts_at : Counts → ℕ → ℕ
 ts_at c moment = (c.ts + elapsed c.moment moment * c.rate / second_in_microseconds) % 2 ^ 32

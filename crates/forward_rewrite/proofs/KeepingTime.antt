@@ -1,5 +1,6 @@
 -- The time of a stream goes on from frame to frame.
-use Rattle.std.proofs.Common.{◌≡◌, ℕ, ◌+◌, ◌%◌, ◌^◌, true, false, cond, List, [], ◌∷◌, map, refl, sym, ap, ◌∙◌, arith, subst}
+use Rattle.std.proofs.Common.{◌≡◌, ℕ, ◌+◌, ◌%◌, ◌^◌, true, false, cond, List, [], ◌∷◌, map, refl, sym, ap, ◌∙◌, arith}
+use Rattle.std.proofs.Common.{subst}
 use Rattle.std.specs.Prelude.{IfSome}
 use Rattle.std.specs.List.{slice_get}
 use Rattle.forward_rewrite.specs.Sending.{Sending}
@@ -9,13 +10,16 @@ use Rattle.forward_rewrite.proofs.Stamps.{InRun, begun, next, walk, stamped-cons
 use Rattle.forward_rewrite.proofs.Next.{no_distance}
 
 -- a distance after another
-in_parts : (start a b c : ℕ) → (start + difference a c) % 2 ^ 32 ≡ ((start + difference a b) % 2 ^ 32 + difference b c) % 2 ^ 32
+in_parts : (start a b c : ℕ)
+    → (start + difference a c) % 2 ^ 32 ≡ ((start + difference a b) % 2 ^ 32 + difference b c) % 2 ^ 32
 in_parts start a b c = omega arith
 
 next-sending : (r : InRun) (s : Sending) → (next r s).before.sending ≡ s
 next-sending r s =
     elim (same_run r.before.sending.frame s.frame) as (λ b.
-    (cond b (let n : InRun = record { start = r.start; first = r.first; before = stamp_in_run r.start r.first s } in n) (begun ((r.before.ts + pause r.before.sending.frame.moment s.frame.moment) % 2 ^ 32) s)).before.sending ≡ s)
+    (cond b (let n : InRun = record { start = r.start; first = r.first; before = stamp_in_run r.start r.first s } in n)
+    (begun ((r.before.ts + pause r.before.sending.frame.moment s.frame.moment) % 2 ^ 32) s)).before.sending
+    ≡ s)
     [ true ↦ refl | false ↦ refl ]
 
 next-ts : (r : InRun) (s : Sending) → Within r → (next r s).before.ts ≡ ts_behind r.before s
@@ -24,9 +28,12 @@ next-ts r s h =
     let last = r.before.sending.frame.frame.ts in
     let new = s.frame.frame.ts in
     elim (same_run r.before.sending.frame s.frame) as (λ b.
-    (cond b (let n : InRun = record { start = r.start; first = r.first; before = stamp_in_run r.start r.first s } in n) (begun t s)).before.ts
+    (cond b (let n : InRun = record { start = r.start; first = r.first; before = stamp_in_run r.start r.first s } in n)
+    (begun t s)).before.ts
     ≡ cond b ((r.before.ts + difference last new) % 2 ^ 32) t) [
-      | true ↦ in_parts r.start r.first.frame.frame.ts last new ∙ ap (λ n. (n + difference last new) % 2 ^ 32) (sym (ap (λ (x : Stamped). x.ts) h))
+      | true ↦
+          in_parts r.start r.first.frame.frame.ts last new
+          ∙ ap (λ n. (n + difference last new) % 2 ^ 32) (sym (ap (λ (x : Stamped). x.ts) h))
       | false ↦ no_distance t new ∙ (omega arith)
     ]
 
@@ -49,14 +56,17 @@ walk-sendings r (g ∷ gs) =
     ap (λ s. s ∷ map (λ (s : Stamped). s.sending) (walk (next r g) gs)) (next-sending r g)
     ∙ ap (λ rest. g ∷ rest) (walk-sendings (next r g) gs)
 
-pub all_stamped : (first_ts : ℕ) (sendings : List Sending) → map (λ (s : Stamped). s.sending) (stamped first_ts sendings) ≡ sendings
+pub all_stamped : (first_ts : ℕ) (sendings : List Sending)
+    → map (λ (s : Stamped). s.sending) (stamped first_ts sendings) ≡ sendings
 all_stamped first_ts [] = refl
 all_stamped first_ts (s ∷ rest) =
     ap (map (λ (s : Stamped). s.sending)) (stamped-cons first_ts s rest)
     ∙ ap (λ others. s ∷ others) (walk-sendings (begun (first_ts % 2 ^ 32) s) rest)
 
-pub first_stamp : (first_ts : ℕ) (sendings : List Sending) → IfSome (slice_get (stamped first_ts sendings) 0) (λ s. s.ts ≡ first_ts % 2 ^ 32)
+pub first_stamp : (first_ts : ℕ) (sendings : List Sending)
+    → IfSome (slice_get (stamped first_ts sendings) 0) (λ s. s.ts ≡ first_ts % 2 ^ 32)
 first_stamp first_ts [] = tt
 first_stamp first_ts (s ∷ rest) =
-    subst (λ (xs : List Stamped). IfSome (slice_get xs 0) (λ s. s.ts ≡ first_ts % 2 ^ 32)) (sym (stamped-cons first_ts s rest))
+    subst (λ (xs : List Stamped). IfSome (slice_get xs 0) (λ s. s.ts ≡ first_ts % 2 ^ 32))
+    (sym (stamped-cons first_ts s rest))
     (no_distance (first_ts % 2 ^ 32) s.frame.frame.ts ∙ (omega arith))

@@ -1,5 +1,7 @@
--- What an outgoing mix stream sends over its ticks: a packet for each tick that sounds, numbered in a row, with a time that goes on by the samples of each tick (RFC 7667 section 3.6.1; the tick of 20 ms is own).
-use Rattle.std.specs.Prelude.{◌≡◌, ℕ, ℤ, ◌+◌, ◌%◌, ◌^◌, Bool, true, false, not, is_some, nat_eq, if◌then◌else◌, List, [], ◌∷◌, ◌++◌, length, map, filter_map, sum_by, Option, None, Some, option_map}
+-- What an outgoing mix stream sends over its ticks: a packet for each tick that sounds, numbered in a row, with a time
+-- that goes on by the samples of each tick (RFC 7667 section 3.6.1; the tick of 20 ms is own).
+use Rattle.std.specs.Prelude.{◌≡◌, ℕ, ℤ, ◌+◌, ◌%◌, ◌^◌, Bool, true, false, not, is_some, nat_eq, if◌then◌else◌, List}
+use Rattle.std.specs.Prelude.{[], ◌∷◌, ◌++◌, length, map, filter_map, sum_by, Option, None, Some, option_map}
 use Rattle.std.specs.List.{last_or}
 use Rattle.rtp_codec.specs.declared.writing.Header.{Header}
 use Rattle.rtp_codec.specs.Packet.{written}
@@ -56,7 +58,8 @@ payload_of sound = encoded sound.format sound.samples
 -- a packet of a mix, as it goes out under this number and timestamp
 abbrev pub mix_packet : ℕ → ℕ → ℕ → Bool → Sound → Numbered
 mix_packet ssrc number ts marker sound =
-    let header : Header = record { marker = marker; pt = pt_of sound.format; seq = number % 2 ^ 16; ts = ts % 2 ^ 32; ssrc = ssrc } in
+    let header : Header =
+    record { marker = marker; pt = pt_of sound.format; seq = number % 2 ^ 16; ts = ts % 2 ^ 32; ssrc = ssrc } in
     record { number = number % 2 ^ 16; bytes = written header sound.csrcs (payload_of sound) }
 
 -- what a tick sends under this number and timestamp: one packet if it sounds
@@ -64,7 +67,8 @@ abbrev pub packets_in : ℕ → ℕ → ℕ → Bool → Option Sound → List N
 packets_in ssrc number ts marker None = []
 packets_in ssrc number ts marker (Some sound) = mix_packet ssrc number ts marker sound ∷ []
 
--- the packets of ticks behind another one, from the number of the next packet, the timestamp of the tick before, and whether that one sent a packet:
+-- the packets of ticks behind another one, from the number of the next packet, the timestamp of the tick before, and
+-- whether that one sent a packet:
 -- each tick takes the timestamp on by its own samples, and a packet has the marker where the tick before sent none
 abbrev pub mixed : ℕ → ℕ → ℕ → Bool → List MixTick → List Numbered
 mixed ssrc number ts spoke [] = []
@@ -102,8 +106,8 @@ advance (tick ∷ ticks) = units_of ticks
 abbrev pub sounds : List MixTick → List Sound
 sounds ticks = filter_map (λ tick. tick.sound) ticks
 
--- what a sender report tells of a mix stream after these ticks, once it has begun: how many packets and octets of payload, and of the last tick its
--- timestamp, its moment and its clock rate
+-- what a sender report tells of a mix stream after these ticks, once it has begun: how many packets and octets of
+-- payload, and of the last tick its timestamp, its moment and its clock rate
 abbrev pub mix_counts : ℕ → ℕ → ℕ → List MixTick → Option Counts
 mix_counts ssrc first_seq first_ts ticks = option_map (λ (last : MixTick). record {
   ssrc = ssrc;
@@ -114,8 +118,9 @@ mix_counts ssrc first_seq first_ts ticks = option_map (λ (last : MixTick). reco
   rate = last.rate;
 }) (last_or None (begun ticks))
 
--- a mix stream: its SSRC, the number of its next packet, the timestamp of its last tick (of the first one before it has begun), whether the last tick
--- sounded, how many packets and octets of payload it has sent, and the clock rate and the moment of the last tick since it began
+-- a mix stream: its SSRC, the number of its next packet, the timestamp of its last tick (of the first one before it has
+-- begun), whether the last tick sounded, how many packets and octets of payload it has sent, and the clock rate and the
+-- moment of the last tick since it began
 pub record MixOf : Type 0 where
   pub ssrc : ℕ
   pub next : ℕ

@@ -1,4 +1,5 @@
--- What an outgoing video stream sends of the frames routed to it: their packets, numbered in a row (RFC 7667 section 3.6.2; one contributing source and the numbers of one row of packets are own).
+-- What an outgoing video stream sends of the frames routed to it: their packets, numbered in a row (RFC 7667 section
+-- 3.6.2; one contributing source and the numbers of one row of packets are own).
 use Rattle.std.specs.Prelude.{ℕ, ◌+◌, ◌%◌, ◌^◌, List, [], ◌∷◌, map}
 use Rattle.std.specs.List.{flat_map}
 use Rattle.rtp_codec.specs.declared.writing.Header.{Header}

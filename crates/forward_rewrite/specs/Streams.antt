@@ -10,8 +10,8 @@ use Rattle.forward_rewrite.specs.Timestamps.{Stamped, difference, last_of, stamp
 use Rattle.forward_rewrite.specs.RoutedList.{Part, parts, packets_of}
 use Rattle.media_items.specs.Rates.{video_rate}
 
--- a stream: its SSRC, the timestamp that it begins with, the number of its next packet, how many packets and octets of payload it has sent,
--- what is kept of its last frame, and the packets that can be sent again
+-- a stream: its SSRC, the timestamp that it begins with, the number of its next packet, how many packets and octets of
+-- payload it has sent, what is kept of its last frame, and the packets that can be sent again
 pub record StreamOf : Type 0 where
   pub ssrc : ℕ
   pub first_ts : ℕ
@@ -21,7 +21,8 @@ pub record StreamOf : Type 0 where
   pub last : Option LastSent
   pub window : List SentPacket
 
--- a frame that is ready: the packets and the number of the first, how many octets of payload they have, and what the stream keeps once they are sent
+-- a frame that is ready: the packets and the number of the first, how many octets of payload they have, and what the
+-- stream keeps once they are sent
 pub record PreparedOf : Type 0 where
   pub first : ℕ
   pub next : ℕ
@@ -60,18 +61,21 @@ state_of ssrc first_seq first_ts sendings = record {
 abbrev pub HasSent : StreamOf → ℕ → ℕ → List Sending → Type 0
 HasSent s first_seq first_ts sendings = s ≡ state_of s.ssrc first_seq first_ts sendings
 
--- Whatever the old stream has sent, these packets are what is sent of one more frame, and the new stream has sent it too.
+-- Whatever the old stream has sent, these packets are what is sent of one more frame, and the new stream has sent it
+-- too.
 abbrev pub SendsNext : StreamOf → StreamOf → Sending → List SentPacket → Type 0
 SendsNext old new next packets =
     (first_seq first_ts : ℕ) (before : List Sending) → HasSent old first_seq first_ts before →
-    (packets_of old.ssrc first_seq first_ts (before ++ next ∷ []) ≡ packets_of old.ssrc first_seq first_ts before ++ packets)
+    (packets_of old.ssrc first_seq first_ts (before ++ next ∷ [])
+    ≡ packets_of old.ssrc first_seq first_ts before ++ packets)
     × HasSent new first_seq first_ts (before ++ next ∷ [])
 
 -- Whatever the old stream has sent, this goes out of one more frame, and the new stream has sent it too.
 abbrev pub GivesNext : StreamOf → StreamOf → Sending → List Numbered → Type 0
 GivesNext old new next out =
     (first_seq first_ts : ℕ) (before : List Sending) → HasSent old first_seq first_ts before →
-    (map out_of (packets_of old.ssrc first_seq first_ts (before ++ next ∷ [])) ≡ map out_of (packets_of old.ssrc first_seq first_ts before) ++ out)
+    (map out_of (packets_of old.ssrc first_seq first_ts (before ++ next ∷ []))
+    ≡ map out_of (packets_of old.ssrc first_seq first_ts before) ++ out)
     × HasSent new first_seq first_ts (before ++ next ∷ [])
 
 -- the stream after what was prepared is committed
@@ -86,8 +90,8 @@ committed s p = record {
   window = latest window_size (s.window ++ p.packets);
 }
 
--- what a sender report tells of a stream after these frames, once it has begun: how many packets and octets of payload, each counted once, and of
--- the last frame its timestamp and its moment
+-- what a sender report tells of a stream after these frames, once it has begun: how many packets and octets of payload,
+-- each counted once, and of the last frame its timestamp and its moment
 abbrev pub counts_of : ℕ → ℕ → List Sending → Option Counts
 counts_of ssrc first_ts sendings = option_map (λ (last : Stamped). record {
   ssrc = ssrc;

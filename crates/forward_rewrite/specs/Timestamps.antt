@@ -1,5 +1,7 @@
--- Timestamps of an outgoing video stream: within a run they keep the distances that the source gave them, and a run begins after a pause as long as the time that went by (RFC 3550 section 5.1; the runs are own).
-use Rattle.std.specs.Prelude.{ℕ, ◌+◌, ◌-◌, ◌*◌, ◌/◌, ◌%◌, ◌^◌, Bool, ◌&&◌, if◌then◌else◌, nat_eq, max, List, [], ◌∷◌, ◌++◌, map, Option, None, Some}
+-- Timestamps of an outgoing video stream: within a run they keep the distances that the source gave them, and a run
+-- begins after a pause as long as the time that went by (RFC 3550 section 5.1; the runs are own).
+use Rattle.std.specs.Prelude.{ℕ, ◌+◌, ◌-◌, ◌*◌, ◌/◌, ◌%◌, ◌^◌, Bool, ◌&&◌, if◌then◌else◌, nat_eq, max, List, [], ◌∷◌}
+use Rattle.std.specs.Prelude.{◌++◌, map, Option, None, Some}
 use Rattle.rtp_codec.specs.Address.{same_address}
 use Rattle.media_items.specs.Frame.{SourceFrame}
 use Rattle.forward_rewrite.specs.Sending.{Sending}

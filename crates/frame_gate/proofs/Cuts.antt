@@ -1,5 +1,6 @@
 -- Cuts: where they are placed, and what is given before them.
-use Rattle.std.proofs.Common.{◌≡◌, ℕ, zero, suc, ◌+◌, ◌-◌, ◌<◌, ◌≤◌, true, false, cond, nat_le, List, ◌++◌, Option, None, Some, refl, sym, ap, ◌∙◌, arith, subst, inl, inr, append-nil}
+use Rattle.std.proofs.Common.{◌≡◌, ℕ, zero, suc, ◌+◌, ◌-◌, ◌<◌, ◌≤◌, true, false, cond, nat_le, List, ◌++◌, Option}
+use Rattle.std.proofs.Common.{None, Some, refl, sym, ap, ◌∙◌, arith, subst, inl, inr, append-nil}
 use Rattle.std.specs.Prelude.{IsSome}
 use Rattle.std.proofs.lemmas.Bool.{cases_lt}
 use Rattle.std.proofs.lemmas.Bool.Decides.{nat_tests}
@@ -24,7 +25,8 @@ run-enough taken cut m h =
     ∙ row-enough (packet_at taken) cut a (m - a) (λ k le. none_above taken k (omega arith))
 
 -- before the first packet of a run
-pub begun_stands : (at : ℕ → Option NumberedPacket) (given earlier out : List WholeFrame) (c : ℕ) → given ++ out ≡ earlier
+pub begun_stands : (at : ℕ → Option NumberedPacket) (given earlier out : List WholeFrame) (c : ℕ)
+    → given ++ out ≡ earlier
     → Stands at c given earlier undivided (begun_at c) out
 begun_stands at given earlier out c frames = record {
   after = omega arith;
@@ -35,9 +37,11 @@ begun_stands at given earlier out c frames = record {
   frames = frames ∙ sym (append-nil earlier);
 }
 
-pub placed_tied : (at : ℕ → Option NumberedPacket) (given : List WholeFrame) (e : Epoch) (w v : Walk) (out more : List WholeFrame) (n c : ℕ)
+pub placed_tied : (at : ℕ → Option NumberedPacket) (given : List WholeFrame) (e : Epoch) (w v : Walk)
+    (out more : List WholeFrame) (n c : ℕ)
     → Tied at given e w out → w.next + 256 ≤ n → c ≡ least e.taken (next_of e) n → w.next ≤ c → c ≤ n → c ≤ v.next
-    → ((cut : ℕ) (given earlier : List WholeFrame) (d : Divided) → Stands at cut given earlier d (begun_at c) out → GoesOn d.unclosed → Stands at cut given earlier (divide_on d (row at c (w.next + 256 - c))) v more)
+    → ((cut : ℕ) (given earlier : List WholeFrame) (d : Divided) → Stands at cut given earlier d (begun_at c) out
+    → GoesOn d.unclosed → Stands at cut given earlier (divide_on d (row at c (w.next + 256 - c))) v more)
     → Tied at given (placed e n) v more
 placed_tied at given e w v out more n c h far is above below onward drained =
     let to = w.next + 256 in
@@ -45,11 +49,16 @@ placed_tied at given e w v out more n c h far is above below onward drained =
     let same : row at c (to - c) ≡ row (packet_at e.taken) c (greatest e.taken + 1 - c) =
     row-alike at (packet_at e.taken) c (to - c) (λ k le. h.agrees k (omega arith))
     ∙ run-enough e.taken c (to - c) (omega arith) in
-    let there : Stands at c given (frames_of e) (divided (row (packet_at e.taken) c (greatest e.taken + 1 - c))) v more =
+    let there : Stands at c given (frames_of e) (divided (row (packet_at e.taken) c (greatest e.taken + 1 - c))) v more
+    =
     subst (λ (r : List NumberedPacket). Stands at c given (frames_of e) (divided r) v more) same
     (drained c given (frames_of e) undivided (begun_stands at given (frames_of e) out c h.stands.frames) refl) in
     record {
-      stands = subst (λ (k : ℕ). Stands at k given (frames_of e) (divided (row (packet_at e.taken) k (greatest e.taken + 1 - k))) v more) is there;
+      stands =
+          subst
+          (λ (k : ℕ).
+          Stands at k given (frames_of e) (divided (row (packet_at e.taken) k (greatest e.taken + 1 - k))) v more)
+          is there;
       agrees = λ k le. h.agrees k (omega arith);
       behind = λ k le. h.behind k (omega arith);
     }
@@ -59,7 +68,8 @@ some_of None h = cc
 some_of (Some q) h = (q, refl)
 
 -- where the cells have the least held number
-pub cut_is : (at : ℕ → Option NumberedPacket) (given : List WholeFrame) (e : Epoch) (w : Walk) (out : List WholeFrame) (n c : ℕ)
+pub cut_is : (at : ℕ → Option NumberedPacket) (given : List WholeFrame) (e : Epoch) (w : Walk) (out : List WholeFrame)
+    (n c : ℕ)
     → Tied at given e w out → w.next ≤ c → c ≤ n
     → ((k : ℕ) → w.next ≤ k → k < c → k < w.next + 256 → at k ≡ None) → (c < n → IsSome (at c))
     → c ≡ least e.taken (next_of e) n
@@ -82,32 +92,37 @@ resynced-near (suc most) e n h =
     let b : nat_le (next_of e + 256) n ≡ false = grind (arith, nat_tests) in
     ap (λ x. cond x (resynced most (placed e n) n) e) b
 
-pub resynced-far : (most : ℕ) (e : Epoch) (n : ℕ) → next_of e + 256 ≤ n → resynced (suc most) e n ≡ resynced most (placed e n) n
+pub resynced-far : (most : ℕ) (e : Epoch) (n : ℕ) → next_of e + 256 ≤ n
+    → resynced (suc most) e n ≡ resynced most (placed e n) n
 resynced-far most e n h =
     let b : nat_le (next_of e + 256) n ≡ true = grind (arith, nat_tests) in
     ap (λ x. cond x (resynced most (placed e n) n) e) b
 
 -- an epoch on the way of the cuts, and how many more cuts it may take
-pub record Underway (at : ℕ → Option NumberedPacket) (given : List WholeFrame) (to : Epoch) (n : ℕ) (w : Walk) (out : List WholeFrame) : Type 0 where
+pub record Underway (at : ℕ → Option NumberedPacket) (given : List WholeFrame) (to : Epoch) (n : ℕ) (w : Walk)
+    (out : List WholeFrame) : Type 0 where
   pub e : Epoch
   pub most : ℕ
   pub tied : Tied at given e w out
   pub enough : n < w.next + 256 + most
   pub leads : resynced most e n ≡ to
 
-pub underway_done : (at : ℕ → Option NumberedPacket) (given : List WholeFrame) (to : Epoch) (n : ℕ) (w : Walk) (out : List WholeFrame)
+pub underway_done : (at : ℕ → Option NumberedPacket) (given : List WholeFrame) (to : Epoch) (n : ℕ) (w : Walk)
+    (out : List WholeFrame)
     → Underway at given to n w out → n < w.next + 256 → Tied at given to w out
 underway_done at given to n w out u near =
     let next : w.next ≡ next_of u.e = u.tied.stands.next in
     subst (λ (e : Epoch). Tied at given e w out) (sym (resynced-near u.most u.e n (omega arith)) ∙ u.leads) u.tied
 
-pub underway_more : (at : ℕ → Option NumberedPacket) (given : List WholeFrame) (to : Epoch) (n : ℕ) (w v : Walk) (out more : List WholeFrame)
+pub underway_more : (at : ℕ → Option NumberedPacket) (given : List WholeFrame) (to : Epoch) (n : ℕ) (w v : Walk)
+    (out more : List WholeFrame)
     → Underway at given to n w out → w.next + 256 ≤ n → w.next < v.next
     → ((e : Epoch) → Tied at given e w out → Tied at given (placed e n) v more)
     → Underway at given to n v more
 underway_more at given to n w v out more u far onward cut = from u.most u.e u.tied u.enough u.leads
   where
-    from : (most : ℕ) (e : Epoch) → Tied at given e w out → n < w.next + 256 + most → resynced most e n ≡ to → Underway at given to n v more
+    from : (most : ℕ) (e : Epoch) → Tied at given e w out → n < w.next + 256 + most → resynced most e n ≡ to
+        → Underway at given to n v more
     from zero e tied enough leads = absurd (omega arith)
     from (suc most) e tied enough leads =
         let next : w.next ≡ next_of e = tied.stands.next in

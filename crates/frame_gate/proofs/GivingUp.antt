@@ -1,5 +1,6 @@
 -- A gate that gives a number up.
-use Rattle.std.proofs.Common.{◌≡◌, ℕ, ◌+◌, ◌<◌, ◌≤◌, Bool, true, false, cond, not, ◌&&◌, nat_le, nat_lt, List, [], Option, None, Some, refl, sym, ap, ◌∙◌, arith, subst, inl, inr}
+use Rattle.std.proofs.Common.{◌≡◌, ℕ, ◌+◌, ◌<◌, ◌≤◌, Bool, true, false, cond, not, ◌&&◌, nat_le, nat_lt, List, []}
+use Rattle.std.proofs.Common.{Option, None, Some, refl, sym, ap, ◌∙◌, arith, subst, inl, inr}
 use Rattle.std.specs.Prelude.{is_some, unwrap_or}
 use Rattle.std.proofs.lemmas.Bool.{cases_lt}
 use Rattle.std.proofs.lemmas.Bool.Decides.{nat_tests}
@@ -17,7 +18,8 @@ use Rattle.frame_gate.proofs.Forgetting.{tied-alike, held-kept, held-placed, lef
 
 -- where a gate is at an epoch, it knows which numbers are missing
 pub knows_missing : (k : Kept) (e : Epoch) (n : ℕ) → IsAt k e
-    → (nat_le k.walk.next n && (nat_lt n (unwrap_or k.greatest 0) && not (is_some (held k.cells None n)))) ≡ is_missing e n
+    → (nat_le k.walk.next n && (nat_lt n (unwrap_or k.greatest 0) && not (is_some (held k.cells None n))))
+    ≡ is_missing e n
 knows_missing k e n h =
     let next : k.walk.next ≡ next_of e = h.tied.stands.next in
     let most : unwrap_or k.greatest 0 ≡ greatest e.taken = ap (λ o. unwrap_or o 0) h.greatest ∙ top-greatest e.taken in
@@ -43,10 +45,14 @@ cut_at : (k new : Kept) (e f : Epoch) (r : PreparedCutsOf) → IsAt k e → f.ta
     → (k.greatest ≡ None → r.walk.next ≡ k.walk.next) → CommitsCuts k r new → IsAt new f
 cut_at k new e f r h same tied stays commits =
     let walked : Tied (held new.cells None) (frames_of f) f r.walk [] =
-    tied-alike (held k.cells None) (held new.cells None) (frames_of f) f r.walk [] (λ m le. held-kept r.walk.next k.cells new.cells m commits.others le)
+    tied-alike (held k.cells None) (held new.cells None) (frames_of f) f r.walk []
+    (λ m le. held-kept r.walk.next k.cells new.cells m commits.others le)
     (rebased (held k.cells None) (frames_of e) f r.walk r.answer.frames tied) in
-    let placed : ArePlaced new.cells = λ i q there. h.placed i q (left_over r.walk.next k.cells new.cells i q commits.others there) in
-    let low = left_from k.walk.next r.walk.next k.cells new.cells commits.others commits.gone h.placed (λ i q there. (h.holds i q there).0) in
+    let placed : ArePlaced new.cells = λ i q there.
+    h.placed i q (left_over r.walk.next k.cells new.cells i q commits.others there) in
+    let low =
+    left_from k.walk.next r.walk.next k.cells new.cells commits.others commits.gone h.placed
+    (λ i q there. (h.holds i q there).0) in
     let next_is : new.walk.next ≡ r.walk.next = ap (λ (w : Walk). w.next) commits.walk_is in
     record {
       tied = subst (λ (w : Walk). Tied (held new.cells None) (frames_of f) f w []) (sym commits.walk_is) walked;
@@ -57,7 +63,9 @@ cut_at k new e f r h same tied stays commits =
       placed = placed;
       holds = λ i q there.
           let from : r.walk.next ≤ q.number = low i q there in
-          let to = below_size (held new.cells None) (frames_of f) f r.walk q walked from (held-placed new.cells i q placed there) in
+          let to =
+          below_size (held new.cells None) (frames_of f) f r.walk q walked from
+          (held-placed new.cells i q placed there) in
           (omega arith, omega arith);
     }
   where
@@ -71,7 +79,8 @@ cut_at k new e f r h same tied stays commits =
         → Tied at given e w [] → w.next ≤ q.number → at q.number ≡ Some q → q.number < w.next + 256
     below_size at given e w q tied from there = elim (cases_lt q.number (w.next + 256)) [
       | inl lt ↦ lt
-      | inr far ↦ absurd (let x : Some q ≡ None = sym there ∙ tied.agrees q.number from ∙ tied.behind q.number far in cc)
+      | inr far ↦
+          absurd (let x : Some q ≡ None = sym there ∙ tied.agrees q.number from ∙ tied.behind q.number far in cc)
     ]
 
 -- a missing number is given up
@@ -88,13 +97,17 @@ gave_up k new e n r h is tied pli over commits =
         pli = pli ∙ sym is;
         decided = λ yes. omega arith;
       },
-      subst (IsAt new) (sym goes) (cut_at k new e f r h (resynced-taken (n + 256) e (n + 256)) tied (λ none. absurd (nothing none)) commits),
+      subst (IsAt new) (sym goes)
+          (cut_at k new e f r h (resynced-taken (n + 256) e (n + 256)) tied (λ none. absurd (nothing none)) commits),
     )
   where
     nothing : k.greatest ≡ None → ⊥
     nothing none =
-        let most : greatest e.taken ≡ 0 = sym (ap (λ o. unwrap_or o 0) h.greatest ∙ top-greatest e.taken) ∙ ap (λ o. unwrap_or o 0) none in
-        let all : (nat_le (next_of e) n && (nat_lt n (greatest e.taken) && not (is_some (packet_at e.taken n)))) ≡ true = is in
+        let most : greatest e.taken ≡ 0 =
+        sym (ap (λ o. unwrap_or o 0) h.greatest ∙ top-greatest e.taken) ∙ ap (λ o. unwrap_or o 0) none in
+        let all : (nat_le (next_of e) n && (nat_lt n (greatest e.taken) && not (is_some (packet_at e.taken n))))
+        ≡ true =
+        is in
         let low : n < greatest e.taken = grind (arith, nat_tests) in
         omega arith
 
@@ -116,7 +129,8 @@ gave_nothing k new e n r h is walk frames pli commits =
     )
 
 -- no cuts change nothing
-pub no_cuts : (k new : Kept) (e : Epoch) (r : PreparedCutsOf) → IsAt k e → r.walk ≡ k.walk → r.answer.frames ≡ [] → CommitsCuts k r new → IsAt new e
+pub no_cuts : (k new : Kept) (e : Epoch) (r : PreparedCutsOf) → IsAt k e → r.walk ≡ k.walk → r.answer.frames ≡ []
+    → CommitsCuts k r new → IsAt new e
 no_cuts k new e r h walk frames commits =
     let tied : Tied (held k.cells None) (frames_of e) e r.walk r.answer.frames =
     subst (λ (w : Walk). Tied (held k.cells None) (frames_of e) e w r.answer.frames) (sym walk)

@@ -1,5 +1,6 @@
 -- Numbers that are missing.
-use Rattle.std.proofs.Common.{◌≡◌, ℕ, zero, suc, ◌+◌, ◌-◌, ◌<◌, ◌≤◌, true, false, cond, nat_le, max, List, [], ◌∷◌, length, map, Option, None, Some, refl, sym, ap, ◌∙◌, arith}
+use Rattle.std.proofs.Common.{◌≡◌, ℕ, zero, suc, ◌+◌, ◌-◌, ◌<◌, ◌≤◌, true, false, cond, nat_le, max, List, [], ◌∷◌}
+use Rattle.std.proofs.Common.{length, map, Option, None, Some, refl, sym, ap, ◌∙◌, arith}
 use Rattle.std.specs.Prelude.{filter}
 use Rattle.std.specs.List.{range_with_len}
 use Rattle.std.proofs.lemmas.Bool.Decides.{nat_tests}
@@ -20,13 +21,18 @@ between-none a n h = ap (range_with_len a) (let e : n - a ≡ 0 = omega arith in
 filter-range : (next a m : ℕ) → filter (λ k. nat_le next k) (range_with_len a m) ≡ between (max a next) (a + m)
 filter-range next a zero = sym (between-none (max a next) (a + 0) (omega arith))
 filter-range next a (suc m) =
-    elim (nat_le next a) as (λ b. nat_le next a ≡ b → cond b (a ∷ filter (λ k. nat_le next k) (range_with_len (a + 1) m)) (filter (λ k. nat_le next k) (range_with_len (a + 1) m)) ≡ between (max a next) (a + suc m)) [
+    elim (nat_le next a) as (λ b.
+    nat_le next a ≡ b
+    → cond b (a ∷ filter (λ k. nat_le next k) (range_with_len (a + 1) m))
+    (filter (λ k. nat_le next k) (range_with_len (a + 1) m))
+    ≡ between (max a next) (a + suc m)) [
       | true ↦ λ is.
           let le : next ≤ a = grind (arith, nat_tests) in
           let e : max a next ≡ a = omega arith in
           let f : max (a + 1) next ≡ a + 1 = omega arith in
           let g : a + 1 + m ≡ a + suc m = omega arith in
-          ap (λ (xs : List ℕ). a ∷ xs) (filter-range next (a + 1) m ∙ ap (λ k. between k (a + 1 + m)) f ∙ ap (between (a + 1)) g)
+          ap (λ (xs : List ℕ). a ∷ xs)
+          (filter-range next (a + 1) m ∙ ap (λ k. between k (a + 1 + m)) f ∙ ap (between (a + 1)) g)
           ∙ sym (ap (λ k. between k (a + suc m)) e ∙ between-more a (a + suc m) (omega arith))
       | false ↦ λ is.
           let lt : a < next = grind (arith, nat_tests) in
@@ -51,6 +57,8 @@ length-range a (suc n) = ap suc (length-range (a + 1) n)
 pub few_missing : (g : Option ℕ) (next n : ℕ) → length (map ext_of (missing_above g next n)) ≤ n - next
 few_missing None next n = omega arith
 few_missing (Some g) next n =
-    let mapped : length (map ext_of (missing_above (Some g) next n)) ≡ length (missing_above (Some g) next n) = length-map (missing_above (Some g) next n) ext_of in
-    let is : length (missing_above (Some g) next n) ≡ n - max (g + 1) next = sym (ap length (missing-is g next n)) ∙ length-range (max (g + 1) next) (n - max (g + 1) next) in
+    let mapped : length (map ext_of (missing_above (Some g) next n)) ≡ length (missing_above (Some g) next n) =
+    length-map (missing_above (Some g) next n) ext_of in
+    let is : length (missing_above (Some g) next n) ≡ n - max (g + 1) next =
+    sym (ap length (missing-is g next n)) ∙ length-range (max (g + 1) next) (n - max (g + 1) next) in
     omega (arith, mapped, is)

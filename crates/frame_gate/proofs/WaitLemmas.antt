@@ -1,17 +1,20 @@
 -- The answer to a wait.
-use Rattle.std.proofs.Common.{◌≡◌, ◌&&◌, not, ℕ, ◌++◌, ◌∷◌, List, Option, None, Some, map, take, sym, ap, ◌∙◌, subst, append-nil}
+use Rattle.std.proofs.Common.{◌≡◌, ◌&&◌, not, ℕ, ◌++◌, ◌∷◌, List, Option, None, Some, map, take, sym, ap, ◌∙◌, subst}
+use Rattle.std.proofs.Common.{append-nil}
 use Rattle.std.specs.Prelude.{filter, is_some, unwrap_or}
 use Rattle.frame_gate.specs.Packets.{ext_of}
 use Rattle.frame_gate.specs.Frame.{WholeFrame}
 use Rattle.frame_gate.specs.Epochs.{greatest, frames_of}
 use Rattle.frame_gate.specs.GivenUp.{missing_in}
 use Rattle.frame_gate.specs.Admits.{IsAt, PreparesMaybe}
-use Rattle.frame_gate.specs.Watched.{Watch, waited, giving_up, lost_in, is_asked, is_lost, limit_of, most_waits, AnswersWait}
+use Rattle.frame_gate.specs.Watched.{Watch, waited, giving_up, lost_in, is_asked, is_lost, limit_of, most_waits}
+use Rattle.frame_gate.specs.Watched.{AnswersWait}
 use Rattle.frame_gate.specs.Waits.{WatchedOf, PreparedWaitOf, Watches, CommitsWait, answer_in}
 use Rattle.frame_gate.proofs.Answered.{top-greatest}
 use Rattle.frame_gate.proofs.Missed.{last_missing}
 
-pub answered : (k new : WatchedOf) (r : PreparedWaitOf) (w : Watch) (lost : Option ℕ) → Watches k w → lost ≡ lost_in w → PreparesMaybe k.gate lost r.cuts
+pub answered : (k new : WatchedOf) (r : PreparedWaitOf) (w : Watch) (lost : Option ℕ) → Watches k w → lost ≡ lost_in w
+    → PreparesMaybe k.gate lost r.cuts
     → r.nacks ≡ map ext_of (filter (is_asked w.marks) (missing_in w.epoch)) → CommitsWait k r new
     → AnswersWait w (answer_in r) × Watches new (waited w)
 answered k new r w lost h is cuts nacks commits = by lost is cuts
@@ -25,13 +28,17 @@ answered k new r w lost h is cuts nacks commits = by lost is cuts
     answers : r.cuts.answer.pli ≡ is_some (lost_in w) → new.answers ≡ (w.answers && not (is_some (lost_in w)))
     answers pli = commits.answers ∙ (λ i. h.answers i && not (pli i))
 
-    by : (lost : Option ℕ) → lost ≡ lost_in w → PreparesMaybe k.gate lost r.cuts → AnswersWait w (answer_in r) × Watches new (waited w)
+    by : (lost : Option ℕ) → lost ≡ lost_in w → PreparesMaybe k.gate lost r.cuts
+        → AnswersWait w (answer_in r) × Watches new (waited w)
     by None is cuts =
         let x = cuts new.gate commits.gate w.epoch h.gate in
         let same : giving_up w.epoch (lost_in w) ≡ w.epoch = ap (giving_up w.epoch) (sym is) in
         let pli = x.1 ∙ ap is_some is in (
           record {
-            frames = ap frames_of same ∙ sym (append-nil (frames_of w.epoch)) ∙ ap (λ (fs : List WholeFrame). frames_of w.epoch ++ fs) (sym x.0);
+            frames =
+                ap frames_of same
+                ∙ sym (append-nil (frames_of w.epoch))
+                ∙ ap (λ (fs : List WholeFrame). frames_of w.epoch ++ fs) (sym x.0);
             nacks = nacks;
             pli = pli;
           },

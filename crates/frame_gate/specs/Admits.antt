@@ -1,12 +1,14 @@
 -- What a gate answers.
-use Rattle.std.specs.Prelude.{◌≡◌, ℕ, ℤ, ◌+◌, ◌<◌, ◌≤◌, ◌%◌, max, false, List, [], ◌++◌, map, Option, None, Some, slice_set, unwrap_or}
+use Rattle.std.specs.Prelude.{◌≡◌, ℕ, ℤ, ◌+◌, ◌<◌, ◌≤◌, ◌%◌, max, false, List, [], ◌++◌, map, Option, None, Some}
+use Rattle.std.specs.Prelude.{slice_set, unwrap_or}
 use Rattle.frame_gate.specs.Packets.{NumberedPacket, ext_of}
 use Rattle.frame_gate.specs.Answer.{Answer}
 use Rattle.frame_gate.specs.declared.walk.Walk.{Walk}
 use Rattle.frame_gate.specs.declared.packet.Place.{Place}
 use Rattle.frame_gate.specs.declared.packet.Place.TheVariants.{Taken, Late, Duplicate}
 use Rattle.frame_gate.specs.inner.Cells.{held, cell, ArePlaced, MayForget, Forgets}
-use Rattle.frame_gate.specs.Epochs.{Epoch, gate_size, epoch_of, epoch_after, frames_of, place_of, nacks_of, gives_up, top}
+use Rattle.frame_gate.specs.Epochs.{Epoch, gate_size, epoch_of, epoch_after, frames_of, place_of, nacks_of, gives_up}
+use Rattle.frame_gate.specs.Epochs.{top}
 use Rattle.frame_gate.specs.inner.Ties.{Tied}
 use Rattle.frame_gate.specs.inner.Kept.{Kept, PreparedOf, PreparedCutsOf}
 use Rattle.frame_gate.specs.GivenUp.{given_up, GaveUp, AnswersGivingUp, missing_in}
@@ -17,7 +19,8 @@ pub record IsAt (k : Kept) (e : Epoch) : Type 0 where
   pub greatest : k.greatest ≡ top e.taken
   pub empty : k.greatest ≡ None → (k.walk.next ≡ 0) × ((i : ℕ) → cell k.cells i ≡ None)
   pub placed : ArePlaced k.cells
-  pub holds : (i : ℕ) (p : NumberedPacket) → cell k.cells i ≡ Some p → (k.walk.next ≤ p.number) × (p.number < k.walk.next + gate_size)
+  pub holds : (i : ℕ) (p : NumberedPacket) → cell k.cells i ≡ Some p
+      → (k.walk.next ≤ p.number) × (p.number < k.walk.next + gate_size)
 
 -- The gate has been given these packets.
 abbrev pub Represents : Kept → List NumberedPacket → Type 0
@@ -76,5 +79,7 @@ PreparesCuts old n r = (new : Kept) → CommitsCuts old r new → GivesUp old ne
 
 -- Once they are committed, a number is given up if there is one, and else nothing changes.
 abbrev pub PreparesMaybe : Kept → Option ℕ → PreparedCutsOf → Type 0
-PreparesMaybe old None r = (new : Kept) → CommitsCuts old r new → (e : Epoch) → IsAt old e → (r.answer.frames ≡ []) × (r.answer.pli ≡ false) × IsAt new e
+PreparesMaybe old None r =
+    (new : Kept) → CommitsCuts old r new → (e : Epoch) → IsAt old e
+    → (r.answer.frames ≡ []) × (r.answer.pli ≡ false) × IsAt new e
 PreparesMaybe old (Some n) r = PreparesCuts old n r

@@ -1,5 +1,6 @@
 -- One epoch of a source: taken packets, cuts, and what each packet gives (own).
-use Rattle.std.specs.Prelude.{ℕ, ℤ, zero, suc, ◌+◌, ◌-◌, Bool, false, if◌then◌else◌, nat_eq, nat_lt, nat_le, is_some, min, max, List, [], ◌∷◌, ◌++◌, Option, None, Some, fold, find, filter, map}
+use Rattle.std.specs.Prelude.{ℕ, ℤ, zero, suc, ◌+◌, ◌-◌, Bool, false, if◌then◌else◌, nat_eq, nat_lt, nat_le, is_some}
+use Rattle.std.specs.Prelude.{min, max, List, [], ◌∷◌, ◌++◌, Option, None, Some, fold, find, filter, map}
 use Rattle.std.specs.List.{range_with_len}
 use Rattle.frame_gate.specs.Packets.{NumberedPacket, ext_of}
 use Rattle.frame_gate.specs.Frame.{WholeFrame}
@@ -64,7 +65,8 @@ resynced (suc most) e n = if nat_le (next_of e + gate_size) n then resynced most
 abbrev pub opened : Epoch → NumberedPacket → Epoch
 opened e p = elim e.taken [ [] ↦ record { taken = []; cut = p.number; earlier = e.earlier } | q ∷ qs ↦ e ]
 
--- what becomes of a packet: it is late where its number is decided, a duplicate where its number was taken, and else it is taken
+-- what becomes of a packet: it is late where its number is decided, a duplicate where its number was taken, and else it
+-- is taken
 abbrev pub place_of : Epoch → NumberedPacket → Place
 place_of e p =
     if nat_lt p.number (next_of (opened e p)) then Late
@@ -105,7 +107,8 @@ missing_above (Some g) next n = filter (λ k. nat_le next k) (range_with_len (g 
 
 -- the numbers above the greatest taken before and below this one, not below next afterwards
 abbrev pub nacks_of : Epoch → NumberedPacket → List ℤ
-nacks_of e p = if_taken (place_of e p) (map ext_of (missing_above (top e.taken) (next_of (epoch_after e p)) p.number)) []
+nacks_of e p =
+    if_taken (place_of e p) (map ext_of (missing_above (top e.taken) (next_of (epoch_after e p)) p.number)) []
 
 -- the most numbers that one packet newly leaves missing: it lies in the gate afterwards
 abbrev pub most_missing : ℕ

@@ -1,5 +1,6 @@
 -- Missing numbers, and what becomes of one that a gate no longer waits for (own).
-use Rattle.std.specs.Prelude.{◌≡◌, ℕ, ◌+◌, ◌-◌, ◌<◌, Bool, true, not, ◌&&◌, if◌then◌else◌, nat_le, nat_lt, is_some, List, ◌++◌, filter}
+use Rattle.std.specs.Prelude.{◌≡◌, ℕ, ◌+◌, ◌-◌, ◌<◌, Bool, true, not, ◌&&◌, if◌then◌else◌, nat_le, nat_lt, is_some}
+use Rattle.std.specs.Prelude.{List, ◌++◌, filter}
 use Rattle.std.specs.List.{range_with_len}
 use Rattle.frame_gate.specs.Frame.{WholeFrame}
 use Rattle.frame_gate.specs.Epochs.{Epoch, packet_at, greatest, next_of, frames_of, gate_size, resynced}
@@ -10,9 +11,11 @@ is_missing e n = nat_le (next_of e) n && (nat_lt n (greatest e.taken) && not (is
 
 -- the missing numbers, rising
 abbrev pub missing_in : Epoch → List ℕ
-missing_in e = filter (λ n. not (is_some (packet_at e.taken n))) (range_with_len (next_of e) (greatest e.taken - next_of e))
+missing_in e =
+    filter (λ n. not (is_some (packet_at e.taken n))) (range_with_len (next_of e) (greatest e.taken - next_of e))
 
--- A missing number is given up: the cuts are placed that a packet numbered 256 further on would place, and no packet is taken.
+-- A missing number is given up: the cuts are placed that a packet numbered 256 further on would place, and no packet is
+-- taken.
 abbrev pub given_up : Epoch → ℕ → Epoch
 given_up e n = if is_missing e n then resynced (n + gate_size) e (n + gate_size) else e
 

@@ -1,5 +1,6 @@
 -- Packets in a row, and the pieces into which they are divided (own).
-use Rattle.std.specs.Prelude.{◌≡◌, ℕ, zero, suc, ◌+◌, Bool, not, ◌&&◌, if◌then◌else◌, nat_eq, List, [], ◌∷◌, ◌++◌, length, Option, None, Some, filter, fold, map}
+use Rattle.std.specs.Prelude.{◌≡◌, ℕ, zero, suc, ◌+◌, Bool, not, ◌&&◌, if◌then◌else◌, nat_eq, List, [], ◌∷◌, ◌++◌}
+use Rattle.std.specs.Prelude.{length, Option, None, Some, filter, fold, map}
 use Rattle.std.specs.List.{list_any, flat_map}
 use Rattle.frame_gate.specs.Packets.{NumberedPacket, frame_packet}
 use Rattle.frame_gate.specs.Frame.{WholeFrame}
@@ -87,7 +88,8 @@ frames_in d = map frame_of (but_first d.closed)
 abbrev pub joined : List (List NumberedPacket) → List NumberedPacket
 joined pieces = flat_map (λ piece. piece) pieces
 
--- The first number of the unclosed piece of a run from this cut; the number after the run, while the piece is the first.
+-- The first number of the unclosed piece of a run from this cut; the number after the run, while the piece is the
+-- first.
 abbrev pub next_in : ℕ → Divided → ℕ
 next_in cut d = elim d.closed [ [] ↦ cut + length d.unclosed | piece ∷ pieces ↦ cut + length (joined (piece ∷ pieces)) ]
 

@@ -54,4 +54,5 @@ pub record CommitsPacket (old : WatchedOf) (r : PreparedPacketOf) (new : Watched
 -- Once it is committed, the packet is admitted.
 abbrev pub PreparesPacket : WatchedOf → NumberedPacket → PreparedPacketOf → Type 0
 PreparesPacket old p r =
-    (new : WatchedOf) → CommitsPacket old r new → (w : Watch) → Watches old w → Answers w.epoch p r.prepared.answer × Watches new (watch_next w p)
+    (new : WatchedOf) → CommitsPacket old r new → (w : Watch) → Watches old w
+    → Answers w.epoch p r.prepared.answer × Watches new (watch_next w p)

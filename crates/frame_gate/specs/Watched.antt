@@ -1,11 +1,13 @@
 -- A gate as time passes: which missing numbers it asks for again, and which one it gives up (own).
-use Rattle.std.specs.Prelude.{◌≡◌, ℕ, ℤ, Bool, true, ◌||◌, ◌&&◌, not, if◌then◌else◌, ◌++◌, nat_eq, nat_le, nat_lt, is_some, count_by, take, List, [], ◌∷◌, Option, None, Some, filter, map, fold}
+use Rattle.std.specs.Prelude.{◌≡◌, ℕ, ℤ, Bool, true, ◌||◌, ◌&&◌, not, if◌then◌else◌, ◌++◌, nat_eq, nat_le, nat_lt}
+use Rattle.std.specs.Prelude.{is_some, count_by, take, List, [], ◌∷◌, Option, None, Some, filter, map, fold}
 use Rattle.frame_gate.specs.Packets.{NumberedPacket, ext_of}
 use Rattle.frame_gate.specs.Frame.{WholeFrame}
 use Rattle.frame_gate.specs.Epochs.{Epoch, blank, greatest, frames_of, epoch_after, gives_up}
 use Rattle.frame_gate.specs.GivenUp.{missing_in, given_up}
 
--- an epoch, the greatest number that was taken at each of the last waits, the last wait first, and whether the source answers
+-- an epoch, the greatest number that was taken at each of the last waits, the last wait first, and whether the source
+-- answers
 pub record Watch : Type 0 where
   pub epoch : Epoch
   pub marks : List ℕ
@@ -29,7 +31,8 @@ age marks n = count_by (λ mark. nat_lt n mark) marks
 
 -- A number is asked for again after 40, 100, 220 and 420 ms.
 abbrev pub is_asked : List ℕ → ℕ → Bool
-is_asked marks n = nat_eq (age marks n) 2 || (nat_eq (age marks n) 5 || (nat_eq (age marks n) 11 || nat_eq (age marks n) 21))
+is_asked marks n =
+    nat_eq (age marks n) 2 || (nat_eq (age marks n) 5 || (nat_eq (age marks n) 11 || nat_eq (age marks n) 21))
 
 -- It was waited for long enough.
 abbrev pub is_lost : ℕ → List ℕ → ℕ → Bool
@@ -56,7 +59,9 @@ waited w = record {
   answers = w.answers && not (is_some (lost_in w));
 }
 
--- Whether the source answers, after a packet. It does once a packet comes that is behind the greatest number of one of the last waits, as a missing one is; a late one and a doubled old one are, too. It does not where a number is given up.
+-- Whether the source answers, after a packet. It does once a packet comes that is behind the greatest number of one of
+-- the last waits, as a missing one is; a late one and a doubled old one are, too. It does not where a number is given
+-- up.
 abbrev pub answers_with : Watch → NumberedPacket → Bool
 answers_with w p = (w.answers || nat_le 1 (age w.marks p.number)) && not (gives_up w.epoch p)
 
@@ -64,7 +69,8 @@ answers_with w p = (w.answers || nat_le 1 (age w.marks p.number)) && not (gives_
 abbrev pub watch_next : Watch → NumberedPacket → Watch
 watch_next w p = record { epoch = epoch_after w.epoch p; marks = w.marks; answers = answers_with w p }
 
--- the frames that were closed, the numbers that are asked for again, and whether one was given up, so that a new picture is needed
+-- the frames that were closed, the numbers that are asked for again, and whether one was given up, so that a new
+-- picture is needed
 pub record Waited : Type 0 where
   pub frames : List WholeFrame
   pub nacks : List ℤ

@@ -1,5 +1,7 @@
 -- Single steps of a round.
-use Rattle.std.proofs.Common.{◌≡◌, ◌≤◌, ◌+◌, ℕ, Bool, true, false, List, [], ◌∷◌, ◌++◌, length, take, Option, Some, Result, Ok, Err, OnOk, OnErr, IfOk, IsErr, refl, ap, sym, subst, ◌∙◌, arith, length-append, inr}
+use Rattle.std.proofs.Common.{◌≡◌, ◌≤◌, ◌+◌, ℕ, Bool, true, false, List, [], ◌∷◌, ◌++◌, length, take, Option, Some}
+use Rattle.std.proofs.Common.{Result, Ok, Err, OnOk, OnErr, IfOk, IsErr, refl, ap, sym, subst, ◌∙◌, arith}
+use Rattle.std.proofs.Common.{length-append, inr}
 use Rattle.std.specs.List.{AllByRecursion, flat_map}
 use Rattle.std.proofs.lemmas.List.{append-nil, flat_map_more}
 use Rattle.std.proofs.lemmas.Fn.{FoldsTo-push}
@@ -13,8 +15,10 @@ use Rattle.front_rounds.specs.Came.{Came, datagram, other, nothing, came_by}
 use Rattle.front_rounds.specs.declared.inlet.Read.{Read}
 use Rattle.front_rounds.specs.declared.inlet.Read.TheVariants.{Datagram, Other, Nothing}
 use Rattle.front_rounds.specs.inner.Reading.{IsReadOnce, is_something}
-use Rattle.front_rounds.specs.Turns.{Turn, History, history, HaveDone, HasActed, owed, passed, looked, gave_ticks, let_wait, let_some_wait, made_report}
-use Rattle.front_rounds.specs.Shapes.{IsPassed, AreAllRead, most_datagrams, IsPicture, waits, IsDue, IsPassing, IsTakenIn, IsRound, IsRoundAfterSleep, AreRounds, BeginAsRounds, signals}
+use Rattle.front_rounds.specs.Turns.{Turn, History, history, HaveDone, HasActed, owed, passed, looked, gave_ticks}
+use Rattle.front_rounds.specs.Turns.{let_wait, let_some_wait, made_report}
+use Rattle.front_rounds.specs.Shapes.{IsPassed, AreAllRead, most_datagrams, IsPicture, waits, IsDue, IsPassing}
+use Rattle.front_rounds.specs.Shapes.{IsTakenIn, IsRound, IsRoundAfterSleep, AreRounds, BeginAsRounds, signals}
 use Rattle.front_rounds.proofs.TurnLemmas.{done_one, done_both, all_both}
 
 -- ---- results
@@ -40,27 +44,38 @@ on_ok {A} {B} {C} r a is k = subst (λ (q : Result A B). OnOk q C) is k
 
 -- ---- histories
 
-pub looked_same : {P S : Type 0} (front : FrontOf P S) (one came : List Came) (told later : List ℕ) (tried : Option (List Attempt)) (last moment : ℕ) → came ≡ one → later ≡ told ++ moment ∷ []
+pub looked_same : {P S : Type 0} (front : FrontOf P S) (one came : List Came) (told later : List ℕ)
+    (tried : Option (List Attempt)) (last moment : ℕ)
+    → came ≡ one → later ≡ told ++ moment ∷ []
     → HaveDone (looked moment ∷ []) (history front one told tried last) (history front came later tried last)
 looked_same front one came told later tried last moment same is =
     done_one (looked moment) (history front one told tried last) (history front came later tried last)
-    (ap (λ (l : List Came). history front l later tried last) same ∙ ap (λ (l : List ℕ). history front one l tried last) is)
+    (ap (λ (l : List Came). history front l later tried last) same
+    ∙ ap (λ (l : List ℕ). history front one l tried last) is)
 
-pub passed_at : {P S : Type 0} (front : FrontOf P S) (one more : List Came) (told later : List ℕ) (tried : Option (List Attempt)) (last : ℕ) (came : Came) → more ≡ one ++ came ∷ [] → later ≡ told
+pub passed_at : {P S : Type 0} (front : FrontOf P S) (one more : List Came) (told later : List ℕ)
+    (tried : Option (List Attempt)) (last : ℕ) (came : Came)
+    → more ≡ one ++ came ∷ [] → later ≡ told
     → HaveDone (passed came ∷ []) (history front one told tried last) (history front more later tried last)
 passed_at front one more told later tried last came is same =
     done_one (passed came) (history front one told tried last) (history front more later tried last)
-    (ap (λ (c : List Came). history front c later tried last) is ∙ ap (λ (t : List ℕ). history front (one ++ came ∷ []) t tried last) same)
+    (ap (λ (c : List Came). history front c later tried last) is
+    ∙ ap (λ (t : List ℕ). history front (one ++ came ∷ []) t tried last) same)
 
 -- ---- reads
 
-pub passes_by : {P S : Type 0} (front : FrontOf P S) (one more : List Came) (told : List ℕ) (tried : Option (List Attempt)) (last : ℕ) (read : Read) (chunk : List ℕ)
+pub passes_by : {P S : Type 0} (front : FrontOf P S) (one more : List Came) (told : List ℕ)
+    (tried : Option (List Attempt)) (last : ℕ) (read : Read) (chunk : List ℕ)
     → more ≡ one ++ came_by read chunk ∷ []
-    → (turns : List Turn) × HaveDone turns (history front one told tried last) (history front more told tried last) × IsReadOnce IsPassed (is_something read) turns
+    → (turns : List Turn) × HaveDone turns (history front one told tried last) (history front more told tried last)
+    × IsReadOnce IsPassed (is_something read) turns
 passes_by front one more told tried last (Datagram from octets) chunk is =
-    let came = datagram from (take octets chunk) in (passed came ∷ [], passed_at front one more told told tried last came is refl, (came, tt, refl))
-passes_by front one more told tried last Other chunk is = (passed other ∷ [], passed_at front one more told told tried last other is refl, (other, tt, refl))
-passes_by front one more told tried last Nothing chunk is = (passed nothing ∷ [], passed_at front one more told told tried last nothing is refl, refl)
+    let came = datagram from (take octets chunk) in
+    (passed came ∷ [], passed_at front one more told told tried last came is refl, (came, tt, refl))
+passes_by front one more told tried last Other chunk is =
+    (passed other ∷ [], passed_at front one more told told tried last other is refl, (other, tt, refl))
+passes_by front one more told tried last Nothing chunk is =
+    (passed nothing ∷ [], passed_at front one more told told tried last nothing is refl, refl)
 
 -- the turns of these reads
 abbrev pub turns_of : List (List Turn) → List Turn
@@ -128,27 +143,35 @@ waits_by (Err e) desk moment old new ok err kept asker same = (
   tt {0},
 )
 
-pub are_due : (desk : Desk) (moment : ℕ) (beats pictures reports : List Turn) (due report : Bool) → beats ≡ gave_ticks due moment ∷ waits due desk moment → AllByRecursion IsPicture pictures
+pub are_due : (desk : Desk) (moment : ℕ) (beats pictures reports : List Turn) (due report : Bool)
+    → beats ≡ gave_ticks due moment ∷ waits due desk moment → AllByRecursion IsPicture pictures
     → reports ≡ made_report report desk moment ∷ [] → IsDue desk moment (beats ++ (pictures ++ reports))
 are_due desk moment beats pictures reports due report beat asked made = record {
   due = due;
   pictures = pictures;
   asked = asked;
   report = report;
-  are = ap (λ (l : List Turn). l ++ (pictures ++ reports)) beat ∙ ap (λ (l : List Turn). (gave_ticks due moment ∷ waits due desk moment) ++ (pictures ++ l)) made;
+  are =
+      ap (λ (l : List Turn). l ++ (pictures ++ reports)) beat
+      ∙ ap (λ (l : List Turn). (gave_ticks due moment ∷ waits due desk moment) ++ (pictures ++ l)) made;
 }
 
 -- ---- rounds
 
 -- what was dropped, and then ticks
-pub passing : (reads beats : List Turn) → AreAllRead IsPassed reads → (moment : ℕ) (due : Bool) → beats ≡ looked moment ∷ gave_ticks due moment ∷ [] → IsPassing (reads ++ beats)
-passing reads beats read moment due is = record { reads = reads; read = read; moment = moment; due = due; are = ap (λ (l : List Turn). reads ++ l) is }
+pub passing : (reads beats : List Turn) → AreAllRead IsPassed reads → (moment : ℕ) (due : Bool)
+    → beats ≡ looked moment ∷ gave_ticks due moment ∷ [] → IsPassing (reads ++ beats)
+passing reads beats read moment due is =
+    record { reads = reads; read = read; moment = moment; due = due; are = ap (λ (l : List Turn). reads ++ l) is }
 
-pub kept_reader : (one old new : Option ReaderOf) (r : ReaderOf) (turns : List Turn) → one ≡ Some r → old ≡ Some r → new ≡ old → IsPassing turns → IsTakenIn one new turns
+pub kept_reader : (one old new : Option ReaderOf) (r : ReaderOf) (turns : List Turn) → one ≡ Some r → old ≡ Some r
+    → new ≡ old → IsPassing turns → IsTakenIn one new turns
 kept_reader one old new r turns a b c passing =
-    subst (λ (o : Option ReaderOf). IsTakenIn o new turns) (sym a) (subst (λ (o : Option ReaderOf). IsTakenIn (Some r) o turns) (sym (c ∙ b)) (inr (refl, passing)))
+    subst (λ (o : Option ReaderOf). IsTakenIn o new turns) (sym a)
+    (subst (λ (o : Option ReaderOf). IsTakenIn (Some r) o turns) (sym (c ∙ b)) (inr (refl, passing)))
 
-pub round_of : (notice : NoticeOf) (old new : Option ReaderOf) (entry woken : List Turn) → IsTakenIn old new entry → (wake : ℕ) (raised : Bool) → woken ≡ looked wake ∷ signals raised
+pub round_of : (notice : NoticeOf) (old new : Option ReaderOf) (entry woken : List Turn) → IsTakenIn old new entry
+    → (wake : ℕ) (raised : Bool) → woken ≡ looked wake ∷ signals raised
     → IsRound notice old new (owed notice ∷ (entry ++ woken))
 round_of notice old new entry woken entered wake raised is = record {
   entry = entry;
@@ -159,12 +182,21 @@ round_of notice old new entry woken entered wake raised is = record {
 }
 
 -- one round more
-pub rounds_more : (old mid new : Option ReaderOf) (turns slept round : List Turn) (moment : ℕ) (notice : NoticeOf) → AreRounds old mid turns → slept ≡ looked moment ∷ []
+pub rounds_more : (old mid new : Option ReaderOf) (turns slept round : List Turn) (moment : ℕ) (notice : NoticeOf)
+    → AreRounds old mid turns → slept ≡ looked moment ∷ []
     → IsRound notice mid new round → AreRounds old new (turns ++ (slept ++ round))
 rounds_more old mid new turns slept round moment notice all sleep one =
-    let next : IsRoundAfterSleep mid (slept ++ round) new = record { slept = moment; notice = notice; rest = round; round = one; are = ap (λ (l : List Turn). l ++ round) sleep } in (
+    let next : IsRoundAfterSleep mid (slept ++ round) new =
+    record {
+      slept = moment;
+      notice = notice;
+      rest = round;
+      round = one;
+      are = ap (λ (l : List Turn). l ++ round) sleep;
+    } in (
       all.0 ++ (slept ++ round) ∷ [],
-      ap (λ (l : List Turn). l ++ (slept ++ round)) all.1 ∙ flat_map_more (λ (l : List Turn). l) [] all.0 (slept ++ round),
+      ap (λ (l : List Turn). l ++ (slept ++ round)) all.1
+          ∙ flat_map_more (λ (l : List Turn). l) [] all.0 (slept ++ round),
       FoldsTo-push IsRoundAfterSleep old all.0 mid (slept ++ round) new all.2 next,
     )
 

@@ -8,7 +8,8 @@ use Rattle.versions.specs.Published.{NoticeOf, ReaderOf, after_lists}
 use Rattle.intake.specs.declared.outcome.Outcome.{Outcome}
 use Rattle.media_front.specs.Fronts.{Arrival}
 use Rattle.front_rounds.specs.Came.{Came, datagram, other, nothing}
-use Rattle.front_rounds.specs.Turns.{Turn, owed, passed, took, lost, looked, gave_ticks, let_wait, let_some_wait, asked_picture, made_report, signalled}
+use Rattle.front_rounds.specs.Turns.{Turn, owed, passed, took, lost, looked, gave_ticks, let_wait, let_some_wait}
+use Rattle.front_rounds.specs.Turns.{asked_picture, made_report, signalled}
 
 -- how many datagrams a round takes in at most
 abbrev pub most_datagrams : ℕ

@@ -13,7 +13,8 @@ use Rattle.udp_wire.specs.Attempts.{Attempt}
 use Rattle.media_front.specs.Fronts.{FrontOf, Arrival, HasIngested}
 use Rattle.media_front.specs.Waits.{HaveWaited, video_origins}
 use Rattle.front_rounds.specs.Came.{Came, datagram}
-use Rattle.front_rounds.specs.Turns.{Turn, History, Does, HaveDone, owed, passed, took, lost, looked, gave_ticks, let_wait, let_some_wait, asked_picture, made_report, signalled}
+use Rattle.front_rounds.specs.Turns.{Turn, History, Does, HaveDone, owed, passed, took, lost, looked, gave_ticks}
+use Rattle.front_rounds.specs.Turns.{let_wait, let_some_wait, asked_picture, made_report, signalled}
 
 -- Why a datagram is tried: the intake answers one that arrived, or asks again as time passes for a source; a report is
 -- due; or a source is asked for a picture.
@@ -62,7 +63,8 @@ IsMeant {P} {S} turns start what (answers late arrival ingested) =
     × HasIngested arrival ingested old.front.intake new.front.intake × Contains ingested.up what
 IsMeant {P} {S} turns start what (asks_again desk moment o ingested) =
     (whole : Bool) × (old : History P S) × (new : History P S)
-    × HasDone turns start (time_passes whole desk moment) old new × AsksAgain desk moment o ingested old × Contains ingested.up what
+    × HasDone turns start (time_passes whole desk moment) old new × AsksAgain desk moment o ingested old
+    × Contains ingested.up what
 IsMeant {P} {S} turns start what (reports desk moment) =
     (old : History P S) × (new : History P S) × HasDone turns start (made_report true desk moment) old new
     × ((told : List (Address × List ℕ)) × TellsSenders old.front.intake new.front.intake told desk moment

@@ -123,7 +123,8 @@ pub record PassesTime {P S : Type 0} (whole : Bool) (desk : Desk) (moment : ℕ)
   pub waited : MatchBool whole
       (HaveWaited desk moment (video_origins desk) old.front new.front old.tried new.tried)
       (HaveWaitedInPart desk moment (video_origins desk) old.front new.front old.tried new.tried)
-  pub kept : new.front ≡ record old.front { intake = new.front.intake; feed = new.front.feed; limiter = new.front.limiter }
+  pub kept : new.front
+      ≡ record old.front { intake = new.front.intake; feed = new.front.feed; limiter = new.front.limiter }
   pub asker : new.front.intake.asker ≡ old.front.intake.asker
   pub same : HasActed old new
 

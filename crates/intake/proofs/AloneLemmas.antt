@@ -1,5 +1,6 @@
 -- Without waits packets alone come to the gates.
-use Rattle.std.proofs.Common.{◌≡◌, ℕ, zero, suc, ◌-◌, Bool, true, false, ◌&&◌, nat_eq, if◌then◌else◌, List, [], ◌∷◌, ◌++◌, map, take, Option, None, Some, is_some, length, refl, sym, ap, ◌∙◌}
+use Rattle.std.proofs.Common.{◌≡◌, ℕ, zero, suc, ◌-◌, Bool, true, false, ◌&&◌, nat_eq, if◌then◌else◌, List, [], ◌∷◌}
+use Rattle.std.proofs.Common.{◌++◌, map, take, Option, None, Some, is_some, length, refl, sym, ap, ◌∙◌}
 use Rattle.std.specs.List.{AllByRecursion}
 use Rattle.rtp_codec.specs.declared.address.Address.{Address}
 use Rattle.rtcp_codec.specs.Packet.{Packet as RtcpPacket, Sender, Receiver, Sdes, Bye, App, Nack, Pli, Other}
@@ -26,7 +27,8 @@ use Rattle.intake.specs.Sources.{Origin, Known, Sources, most_known, same_origin
 use Rattle.intake.specs.Ingested.{Ingested}
 use Rattle.intake.specs.Media.{Coming, Course, origin_of, mark_of, audio_format, audio_course, video_course}
 use Rattle.intake.specs.Control.{heard_on, noted, noted_all}
-use Rattle.intake.specs.Taking.{Voice, Datagram, most_epochs, taken_by, of_format, of_media, of_row, of_member, read_as, room_rate}
+use Rattle.intake.specs.Taking.{Voice, Datagram, most_epochs, taken_by, of_format, of_media, of_row, of_member, read_as}
+use Rattle.intake.specs.Taking.{room_rate}
 use Rattle.intake.specs.Reported.{renewed, renewed_at, renewed_on, all_renewed}
 use Rattle.intake.specs.PacketsAlone.{HasPacketsAlone, HavePacketsAlone}
 
@@ -35,7 +37,8 @@ use Rattle.intake.specs.PacketsAlone.{HasPacketsAlone, HavePacketsAlone}
 abbrev Alone : List GateEvent → Type 0
 Alone events = (packets : List NumberedPacket) × (events ≡ map came packets)
 
-one_more : (packets : List NumberedPacket) (p : NumberedPacket) → map came packets ++ came p ∷ [] ≡ map came (packets ++ p ∷ [])
+one_more : (packets : List NumberedPacket) (p : NumberedPacket)
+    → map came packets ++ came p ∷ [] ≡ map came (packets ++ p ∷ [])
 one_more [] p = refl
 one_more (q ∷ packets) p = ap (λ es. came q ∷ es) (one_more packets p)
 
@@ -64,12 +67,14 @@ story_by_alone : (rate : ℕ) (story : Option Story) → IfAlone story → HasPa
 story_by_alone rate None h = ([], refl)
 story_by_alone rate (Some story) h = either HasPacketsAlone (nat_eq story.rate rate) story (untold rate) h ([], refl)
 
-judged_alone : (story : Story) (epochs : ℕ) (m : Mark) → HasPacketsAlone story → HasPacketsAlone (judged_on story epochs m)
+judged_alone : (story : Story) (epochs : ℕ) (m : Mark) → HasPacketsAlone story
+    → HasPacketsAlone (judged_on story epochs m)
 judged_alone story epochs m h = either Alone (begins story m.seq) [] story.gated ([], refl) h
 
 -- a packet leaves a source's story so
 abbrev CourseKeeps : (Verdict → Story → Course) → Type 0
-CourseKeeps course_of = (v : Verdict) (story : Story) → HasPacketsAlone story → HasPacketsAlone (course_of v story).story
+CourseKeeps course_of =
+    (v : Verdict) (story : Story) → HasPacketsAlone story → HasPacketsAlone (course_of v story).story
 
 video_alone : (c : Coming) → CourseKeeps (video_course c)
 video_alone c Probation story h = h
@@ -99,35 +104,57 @@ without_alone o [] h = tt
 without_alone o (k ∷ ks) h = either All (same_origin o k.origin) ks (k ∷ without o ks) h.1 (h.0, without_alone o ks h.1)
 
 used_alone : (k : Known) (ks : List Known) → HasPacketsAlone k.story → All ks → All (used k ks)
-used_alone k ks p h = either All (is_some (story_at k.origin ks)) (k ∷ without k.origin ks) (k ∷ take (most_known - 1) ks) (p, without_alone k.origin ks h) (p, take_alone (most_known - 1) ks h)
+used_alone k ks p h =
+    either All (is_some (story_at k.origin ks)) (k ∷ without k.origin ks) (k ∷ take (most_known - 1) ks)
+    (p, without_alone k.origin ks h) (p, take_alone (most_known - 1) ks h)
 
 retold_alone : (o : Origin) (f : Story → Story) → Keeps f → (ks : List Known) → All ks → All (retold o f ks)
 retold_alone o f keeps [] h = tt
-retold_alone o f keeps (k ∷ ks) h = either All (same_origin o k.origin) (record { origin = k.origin; story = f k.story } ∷ ks) (k ∷ retold o f ks) (keeps k.story h.0, h.1) (h.0, retold_alone o f keeps ks h.1)
+retold_alone o f keeps (k ∷ ks) h =
+    either All (same_origin o k.origin) (record { origin = k.origin; story = f k.story } ∷ ks) (k ∷ retold o f ks)
+    (keeps k.story h.0, h.1) (h.0, retold_alone o f keeps ks h.1)
 
 -- ---- datagrams
 
 abbrev After : Ingested × Sources → Type 0
 After x = HavePacketsAlone x.1
 
-taken_alone : (voice : Voice) (rate : ℕ) (course_of : Verdict → Story → Course) (c : Coming) (s : Sources) → CourseKeeps course_of → HavePacketsAlone s → (story : Story) → HasPacketsAlone story → After (taken_by voice rate course_of c s story)
-taken_alone voice rate course_of c s keeps h story p = either After (begins story (mark_of rate c).seq && nat_eq s.epochs most_epochs) _ _ h
-    (used_alone _ s.known (keeps (judged story (mark_of rate c).seq) (judged_on story s.epochs (mark_of rate c)) (judged_alone story s.epochs (mark_of rate c) p)) h)
+taken_alone : (voice : Voice) (rate : ℕ) (course_of : Verdict → Story → Course) (c : Coming) (s : Sources)
+    → CourseKeeps course_of → HavePacketsAlone s → (story : Story) → HasPacketsAlone story
+    → After (taken_by voice rate course_of c s story)
+taken_alone voice rate course_of c s keeps h story p =
+    either After (begins story (mark_of rate c).seq && nat_eq s.epochs most_epochs) _ _ h
+    (used_alone _ s.known
+    (keeps (judged story (mark_of rate c).seq) (judged_on story s.epochs (mark_of rate c))
+    (judged_alone story s.epochs (mark_of rate c) p))
+    h)
 
-format_alone : (voice : Voice) (format : Option Format) (c : Coming) (s : Sources) → HavePacketsAlone s → After (of_format voice format c s)
+format_alone : (voice : Voice) (format : Option Format) (c : Coming) (s : Sources) → HavePacketsAlone s
+    → After (of_format voice format c s)
 format_alone voice None c s h = h
-format_alone voice (Some format) c s h = taken_alone voice (rate_of format) (audio_course format c) c s (audio_alone format c) h (story_by (rate_of format) (story_at (origin_of c) s.known)) (story_by_alone (rate_of format) (story_at (origin_of c) s.known) (at_alone (origin_of c) s.known h))
+format_alone voice (Some format) c s h =
+    taken_alone voice (rate_of format) (audio_course format c) c s (audio_alone format c) h
+    (story_by (rate_of format) (story_at (origin_of c) s.known))
+    (story_by_alone (rate_of format) (story_at (origin_of c) s.known) (at_alone (origin_of c) s.known h))
 
-media_alone : (voice : Voice) (media : Media) (rate : ℕ) (c : Coming) (s : Sources) → HavePacketsAlone s → After (of_media voice media rate c s)
-media_alone voice Audio rate c s h = format_alone voice (audio_format rate c.packet.header.pt (length c.packet.payload)) c s h
-media_alone voice Video rate c s h = taken_alone voice video_rate (video_course c) c s (video_alone c) h (story_by video_rate (story_at (origin_of c) s.known)) (story_by_alone video_rate (story_at (origin_of c) s.known) (at_alone (origin_of c) s.known h))
+media_alone : (voice : Voice) (media : Media) (rate : ℕ) (c : Coming) (s : Sources) → HavePacketsAlone s
+    → After (of_media voice media rate c s)
+media_alone voice Audio rate c s h =
+    format_alone voice (audio_format rate c.packet.header.pt (length c.packet.payload)) c s h
+media_alone voice Video rate c s h =
+    taken_alone voice video_rate (video_course c) c s (video_alone c) h
+    (story_by video_rate (story_at (origin_of c) s.known))
+    (story_by_alone video_rate (story_at (origin_of c) s.known) (at_alone (origin_of c) s.known h))
 
-row_alone : (voice : Voice) (d : Desk) (row : Option Source) (c : Coming) (s : Sources) → HavePacketsAlone s → After (of_row voice d row c s)
+row_alone : (voice : Voice) (d : Desk) (row : Option Source) (c : Coming) (s : Sources) → HavePacketsAlone s
+    → After (of_row voice d row c s)
 row_alone voice d None c s h = h
 row_alone voice d (Some row) c s h = media_alone voice row.media (room_rate d row) c s h
 
 noted_alone : (from : Address) (moment : ℕ) (ks : List Known) (p : RtcpPacket) → All ks → All (noted from moment ks p)
-noted_alone from moment ks (Sender ssrc ntp ts packets octets blocks) h = retold_alone (record { address = from; ssrc = ssrc }) (heard_on (record { ntp = ntp; moment = moment })) (heard_alone _) ks h
+noted_alone from moment ks (Sender ssrc ntp ts packets octets blocks) h =
+    retold_alone (record { address = from; ssrc = ssrc }) (heard_on (record { ntp = ntp; moment = moment }))
+    (heard_alone _) ks h
 noted_alone from moment ks (Receiver ssrc blocks) h = h
 noted_alone from moment ks (Sdes chunks) h = h
 noted_alone from moment ks (Bye ssrcs reason) h = h
@@ -136,15 +163,19 @@ noted_alone from moment ks (Nack sender media words) h = h
 noted_alone from moment ks (Pli sender media) h = h
 noted_alone from moment ks (Other pt count body) h = h
 
-all_noted_alone : (from : Address) (moment : ℕ) (ks : List Known) (ps : List RtcpPacket) → All ks → All (noted_all from moment ks ps)
+all_noted_alone : (from : Address) (moment : ℕ) (ks : List Known) (ps : List RtcpPacket) → All ks
+    → All (noted_all from moment ks ps)
 all_noted_alone from moment ks [] h = h
-all_noted_alone from moment ks (p ∷ ps) h = all_noted_alone from moment (noted from moment ks p) ps (noted_alone from moment ks p h)
+all_noted_alone from moment ks (p ∷ ps) h =
+    all_noted_alone from moment (noted from moment ks p) ps (noted_alone from moment ks p h)
 
-member_alone : (member : Option ℕ) (from : Address) (moment : ℕ) (ps : List RtcpPacket) (s : Sources) → HavePacketsAlone s → After (of_member member from moment ps s)
+member_alone : (member : Option ℕ) (from : Address) (moment : ℕ) (ps : List RtcpPacket) (s : Sources)
+    → HavePacketsAlone s → After (of_member member from moment ps s)
 member_alone None from moment ps s h = h
 member_alone (Some member) from moment ps s h = all_noted_alone from moment s.known ps h
 
-pub datagram_alone : (voice : Voice) (d : Datagram) (r : Reading) (s : Sources) → HavePacketsAlone s → After (read_as voice d r s)
+pub datagram_alone : (voice : Voice) (d : Datagram) (r : Reading) (s : Sources) → HavePacketsAlone s
+    → After (read_as voice d r s)
 datagram_alone voice d too_long s h = h
 datagram_alone voice d neither s h = h
 datagram_alone voice d (no_packet fault) s h = h
@@ -156,8 +187,10 @@ datagram_alone voice d (compound packets) s h = member_alone (member_from d.desk
 
 renewed_at_alone : (ssrc : ℕ) (m : Option Member) (ks : List Known) → All ks → All (renewed_at ssrc m ks)
 renewed_at_alone ssrc None ks h = h
-renewed_at_alone ssrc (Some m) ks h = retold_alone (record { address = m.address; ssrc = ssrc }) renewed renewed_alone ks h
+renewed_at_alone ssrc (Some m) ks h =
+    retold_alone (record { address = m.address; ssrc = ssrc }) renewed renewed_alone ks h
 
 pub reports_alone : (d : Desk) (ks : List Known) (ss : List Source) → All ks → All (all_renewed d ks ss)
 reports_alone d ks [] h = h
-reports_alone d ks (s ∷ ss) h = reports_alone d (renewed_on d ks s) ss (renewed_at_alone s.ssrc (member_at d s.member) ks h)
+reports_alone d ks (s ∷ ss) h =
+    reports_alone d (renewed_on d ks s) ss (renewed_at_alone s.ssrc (member_at d s.member) ks h)

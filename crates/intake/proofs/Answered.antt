@@ -14,9 +14,16 @@ use Rattle.intake.specs.inner.Moves.{outcome_at, given}
 abbrev pub ingested : Outcome → List (Address × List ℕ) → List Input → Ingested
 ingested outcome up items = record { outcome = outcome; up = up; items = items }
 
-pub given_is : (voice : Voice) (c : Coming) (epoch : ℕ) (verdict : Verdict) (answer : Answer) (outcome : Outcome) (up : List (Address × List ℕ)) (items : List Input)
-    → outcome ≡ outcome_at verdict answer.place → up ≡ asked_of voice (origin_of c) answer.nacks (restarts verdict || answer.pli) → items ≡ frames_from (origin_of c) c.moment epoch answer.frames
+pub given_is : (voice : Voice) (c : Coming) (epoch : ℕ) (verdict : Verdict) (answer : Answer) (outcome : Outcome)
+    (up : List (Address × List ℕ)) (items : List Input)
+    → outcome ≡ outcome_at verdict answer.place
+    → up ≡ asked_of voice (origin_of c) answer.nacks (restarts verdict || answer.pli)
+    → items ≡ frames_from (origin_of c) c.moment epoch answer.frames
     → ◌≡◌ {A = Ingested} (record { outcome = outcome; up = up; items = items }) (given voice c epoch verdict answer)
 given_is voice c epoch verdict answer outcome up items o u i =
     ap (λ x. ingested x up items) o ∙ ap (λ x. ingested (outcome_at verdict answer.place) x items) u
-    ∙ ap (λ x. ingested (outcome_at verdict answer.place) (asked_of voice (origin_of c) answer.nacks (restarts verdict || answer.pli)) x) i
+    ∙ ap
+    (λ x.
+    ingested (outcome_at verdict answer.place)
+    (asked_of voice (origin_of c) answer.nacks (restarts verdict || answer.pli)) x)
+    i

@@ -1,13 +1,16 @@
 -- What is kept of a source stands to its story as before, with one more packet.
-use Rattle.std.proofs.Common.{◌≡◌, ℕ, ◌+◌, Bool, true, false, nat_eq, if◌then◌else◌, List, [], ◌∷◌, ◌++◌, Option, None, Some, refl, sym, ap, subst, ◌∙◌}
+use Rattle.std.proofs.Common.{◌≡◌, ℕ, ◌+◌, Bool, true, false, nat_eq, if◌then◌else◌, List, [], ◌∷◌, ◌++◌, Option, None}
+use Rattle.std.proofs.Common.{Some, refl, sym, ap, subst, ◌∙◌}
 use Rattle.source_valid.specs.Histories.{Number, standing_of}
 use Rattle.source_valid.specs.Represents.{Represents as IsGiven}
 use Rattle.source_valid.specs.declared.verdict.Verdict.{Verdict}
 use Rattle.frame_gate.specs.Packets.{NumberedPacket}
 use Rattle.frame_gate.specs.Watched.{GateEvent, came}
 use Rattle.frame_gate.specs.Admits.{Answers}
-use Rattle.intake.specs.Stories.{Story, Mark, untold, story_by, judged, begins, judged_on, initialises, arrival, gate_epoch}
-use Rattle.intake.specs.inner.Kept.{KeptOf, JudgedOf, AdmissionOf, HasGiven, HasGated, Keeps, Judges, Becomes, Admits, gate_in, gate_for, kept_by}
+use Rattle.intake.specs.Stories.{Story, Mark, untold, story_by, judged, begins, judged_on, initialises, arrival}
+use Rattle.intake.specs.Stories.{gate_epoch}
+use Rattle.intake.specs.inner.Kept.{KeptOf, JudgedOf, AdmissionOf, HasGiven, HasGated, Keeps, Judges, Becomes, Admits}
+use Rattle.intake.specs.inner.Kept.{gate_in, gate_for, kept_by}
 use Rattle.intake.specs.inner.Moves.{state_in, epoch_in, next_of}
 
 -- what is kept, if anything, of a source with this story, if it has one
@@ -22,25 +25,30 @@ pub record StandsAt (kept : Option KeptOf) (story : Story) : Type 0 where
   pub epoch : epoch_in kept ≡ story.epoch
   pub gated : HasGated (gate_in kept) story.gated
 
-stands_so : (rate : ℕ) (k : KeptOf) (story : Story) (b d : Bool) → b ≡ d → Keeps k story → StandsAt (if b then Some k else None) (if d then story else untold rate)
+stands_so : (rate : ℕ) (k : KeptOf) (story : Story) (b d : Bool) → b ≡ d → Keeps k story
+    → StandsAt (if b then Some k else None) (if d then story else untold rate)
 stands_so rate k story true true e h = record { given = h.given; epoch = h.epoch; gated = h.gated }
 stands_so rate k story false false e h = record { given = refl; epoch = refl; gated = refl }
 stands_so rate k story true false e h = cc
 stands_so rate k story false true e h = cc
 
-pub stands_at : (rate : ℕ) (kept : Option KeptOf) (story : Option Story) → KeepsAny kept story → StandsAt (kept_by rate kept) (story_by rate story)
+pub stands_at : (rate : ℕ) (kept : Option KeptOf) (story : Option Story) → KeepsAny kept story
+    → StandsAt (kept_by rate kept) (story_by rate story)
 stands_at rate None None h = record { given = refl; epoch = refl; gated = refl }
 stands_at rate None (Some story) h = absurd h
 stands_at rate (Some k) None h = absurd h
-stands_at rate (Some k) (Some story) h = stands_so rate k story (nat_eq k.rate rate) (nat_eq story.rate rate) (ap (λ r. nat_eq r rate) h.rate) h
+stands_at rate (Some k) (Some story) h =
+    stands_so rate k story (nat_eq k.rate rate) (nat_eq story.rate rate) (ap (λ r. nat_eq r rate) h.rate) h
 
-gated_by : (kept : Option KeptOf) (events : List GateEvent) (b : Bool) → HasGated (gate_in kept) events → HasGated (gate_for kept b) (if b then [] else events)
+gated_by : (kept : Option KeptOf) (events : List GateEvent) (b : Bool) → HasGated (gate_in kept) events
+    → HasGated (gate_for kept b) (if b then [] else events)
 gated_by None events true h = refl
 gated_by None events false h = h
 gated_by (Some k) events true h = refl
 gated_by (Some k) events false h = h
 
-module _ (kept : Option KeptOf) (story : Story) (epochs : ℕ) (m : Mark) (j : JudgedOf) (at : StandsAt kept story) (judges : Judges (state_in kept) m j) where
+module _ (kept : Option KeptOf) (story : Story) (epochs : ℕ) (m : Mark) (j : JudgedOf) (at : StandsAt kept story)
+    (judges : Judges (state_in kept) m j) where
   pub verdict_is : j.verdict ≡ judged story m.seq
   verdict_is = judges.verdict story.given at.given
 
@@ -48,15 +56,22 @@ module _ (kept : Option KeptOf) (story : Story) (epochs : ℕ) (m : Mark) (j : J
   begins_is = judges.begins story.given at.given ∙ ap (initialises (standing_of story.given)) verdict_is
 
   pub given_is : IsGiven j.source (judged_on story epochs m).given
-  given_is = subst (λ (v : Verdict). IsGiven j.source (story.given ++ Number m.seq ∷ arrival v m)) verdict_is (judges.given story.given at.given)
+  given_is =
+      subst (λ (v : Verdict). IsGiven j.source (story.given ++ Number m.seq ∷ arrival v m)) verdict_is
+      (judges.given story.given at.given)
 
   pub epoch_is : (a : Option AdmissionOf) → (next_of kept epochs j a).epoch ≡ (judged_on story epochs m).epoch
-  epoch_is a = ap (λ b. if b then epochs + 1 else epoch_in kept) begins_is ∙ ap (λ e. if begins story m.seq then epochs + 1 else e) at.epoch
+  epoch_is a =
+      ap (λ b. if b then epochs + 1 else epoch_in kept) begins_is
+      ∙ ap (λ e. if begins story m.seq then epochs + 1 else e) at.epoch
 
   pub gated_is : HasGated (gate_for kept j.begins) (judged_on story epochs m).gated
-  gated_is = subst (λ b. HasGated (gate_for kept j.begins) (if b then [] else story.gated)) begins_is (gated_by kept story.gated j.begins at.gated)
+  gated_is =
+      subst (λ b. HasGated (gate_for kept j.begins) (if b then [] else story.gated)) begins_is
+      (gated_by kept story.gated j.begins at.gated)
 
-  pub keeps_plain : (new : KeptOf) → Becomes kept (next_of kept epochs j None) new → Keeps new (judged_on story epochs m)
+  pub keeps_plain : (new : KeptOf) → Becomes kept (next_of kept epochs j None) new
+      → Keeps new (judged_on story epochs m)
   keeps_plain new becomes = record {
     rate = becomes.rate ∙ judges.rate;
     given = subst (λ x. IsGiven x (judged_on story epochs m).given) (sym becomes.source) given_is;
@@ -66,11 +81,23 @@ module _ (kept : Option KeptOf) (story : Story) (epochs : ℕ) (m : Mark) (j : J
 
   -- the story with the packet at the gate
   abbrev pub with_packet : NumberedPacket → Story
-  with_packet p = record { rate = m.rate; given = (judged_on story epochs m).given; epoch = (judged_on story epochs m).epoch; gated = (judged_on story epochs m).gated ++ came p ∷ [] }
+  with_packet p =
+      record {
+        rate = m.rate;
+        given = (judged_on story epochs m).given;
+        epoch = (judged_on story epochs m).epoch;
+        gated = (judged_on story epochs m).gated ++ came p ∷ [];
+      }
 
-  module _ (p : NumberedPacket) (a : AdmissionOf) (new : KeptOf) (admits : Admits (gate_for kept j.begins) p a) (becomes : Becomes kept (next_of kept epochs j (Some a)) new) where
-    both : Answers (gate_epoch (judged_on story epochs m)) p a.prepared.prepared.answer × HasGated new.gate (with_packet p).gated
-    both = let settles = becomes.gate in let told = admits.after (judged_on story epochs m).gated settles.base settles.gate gated_is settles.before settles.commits in
+  module _ (p : NumberedPacket) (a : AdmissionOf) (new : KeptOf) (admits : Admits (gate_for kept j.begins) p a)
+      (becomes : Becomes kept (next_of kept epochs j (Some a)) new) where
+    both : Answers (gate_epoch (judged_on story epochs m)) p a.prepared.prepared.answer
+        × HasGated new.gate (with_packet p).gated
+    both =
+        let settles = becomes.gate in
+        let told =
+        admits.after (judged_on story epochs m).gated settles.base settles.gate gated_is settles.before
+        settles.commits in
         (told.0, subst (λ g. HasGated g (with_packet p).gated) (sym settles.now) told.1)
 
     pub answers_is : Answers (gate_epoch (judged_on story epochs m)) p a.prepared.prepared.answer

@@ -13,7 +13,9 @@ module _ {K X : Type 0} (test : K → Bool) where
   pub found : (es : List (K × X)) (v : X) → lookup test es ≡ Some v → Found es v
   found [] v h = cc
   found (e ∷ es) v h = (elim (test e.0) as (λ y. test e.0 ≡ y → Found (e ∷ es) v) [
-    | true ↦ λ t. let h' = rw t at h in let same : e.1 ≡ v = cc in record { key = e.0; entry = rw t (ap (λ x. Some (e.0, x)) same); passes = t }
+    | true ↦ λ t.
+        let h' = rw t at h in
+        let same : e.1 ≡ v = cc in record { key = e.0; entry = rw t (ap (λ x. Some (e.0, x)) same); passes = t }
     | false ↦ λ t. let on = found es v (rw t at h) in record { key = on.key; entry = rw t on.entry; passes = on.passes }
   ]) refl
 

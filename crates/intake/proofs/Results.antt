@@ -1,7 +1,8 @@
 -- Facts of a good result, put together.
 use Rattle.std.proofs.Common.{Result, Ok, Err, IfOk, OnOk}
 
-pub with_fact : {T E P : Type 0} {Q R : T → Type 0} (r : Result T E) → OnOk r P → IfOk r Q → ((x : T) → P → Q x → R x) → IfOk r R
+pub with_fact : {T E P : Type 0} {Q R : T → Type 0} (r : Result T E) → OnOk r P → IfOk r Q → ((x : T) → P → Q x → R x)
+    → IfOk r R
 with_fact (Ok x) p q f = f x p q
 with_fact (Err e) p q f = tt
 

@@ -1,5 +1,6 @@
 -- The items that a datagram makes have no more and no fewer samples than they may.
-use Rattle.std.proofs.Common.{◌≡◌, ℕ, ◌-◌, ◌*◌, ◌/◌, ◌%◌, ◌≤◌, true, false, ◌&&◌, nat_eq, nat_le, List, [], ◌∷◌, ◌++◌, length, map, refl, ap, ◌∙◌, arith}
+use Rattle.std.proofs.Common.{◌≡◌, ℕ, ◌-◌, ◌*◌, ◌/◌, ◌%◌, ◌≤◌, true, false, ◌&&◌, nat_eq, nat_le, List, [], ◌∷◌, ◌++◌}
+use Rattle.std.proofs.Common.{length, map, refl, ap, ◌∙◌, arith}
 use Rattle.std.specs.List.{list_all, flat_map}
 use Rattle.std.proofs.lemmas.List.{length-map}
 use Rattle.std.proofs.lemmas.Bool.{and_parts, le-leb, leb-true, eqb-true, eqb-false}
@@ -17,11 +18,13 @@ use Rattle.intake.specs.Sources.{Origin}
 use Rattle.intake.specs.Media.{Coming, frames_from, samples_of_packet, sound_of}
 use Rattle.intake.specs.Control.{asks, block_item}
 
-pub sized_frames : (o : Origin) (moment epoch : ℕ) (frames : List WholeFrame) → list_all is_sized (frames_from o moment epoch frames) ≡ true
+pub sized_frames : (o : Origin) (moment epoch : ℕ) (frames : List WholeFrame)
+    → list_all is_sized (frames_from o moment epoch frames) ≡ true
 sized_frames o moment epoch [] = refl
 sized_frames o moment epoch (f ∷ frames) = sized_frames o moment epoch frames
 
-sized_blocks : (from : Address) (blocks : List ReportBlock) (rest : List Input) → list_all is_sized rest ≡ true → list_all is_sized (map (block_item from) blocks ++ rest) ≡ true
+sized_blocks : (from : Address) (blocks : List ReportBlock) (rest : List Input) → list_all is_sized rest ≡ true
+    → list_all is_sized (map (block_item from) blocks ++ rest) ≡ true
 sized_blocks from [] rest h = h
 sized_blocks from (b ∷ blocks) rest h = sized_blocks from blocks rest h
 
@@ -47,26 +50,33 @@ halves (x ∷ y ∷ octets) n e =
 between : (most n : ℕ) → 1 ≤ n → n ≤ most → (nat_le 1 n && nat_le n most) ≡ true
 between most n low high = ap (λ b. b && nat_le n most) (le-leb 1 n low) ∙ le-leb n most high
 
-halved : (most : ℕ) (payload : List ℕ) → (nat_eq (length payload % 2) 0 && nat_le (length payload) (2 * most)) ≡ true → nat_eq (length payload) 0 ≡ false
+halved : (most : ℕ) (payload : List ℕ) → (nat_eq (length payload % 2) 0 && nat_le (length payload) (2 * most)) ≡ true
+    → nat_eq (length payload) 0 ≡ false
     → (nat_le 1 (length (samples_of payload)) && nat_le (length (samples_of payload)) most) ≡ true
 halved most payload whole some =
     let octets = and_parts (nat_eq (length payload % 2) 0) (nat_le (length payload) (2 * most)) whole in
     let even = eqb-true (length payload % 2) 0 octets.0 in
     let high = leb-true (length payload) (2 * most) octets.1 in
-    rw (halves payload (length payload / 2) (omega (arith, even))) (between most (length payload / 2) (omega (arith, even, eqb-false (length payload) 0 some)) (omega (arith, high)))
+    rw (halves payload (length payload / 2) (omega (arith, even)))
+    (between most (length payload / 2) (omega (arith, even, eqb-false (length payload) 0 some)) (omega (arith, high)))
 
 -- audio that isn't empty has a sample, and no more than it may
-pub sized_samples : (format : Format) (payload : List ℕ) → holds_whole format (length payload) ≡ true → nat_eq (length payload) 0 ≡ false
-    → (nat_le 1 (length (samples_of_packet format payload)) && nat_le (length (samples_of_packet format payload)) (most_of format)) ≡ true
+pub sized_samples : (format : Format) (payload : List ℕ) → holds_whole format (length payload) ≡ true
+    → nat_eq (length payload) 0 ≡ false
+    → (nat_le 1 (length (samples_of_packet format payload))
+    && nat_le (length (samples_of_packet format payload)) (most_of format))
+    ≡ true
 sized_samples Pcmu payload whole some =
     let parts = and_parts (nat_eq (length payload % 1) 0) (nat_le (length payload) 1600) whole in
     let high = leb-true (length payload) 1600 parts.1 in
-    rw (length-map payload decoded) (between 1600 (length payload) (omega (arith, eqb-false (length payload) 0 some)) high)
+    rw (length-map payload decoded)
+    (between 1600 (length payload) (omega (arith, eqb-false (length payload) 0 some)) high)
 sized_samples L16At8000 payload whole some = halved 1600 payload whole some
 sized_samples L16At44100 payload whole some = halved 8820 payload whole some
 
 -- L16 has an even number of octets
-pub even_octets : (octets : ℕ) → (holds_whole L16At8000 octets ≡ true → octets % 2 ≡ 0) × (holds_whole L16At44100 octets ≡ true → octets % 2 ≡ 0)
+pub even_octets : (octets : ℕ)
+    → (holds_whole L16At8000 octets ≡ true → octets % 2 ≡ 0) × (holds_whole L16At44100 octets ≡ true → octets % 2 ≡ 0)
 even_octets octets = (
   (λ whole. eqb-true (octets % 2) 0 (and_parts (nat_eq (octets % 2) 0) (nat_le octets 3200) whole).0),
   (λ whole. eqb-true (octets % 2) 0 (and_parts (nat_eq (octets % 2) 0) (nat_le octets 17640) whole).0),
@@ -82,8 +92,12 @@ rate_fits Pcmu = omega arith
 rate_fits L16At8000 = omega arith
 rate_fits L16At44100 = omega arith
 
-pub sized_sound : (format : Format) (c : Coming) → holds_whole format (length c.packet.payload) ≡ true → list_all is_sized (sound_of format c) ≡ true
-sized_sound format c whole = (elim (nat_eq (length c.packet.payload) 0) as (λ b. nat_eq (length c.packet.payload) 0 ≡ b → list_all is_sized (sound_of format c) ≡ true) [
-  | true ↦ λ is. rw is refl
-  | false ↦ λ is. rw is (rw (rate_known format) (ap (λ b. b && true) (sized_samples format c.packet.payload whole is)))
-]) refl
+pub sized_sound : (format : Format) (c : Coming) → holds_whole format (length c.packet.payload) ≡ true
+    → list_all is_sized (sound_of format c) ≡ true
+sized_sound format c whole =
+    (elim (nat_eq (length c.packet.payload) 0)
+    as (λ b. nat_eq (length c.packet.payload) 0 ≡ b → list_all is_sized (sound_of format c) ≡ true) [
+      | true ↦ λ is. rw is refl
+      | false ↦ λ is.
+          rw is (rw (rate_known format) (ap (λ b. b && true) (sized_samples format c.packet.payload whole is)))
+    ]) refl

@@ -16,13 +16,15 @@ told_at_no_gate Jump = refl
 told_at_no_gate (Restarted ext) = refl
 
 pub initialises_if : (standing : Standing) (verdict : Verdict)
-    → (restarts verdict || (is_some (accepted verdict) && not (past_probation_in standing))) ≡ initialises standing verdict
+    → (restarts verdict || (is_some (accepted verdict) && not (past_probation_in standing)))
+    ≡ initialises standing verdict
 initialises_if standing Probation = refl
 initialises_if standing (Accepted ext) = refl
 initialises_if standing Jump = refl
 initialises_if standing (Restarted ext) = refl
 
-pub arrives : (verdict : Verdict) (mark : Mark) → is_some (accepted verdict) ≡ true → arrival verdict mark ≡ Arrival mark.ts mark.units ∷ []
+pub arrives : (verdict : Verdict) (mark : Mark) → is_some (accepted verdict) ≡ true
+    → arrival verdict mark ≡ Arrival mark.ts mark.units ∷ []
 arrives (Accepted ext) mark is = refl
 arrives (Restarted ext) mark is = refl
 arrives Probation mark is = absurd (cc (is))

@@ -16,7 +16,8 @@ block_item from b = Input.block (record { from = from; block = b })
 
 -- the items that a packet makes: each report block is one, so is a NACK, so is a PLI
 abbrev pub asks : Address → Packet → List Input
-asks from (Nack sender media words) = Input.nack (record { from = from; out_ssrc = media; numbers = asked_in (Nack sender media words) }) ∷ []
+asks from (Nack sender media words) =
+    Input.nack (record { from = from; out_ssrc = media; numbers = asked_in (Nack sender media words) }) ∷ []
 asks from (Sender ssrc ntp ts packets octets blocks) = map (block_item from) blocks
 asks from (Receiver ssrc blocks) = map (block_item from) blocks
 asks from (Sdes chunks) = []
@@ -28,11 +29,14 @@ asks from (Other pt count body) = []
 -- a source past probation is given the sender report
 abbrev pub heard_on : Heard → Story → Story
 heard_on heard story =
-    if past_probation_in (standing_of story.given) then record { rate = story.rate; given = story.given ++ Noted heard ∷ []; epoch = story.epoch; gated = story.gated } else story
+    if past_probation_in (standing_of story.given)
+    then record { rate = story.rate; given = story.given ++ Noted heard ∷ []; epoch = story.epoch; gated = story.gated }
+    else story
 
 -- the sources after a packet: a sender report is noted at the source that is known at this address under its SSRC
 abbrev pub noted : Address → ℕ → List Known → Packet → List Known
-noted from moment known (Sender ssrc ntp ts packets octets blocks) = retold (record { address = from; ssrc = ssrc }) (heard_on (record { ntp = ntp; moment = moment })) known
+noted from moment known (Sender ssrc ntp ts packets octets blocks) =
+    retold (record { address = from; ssrc = ssrc }) (heard_on (record { ntp = ntp; moment = moment })) known
 noted from moment known (Receiver ssrc blocks) = known
 noted from moment known (Sdes chunks) = known
 noted from moment known (Bye ssrcs reason) = known

@@ -18,18 +18,22 @@ pub record Knows (i : IntakeOf) (s : Sources) : Type 0 where
 -- Whatever sources the old intake knew, this is what happens there: the answer, and the sources that the new one knows.
 abbrev pub Moves : IntakeOf → IntakeOf → Ingested → (Voice → Sources → Ingested × Sources) → Type 0
 Moves old new ingested happens =
-    (voice : Voice) (s : Sources) → IsVoice voice → voice.asker ≡ old.asker → Knows old s → (ingested ≡ (happens voice s).0) × Knows new (happens voice s).1
+    (voice : Voice) (s : Sources) → IsVoice voice → voice.asker ≡ old.asker → Knows old s
+    → (ingested ≡ (happens voice s).0) × Knows new (happens voice s).1
 
 -- Whatever sources the old intake knew, and whatever a datagram's octets are, this is the answer to it.
 abbrev pub TakesIn : IntakeOf → IntakeOf → Ingested → List ℕ → (Reading → Datagram) → Type 0
 TakesIn old new ingested octets datagram =
     (r : Reading) → IsReading octets r → Moves old new ingested (λ voice s. taken_in voice s (datagram r))
 
--- Whatever sources the old intake knew, these are the reports on them to their senders, and the new one knows them with their new intervals.
+-- Whatever sources the old intake knew, these are the reports on them to their senders, and the new one knows them with
+-- their new intervals.
 abbrev pub TellsSenders : IntakeOf → IntakeOf → List (Address × List ℕ) → Desk → ℕ → Type 0
 TellsSenders old new told desk moment =
-    (s : Sources) → Knows old s → (told ≡ (reported old.asker desk moment s).0) × Knows new (reported old.asker desk moment s).1
+    (s : Sources) → Knows old s
+    → (told ≡ (reported old.asker desk moment s).0) × Knows new (reported old.asker desk moment s).1
 
--- Whatever sources the old intake knew, this is the answer to a wait of a source, and the new one knows the sources after it.
+-- Whatever sources the old intake knew, this is the answer to a wait of a source, and the new one knows the sources
+-- after it.
 abbrev pub WaitsFor : IntakeOf → IntakeOf → Ingested → Desk → Origin → (moment : ℕ) → Type 0
 WaitsFor old new answered desk o moment = Moves old new answered (λ voice s. waited_for voice desk o moment s)

@@ -1,5 +1,6 @@
 -- What a media packet does for its source (audio: RFC 3551 sections 4.5.11 and 4.5.14; its limits are own).
-use Rattle.std.specs.Prelude.{ℕ, ℤ, Bool, true, false, ◌||◌, nat_eq, if◌then◌else◌, List, [], ◌∷◌, ◌++◌, length, drop, map, Option, None, Some, is_some}
+use Rattle.std.specs.Prelude.{ℕ, ℤ, Bool, true, false, ◌||◌, nat_eq, if◌then◌else◌, List, [], ◌∷◌, ◌++◌, length, drop}
+use Rattle.std.specs.Prelude.{map, Option, None, Some, is_some}
 use Rattle.rtp_codec.specs.declared.address.Address.{Address}
 use Rattle.rtp_codec.specs.Packet.{Packet}
 use Rattle.source_valid.specs.declared.verdict.Verdict.{Verdict}
@@ -34,7 +35,8 @@ origin_of c = record { address = c.from; ssrc = c.packet.header.ssrc }
 
 -- as a source of this clock rate judges it
 abbrev pub mark_of : ℕ → Coming → Mark
-mark_of rate c = record { rate = rate; seq = c.packet.header.seq; ts = c.packet.header.ts; units = units_of rate c.moment }
+mark_of rate c =
+    record { rate = rate; seq = c.packet.header.seq; ts = c.packet.header.ts; units = units_of rate c.moment }
 
 -- this format, where a payload of so many octets has whole samples, and no more than it may
 abbrev pub holding : ℕ → Option Format → Option Format
@@ -45,7 +47,8 @@ holding octets (Some format) = if holds_whole format octets then Some format els
 abbrev pub audio_format : (rate pt octets : ℕ) → Option Format
 audio_format rate pt octets = holding octets (format_of_packet pt rate)
 
--- what a packet does for its source: the outcome and the source's story, the items that it makes, the numbers that are newly missing, and whether a picture is lost
+-- what a packet does for its source: the outcome and the source's story, the items that it makes, the numbers that are
+-- newly missing, and whether a picture is lost
 pub record Course : Type 0 where
   pub outcome : Outcome
   pub story : Story
@@ -84,7 +87,8 @@ placed ext Duplicate = outcomes.Duplicate ext
 
 -- a frame of a source's epoch as an item, which came at this moment
 abbrev pub frame_item : Origin → (moment epoch : ℕ) → WholeFrame → Input
-frame_item o moment epoch f = Input.frame (record { source = o.ssrc; address = o.address; epoch = epoch; moment = moment; frame = f })
+frame_item o moment epoch f =
+    Input.frame (record { source = o.ssrc; address = o.address; epoch = epoch; moment = moment; frame = f })
 
 -- whole frames as items, in order
 abbrev pub frames_from : Origin → (moment epoch : ℕ) → List WholeFrame → List Input
@@ -100,12 +104,14 @@ gated_with c p outcome anew story = record {
   pli = anew || gives_up (gate_epoch story) p;
 }
 
--- what a video packet does, by its verdict: nothing but the verdict on probation and at a jump, else what its gate gives
+-- what a video packet does, by its verdict: nothing but the verdict on probation and at a jump, else what its gate
+-- gives
 abbrev pub video_course : Coming → Verdict → Story → Course
 video_course c Probation story = plain Probation story
 video_course c (Accepted ext) story = gated_with c (numbered ext (gate_packet c.packet)) (placed ext) false story
 video_course c Jump story = plain Jump story
-video_course c (Restarted ext) story = gated_with c (numbered ext (gate_packet c.packet)) (λ place. outcomes.Restarted ext) true story
+video_course c (Restarted ext) story =
+    gated_with c (numbered ext (gate_packet c.packet)) (λ place. outcomes.Restarted ext) true story
 
 -- the samples of a payload of this format: PCMU by its octets, L16 by two octets each
 abbrev pub samples_of_packet : Format → List ℕ → List ℤ

@@ -14,7 +14,8 @@ use Rattle.rtcp_codec.specs.Packet.{Packet as RtcpPacket}
 abbrev pub most_octets : ℕ
 most_octets = 8192
 
--- a datagram that is too long, one that is neither RTP nor RTCP, no packet for this reason or a packet, no compound for this reason or a compound
+-- a datagram that is too long, one that is neither RTP nor RTCP, no packet for this reason or a packet, no compound for
+-- this reason or a compound
 pub data Reading : Type 0 where
   too_long : Reading
   neither : Reading

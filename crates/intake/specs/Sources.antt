@@ -42,11 +42,13 @@ abbrev pub without : Origin → List Known → List Known
 without origin [] = []
 without origin (k ∷ ks) = if same_origin origin k.origin then ks else k ∷ without origin ks
 
--- before the others, if it is one of them; a new one takes the place of the least recently used one, if there are as many as may be
+-- before the others, if it is one of them; a new one takes the place of the least recently used one, if there are as
+-- many as may be
 abbrev pub used : Known → List Known → List Known
 used k ks = if is_some (story_at k.origin ks) then k ∷ without k.origin ks else k ∷ take (most_known - 1) ks
 
 -- with this story of a source, wherever it stands
 abbrev pub retold : Origin → (Story → Story) → List Known → List Known
 retold origin f [] = []
-retold origin f (k ∷ ks) = if same_origin origin k.origin then record { origin = k.origin; story = f k.story } ∷ ks else k ∷ retold origin f ks
+retold origin f (k ∷ ks) =
+    if same_origin origin k.origin then record { origin = k.origin; story = f k.story } ∷ ks else k ∷ retold origin f ks

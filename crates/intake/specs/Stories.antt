@@ -1,12 +1,14 @@
 -- What a source was given since it became known, and how a packet is judged by that (RFC 3550 A.1 and A.8).
-use Rattle.std.specs.Prelude.{ℕ, ◌+◌, ◌*◌, ◌/◌, ◌^◌, ◌%◌, Bool, true, false, not, nat_eq, if◌then◌else◌, List, [], ◌∷◌, ◌++◌, Option, None, Some}
+use Rattle.std.specs.Prelude.{ℕ, ◌+◌, ◌*◌, ◌/◌, ◌^◌, ◌%◌, Bool, true, false, not, nat_eq, if◌then◌else◌, List, [], ◌∷◌}
+use Rattle.std.specs.Prelude.{◌++◌, Option, None, Some}
 use Rattle.source_valid.specs.declared.verdict.Verdict.{Verdict}
 use Rattle.source_valid.specs.declared.verdict.Verdict.TheVariants.{Probation, Accepted, Jump, Restarted}
 use Rattle.source_valid.specs.Histories.{Step, Number, Arrival, Standing, standing_of, verdict_of, past_probation_in}
 use Rattle.frame_gate.specs.Epochs.{Epoch}
 use Rattle.frame_gate.specs.Watched.{GateEvent, watch_of}
 
--- the clock rate of a source in Hz, what it was given, its epoch, or 0 before its first one, and what came to its gate in this epoch: packets, and waits after the first packet
+-- the clock rate of a source in Hz, what it was given, its epoch, or 0 before its first one, and what came to its gate
+-- in this epoch: packets, and waits after the first packet
 pub record Story : Type 0 where
   pub rate : ℕ
   pub given : List Step
@@ -21,12 +23,14 @@ untold rate = record { rate = rate; given = []; epoch = 0; gated = [] }
 abbrev pub gate_epoch : Story → Epoch
 gate_epoch story = (watch_of story.gated).epoch
 
--- the story of a source by which a packet of this clock rate is judged: the story at another rate is dropped, and the source begins anew (own)
+-- the story of a source by which a packet of this clock rate is judged: the story at another rate is dropped, and the
+-- source begins anew (own)
 abbrev pub story_by : (rate : ℕ) → Option Story → Story
 story_by rate None = untold rate
 story_by rate (Some story) = if nat_eq story.rate rate then story else untold rate
 
--- a packet as its source judges it: the clock rate in Hz, its sequence number and timestamp, and its arrival in units of the clock rate
+-- a packet as its source judges it: the clock rate in Hz, its sequence number and timestamp, and its arrival in units
+-- of the clock rate
 pub record Mark : Type 0 where
   pub rate : ℕ
   pub seq : ℕ

@@ -1,5 +1,6 @@
 -- The answer to a datagram, and what is known of sources after it: the first outcome that holds (own).
-use Rattle.std.specs.Prelude.{ℕ, ℤ, ◌+◌, ◌-◌, ◌<◌, ◌^◌, Bool, true, not, ◌&&◌, nat_eq, if◌then◌else◌, List, [], ◌∷◌, length, map, Option, None, Some, unwrap_or}
+use Rattle.std.specs.Prelude.{ℕ, ℤ, ◌+◌, ◌-◌, ◌<◌, ◌^◌, Bool, true, not, ◌&&◌, nat_eq, if◌then◌else◌, List, [], ◌∷◌}
+use Rattle.std.specs.Prelude.{length, map, Option, None, Some, unwrap_or}
 use Rattle.std.specs.List.{flat_map, AllByRecursion}
 use Rattle.rtp_codec.specs.declared.address.Address.{Address}
 use Rattle.rtcp_codec.specs.declared.nack.NackWord.{NackWord}
@@ -13,7 +14,8 @@ use Rattle.desk_rows.specs.declared.row.Media.TheVariants.{Audio, Video}
 use Rattle.desk_rows.specs.declared.row.Source.{Source}
 use Rattle.topology.specs.Looking.{source_from, member_from, rate_of as rate_of_member}
 use Rattle.upward.specs.Upstream.{Asker, seq_of, upstream_packets}
-use Rattle.intake.specs.declared.outcome.Outcome.TheVariants.{TooLong, Neither, BadRtp, BadRtcp, Unknown, BadPayload, Spent, Rtcp}
+use Rattle.intake.specs.declared.outcome.Outcome.TheVariants.{TooLong, Neither, BadRtp, BadRtcp, Unknown, BadPayload}
+use Rattle.intake.specs.declared.outcome.Outcome.TheVariants.{Spent, Rtcp}
 use Rattle.intake.specs.Readings.{Reading, too_long, neither, no_packet, packet, no_compound, compound}
 use Rattle.intake.specs.Stories.{Story, story_by, judged, begins, judged_on}
 use Rattle.intake.specs.Sources.{Origin, Sources, story_at, used}
@@ -52,7 +54,8 @@ asking voice source nacks pli = written (upstream_packets voice.asker source (vo
 
 -- what is sent to a source whose packets are missing, or whose picture is lost
 abbrev pub asked_of : Voice → Origin → List ℤ → Bool → List (Address × List ℕ)
-asked_of voice o nacks pli = if nat_eq (length nacks) 0 && not pli then [] else (o.address, asking voice o.ssrc nacks pli) ∷ []
+asked_of voice o nacks pli =
+    if nat_eq (length nacks) 0 && not pli then [] else (o.address, asking voice o.ssrc nacks pli) ∷ []
 
 -- the datagram that asks a source for a picture, and for nothing else (RFC 4585 section 6.3.1)
 abbrev pub picture_request : Asker → Origin → Address × List ℕ
@@ -79,14 +82,16 @@ taken_by voice rate course_of c s story =
     if begins story (mark_of rate c).seq && nat_eq s.epochs most_epochs then (only Spent, s)
     else (
       answer_of voice c (course_of (judged story (mark_of rate c).seq) (judged_on story s.epochs (mark_of rate c))),
-      sources_after c (begins story (mark_of rate c).seq) (course_of (judged story (mark_of rate c).seq) (judged_on story s.epochs (mark_of rate c))) s,
+      sources_after c (begins story (mark_of rate c).seq)
+          (course_of (judged story (mark_of rate c).seq) (judged_on story s.epochs (mark_of rate c))) s,
     )
 
 -- its source takes the packet
 abbrev pub sourced : Voice → ℕ → (Verdict → Story → Course) → Coming → Sources → Ingested × Sources
 sourced voice rate course_of c s = taken_by voice rate course_of c s (story_by rate (story_at (origin_of c) s.known))
 
--- the clock rate of audio in the room of a source's member, in Hz; 8000 where there is no such member, which no good desk has
+-- the clock rate of audio in the room of a source's member, in Hz; 8000 where there is no such member, which no good
+-- desk has
 abbrev pub room_rate : Desk → Source → ℕ
 room_rate d row = unwrap_or (rate_of_member d row.member) 8000
 
@@ -121,7 +126,8 @@ read_as voice d too_long s = (only TooLong, s)
 read_as voice d neither s = (only Neither, s)
 read_as voice d (no_packet fault) s = (only (BadRtp fault), s)
 read_as voice d (packet p) s =
-    of_row voice d.desk (source_from d.desk p.header.ssrc d.from) (record { from = d.from; moment = d.moment; packet = p }) s
+    of_row voice d.desk (source_from d.desk p.header.ssrc d.from)
+    (record { from = d.from; moment = d.moment; packet = p }) s
 read_as voice d (no_compound fault) s = (only (BadRtcp fault), s)
 read_as voice d (compound packets) s = of_member (member_from d.desk d.from) d.from d.moment packets s
 

@@ -1,4 +1,5 @@
--- What a wait does: time passes for a source, and nothing comes (RFC 4585 sections 6.2.1 and 6.3.1; what is asked for again, and what is given up, is own).
+-- What a wait does: time passes for a source, and nothing comes (RFC 4585 sections 6.2.1 and 6.3.1; what is asked for
+-- again, and what is given up, is own).
 use Rattle.std.specs.Prelude.{ℕ, ℤ, List, [], ◌∷◌, ◌++◌, length, drop, map, filter, Option, None, Some, is_some}
 use Rattle.frame_gate.specs.Packets.{ext_of}
 use Rattle.frame_gate.specs.Frame.{WholeFrame}
@@ -34,7 +35,8 @@ with_wait (e ∷ events) = e ∷ (events ++ wait ∷ [])
 abbrev pub waited_on : Story → Story
 waited_on story = record story { gated = with_wait story.gated }
 
--- the answer to a wait at a gate: a request for what is asked for again and for a picture where a number was given up, and the freed frames; as a datagram of an unknown source, it earns nothing
+-- the answer to a wait at a gate: a request for what is asked for again and for a picture where a number was given up,
+-- and the freed frames; as a datagram of an unknown source, it earns nothing
 abbrev pub wait_at : Voice → Origin → (moment epoch : ℕ) → Watch → Ingested
 wait_at voice o moment epoch w = record {
   outcome = Unknown;
@@ -49,7 +51,8 @@ wait_in voice o moment (Some story) = wait_at voice o moment story.epoch (watch_
 
 -- a wait of a video source, and the sources after it, in the same order
 abbrev pub video_waited : Voice → Origin → (moment : ℕ) → Sources → Ingested × Sources
-video_waited voice o moment s = (wait_in voice o moment (story_at o s.known), record s { known = retold o waited_on s.known })
+video_waited voice o moment s =
+    (wait_in voice o moment (story_at o s.known), record s { known = retold o waited_on s.known })
 
 -- a wait by what the source sends; audio has no gate
 abbrev pub waited_by : Voice → Media → Origin → (moment : ℕ) → Sources → Ingested × Sources

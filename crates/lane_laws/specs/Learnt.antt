@@ -71,8 +71,8 @@ handled answers taken [] (e ∷ es) ended = []
 handled answers taken (p ∷ ps) [] ended = []
 handled answers taken (p ∷ ps) (e ∷ es) ended = map versioned ended.0.ran.served ∷ handled answers taken ps es ended.1
 
--- The lanes of one bridge have ended beside this log: the log is legal, some lists lead to its desks, and what each entry
--- of a lane saw is a beginning of these lists.
+-- The lanes of one bridge have ended beside this log: the log is legal, some lists lead to its desks, and what each
+-- entry of a lane saw is a beginning of these lists.
 pub record EndedAfter {N P S : Type 0} (answers : P → ℕ → Bool → Type 0) (taken : Taking S) (start : Desk)
     (log : List EntryOf) (ports : List (PortOf P S)) (ends : List (LaneEnd N S)) : Type 0 where
   pub first : good start ≡ true

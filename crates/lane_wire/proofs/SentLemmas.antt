@@ -1,5 +1,6 @@
 -- One datagram that was sent, or none.
-use Rattle.std.proofs.Common.{◌≡◌, ◌≤◌, ◌+◌, ◌∙◌, ℕ, Bool, List, [], ◌∷◌, ◌++◌, length, Result, Err, refl, ap, sym, arith, append-nil}
+use Rattle.std.proofs.Common.{◌≡◌, ◌≤◌, ◌+◌, ◌∙◌, ℕ, Bool, List, [], ◌∷◌, ◌++◌, length, Result, Err, refl, ap, sym}
+use Rattle.std.proofs.Common.{arith, append-nil}
 use Rattle.rtp_codec.specs.declared.address.Address.{Address}
 use Rattle.lane_wire.specs.declared.fault.SendFault.{SendFault}
 use Rattle.lane_wire.specs.declared.fault.SendFault.TheVariants.{NotReady}
@@ -9,7 +10,8 @@ use Rattle.lane_wire.specs.Counted.{after_pauses, after_answer}
 use Rattle.lane_wire.specs.Sendings.{Sending, SentSoFar, patience, is_unready, steps_for, octets_together, WereSent}
 
 -- the one datagram of these was sent
-pub sent_one : (datagrams : List (Address × List ℕ)) (pauses : ℕ) (answer : Result (Unit {0}) SendFault) (old new : SentSoFar)
+pub sent_one : (datagrams : List (Address × List ℕ)) (pauses : ℕ) (answer : Result (Unit {0}) SendFault)
+    (old new : SentSoFar)
     → length datagrams ≡ 1
     → new.steps ≡ old.steps ++ (unready datagrams pauses ++ all_tried datagrams answer)
     → pauses ≤ patience old.is_stuck → (answer ≡ Err NotReady → pauses ≡ patience old.is_stuck)
@@ -30,8 +32,10 @@ sent_one (d ∷ []) pauses answer old new one steps few limit counts stuck =
     }
 
 -- of no datagrams nothing is done
-pub sent_none : (datagrams : List (Address × List ℕ)) (steps : List WireStep) (counts : SendCounts) (is_stuck : Bool) → datagrams ≡ []
-    → WereSent datagrams (record { steps = steps; counts = counts; is_stuck = is_stuck }) (record { steps = steps; counts = counts; is_stuck = is_stuck })
+pub sent_none : (datagrams : List (Address × List ℕ)) (steps : List WireStep) (counts : SendCounts) (is_stuck : Bool)
+    → datagrams ≡ []
+    → WereSent datagrams (record { steps = steps; counts = counts; is_stuck = is_stuck })
+    (record { steps = steps; counts = counts; is_stuck = is_stuck })
 sent_none datagrams steps counts is_stuck none = record {
   sendings = [];
   these = sym none;

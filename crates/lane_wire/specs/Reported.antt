@@ -15,7 +15,8 @@ pub record NotesOf : Type 0 where
 
 -- the report stands before all others as the last one of its stream
 abbrev pub with_note : LossNote → NotesOf → NotesOf
-with_note note old = record { notes = put_entries nat_eq (lru_cache old.notes most_streams) note.out_ssrc note; lost = old.lost }
+with_note note old =
+    record { notes = put_entries nat_eq (lru_cache old.notes most_streams) note.out_ssrc note; lost = old.lost }
 
 -- one more was lost, as far as 64 bits count
 abbrev pub one_lost : NotesOf → NotesOf
@@ -23,4 +24,5 @@ one_lost old = record { notes = old.notes; lost = min (old.lost + 1) (2 ^ 64 - 1
 
 -- A report is kept, or it is lost and counted. It is lost only where nothing was kept of its stream.
 abbrev pub IsNoted : LossNote → NotesOf → NotesOf → Type 0
-IsNoted note old new = (new ≡ with_note note old) ⊎ ((new ≡ one_lost old) × (lookup (nat_eq note.out_ssrc) old.notes ≡ None))
+IsNoted note old new =
+    (new ≡ with_note note old) ⊎ ((new ≡ one_lost old) × (lookup (nat_eq note.out_ssrc) old.notes ≡ None))

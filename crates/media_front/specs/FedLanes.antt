@@ -1,5 +1,6 @@
 -- The lanes of a feed, and what they are given (own).
-use Rattle.std.specs.Prelude.{◌≡◌, ◌⊎◌, ℕ, ◌+◌, ◌-◌, ◌^◌, min, Bool, false, ◌||◌, if◌then◌else◌, nat_le, List, map, Option, Some, None}
+use Rattle.std.specs.Prelude.{◌≡◌, ◌⊎◌, ℕ, ◌+◌, ◌-◌, ◌^◌, min, Bool, false, ◌||◌, if◌then◌else◌, nat_le, List, map}
+use Rattle.std.specs.Prelude.{Option, Some, None}
 use Rattle.std.specs.List.{AllZip, FoldsTo}
 use Rattle.versions.specs.Published.{NoticeOf}
 use Rattle.media_items.specs.Inputs.{Input, input_of}
@@ -10,8 +11,8 @@ use Rattle.media_workers.specs.LaneRuns.{LaneNow}
 use Rattle.media_workers.specs.Ports.{PortOf, port_of, accept}
 use Rattle.media_front.specs.Signals.{is_pressing, many_parcels}
 
--- a lane of a feed: its port, the notice that its next parcel carries, how many parcels it accepted since its signal was
--- raised last, whether one of these presses, and how many parcels were dropped for it
+-- a lane of a feed: its port, the notice that its next parcel carries, how many parcels it accepted since its signal
+-- was raised last, whether one of these presses, and how many parcels were dropped for it
 pub record FedLane (P S : Type 0) : Type 0 where
   pub port : PortOf P S
   pub owed : Option NoticeOf
@@ -33,7 +34,15 @@ lanes_in lanes = map (λ x. x.port.lane) lanes
 
 -- The lane was given nothing and is owed nothing.
 abbrev pub IsFresh : {P S : Type 0} → FedLane P S → Type 0
-IsFresh x = x ≡ record { port = port_of x.port.lane x.port.pace x.port.sink; owed = None; unsignalled = 0; pressed = false; dropped = 0 }
+IsFresh x =
+    x
+    ≡ record {
+      port = port_of x.port.lane x.port.pace x.port.sink;
+      owed = None;
+      unsignalled = 0;
+      pressed = false;
+      dropped = 0;
+    }
 
 -- the lane's next parcel carries this notice
 abbrev pub owing_notice : {P S : Type 0} → NoticeOf → FedLane P S → FedLane P S

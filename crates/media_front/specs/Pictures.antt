@@ -1,5 +1,5 @@
--- Pictures that senders are asked for, where no datagram of theirs is the cause (RFC 4585 section 6.3.1; when it is done
--- is own).
+-- Pictures that senders are asked for, where no datagram of theirs is the cause (RFC 4585 section 6.3.1; when it is
+-- done is own).
 use Rattle.std.specs.Prelude.{◌≡◌, ℕ, Bool, List, [], ◌∷◌, Option}
 use Rattle.desk_rows.specs.Desk.{Desk}
 use Rattle.upward.specs.Upstream.{Asker}
@@ -17,7 +17,8 @@ abbrev pub request_for : Asker → Origin → Ingested
 request_for who o = record { outcome = Unknown; up = picture_request who o ∷ []; items = [] }
 
 -- The source of this origin was asked for a picture, or the request was not sent since its address had too few tokens.
--- It is handled as an arrival of no octets that is no member's: it refills nothing, and costs its octets where it is sent.
+-- It is handled as an arrival of no octets that is no member's: it refills nothing, and costs its octets where it is
+-- sent.
 pub record HasAsked {P S : Type 0} (o : Origin) (sent : Bool) (old new : FrontOf P S)
     (before after : Option (List Attempt)) : Type 0 where
   pub handled : (desk : Desk) (moment : ℕ)

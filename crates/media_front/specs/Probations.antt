@@ -10,7 +10,9 @@ use Rattle.desk_rows.specs.Desk.{Desk}
 use Rattle.topology.specs.Looking.{source_from}
 use Rattle.intake.specs.Readings.{Reading, IsReading, too_long, neither, no_packet, packet, no_compound, compound}
 use Rattle.intake.specs.declared.outcome.Outcome.{Outcome}
-use Rattle.intake.specs.declared.outcome.Outcome.TheVariants.{TooLong, Neither, BadRtp, BadRtcp, Unknown, BadPayload, Spent, Probation, Accepted, Late, Duplicate, Jump, Restarted, Rtcp}
+use Rattle.intake.specs.declared.outcome.Outcome.TheVariants.{TooLong, Neither, BadRtp, BadRtcp, Unknown, BadPayload}
+use Rattle.intake.specs.declared.outcome.Outcome.TheVariants.{Spent, Probation, Accepted, Late, Duplicate, Jump}
+use Rattle.intake.specs.declared.outcome.Outcome.TheVariants.{Restarted, Rtcp}
 use Rattle.intake.specs.inner.Holding.{IntakeOf}
 use Rattle.media_front.specs.Fronts.{Arrival}
 

@@ -1,5 +1,7 @@
--- The formats of audio: their clock rates and payload types (RFC 3551 sections 4.5.11, 4.5.14 and 6; L16 at 8000 Hz and its type 97 are own).
-use Rattle.std.specs.Prelude.{ℕ, ◌*◌, ◌/◌, ◌%◌, Bool, ◌&&◌, nat_eq, nat_le, List, [], ◌∷◌, find, Option, None, Some, if◌then◌else◌}
+-- The formats of audio: their clock rates and payload types (RFC 3551 sections 4.5.11, 4.5.14 and 6; L16 at 8000 Hz and
+-- its type 97 are own).
+use Rattle.std.specs.Prelude.{ℕ, ◌*◌, ◌/◌, ◌%◌, Bool, ◌&&◌, nat_eq, nat_le, List, [], ◌∷◌, find, Option, None, Some}
+use Rattle.std.specs.Prelude.{if◌then◌else◌}
 use Rattle.media_items.specs.Inputs.{most_at}
 use Rattle.media_items.specs.declared.format.Format.{Format}
 use Rattle.media_items.specs.declared.format.Format.TheVariants.{Pcmu, L16At8000, L16At44100}
@@ -38,7 +40,8 @@ octets_of L16At44100 = 2
 abbrev pub formats : List Format
 formats = Pcmu ∷ L16At8000 ∷ L16At44100 ∷ []
 
--- the format of packets of this payload type in a room of this clock rate; a room has formats of its own rate alone (own)
+-- the format of packets of this payload type in a room of this clock rate; a room has formats of its own rate alone
+-- (own)
 abbrev pub format_of_packet : (pt rate : ℕ) → Option Format
 format_of_packet pt rate = find (λ f. nat_eq (rate_of f) rate && nat_eq (pt_of f) pt) formats
 

@@ -6,7 +6,8 @@ use Rattle.media_items.specs.Frame.{SourceFrame}
 use Rattle.media_items.specs.declared.item.Item.{Item}
 use Rattle.media_items.specs.declared.item.Item.TheVariants.{Frame, Audio, Tick, Nack, Block, Pli, Report, Renew}
 
--- the sound of an audio packet: its source and the address it came from, its clock rate in Hz, the timestamp of its first sample, and its samples
+-- the sound of an audio packet: its source and the address it came from, its clock rate in Hz, the timestamp of its
+-- first sample, and its samples
 pub record Sound : Type 0 where
   pub source : ℕ
   pub address : Address
@@ -44,7 +45,8 @@ pub data Input : Type 0 where
 -- what a lane is given, without where its octets lie
 abbrev pub input_of : {A : Type 0} → Item A → Input
 input_of (Frame f) = Input.frame f
-input_of (Audio ssrc address rate ts samples) = Input.audio record { source = ssrc; address = address; rate = rate; ts = ts; samples = samples.items }
+input_of (Audio ssrc address rate ts samples) =
+    Input.audio record { source = ssrc; address = address; rate = rate; ts = ts; samples = samples.items }
 input_of (Tick moment) = Input.tick moment
 input_of (Nack from out_ssrc numbers) = Input.nack record { from = from; out_ssrc = out_ssrc; numbers = numbers.items }
 input_of (Block from b) = Input.block record { from = from; block = b }
@@ -62,7 +64,8 @@ most_at rate = rate / 5
 
 -- sound has one of the clock rates, a sample at least, and no more than a packet may have
 abbrev pub is_sized : Input → Bool
-is_sized (audio sound) = is_audio_rate sound.rate && (nat_le 1 (length sound.samples) && nat_le (length sound.samples) (most_at sound.rate))
+is_sized (audio sound) =
+    is_audio_rate sound.rate && (nat_le 1 (length sound.samples) && nat_le (length sound.samples) (most_at sound.rate))
 is_sized (frame f) = true
 is_sized (tick moment) = true
 is_sized (nack request) = true

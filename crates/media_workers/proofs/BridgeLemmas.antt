@@ -1,5 +1,7 @@
 -- All lanes of a bridge.
-use Rattle.std.proofs.Common.{Bool, ◌≡◌, ◌⊎◌, ◌<◌, ℕ, min, zip, length-append, suc, List, [], ◌∷◌, ◌++◌, length, map, take, drop, All, Some, get_or, slice_get, slice_set, refl, ap, sym, subst, ◌∙◌, ⊎_elim, arith}
+use Rattle.std.proofs.Common.{Bool, ◌≡◌, ◌⊎◌, ◌<◌, ℕ, min, zip, length-append, suc, List, [], ◌∷◌, ◌++◌, length, map}
+use Rattle.std.proofs.Common.{take, drop, All, Some, get_or, slice_get, slice_set, refl, ap, sym, subst, ◌∙◌, ⊎_elim}
+use Rattle.std.proofs.Common.{arith}
 use Rattle.std.proofs.lemmas.Option.{slice_get-get_or}
 use Rattle.std.proofs.lemmas.List.{append-nil}
 use Rattle.std.proofs.lemmas.Slice.Zip.{length-zip}
@@ -15,21 +17,28 @@ use Rattle.media_workers.specs.Ports.{PortOf, accept}
 use Rattle.media_workers.specs.Bridges.{Taking, Taker, EndsAs, AllEnded, StillFeeds, AllFeed}
 use Rattle.media_workers.specs.inner.Threads.{Lasting, lasting}
 
-pub AllEnded-push : {N P S : Type 0} (answers : P → ℕ → Bool → Type 0) (taken : Taking S) (ps : List (PortOf P S)) (es : List (LaneEnd N S)) (p : PortOf P S) (e : LaneEnd N S)
+pub AllEnded-push : {N P S : Type 0} (answers : P → ℕ → Bool → Type 0) (taken : Taking S) (ps : List (PortOf P S))
+    (es : List (LaneEnd N S)) (p : PortOf P S) (e : LaneEnd N S)
     → AllEnded answers taken ps es → EndsAs answers taken p e → AllEnded answers taken (ps ++ p ∷ []) (es ++ e ∷ [])
 AllEnded-push answers taken [] [] p e old one = (one, tt)
 AllEnded-push answers taken [] (d ∷ es) p e old one = absurd old
 AllEnded-push answers taken (q ∷ ps) [] p e old one = absurd old
 AllEnded-push answers taken (q ∷ ps) (d ∷ es) p e old one = (old.0, AllEnded-push answers taken ps es p e old.1 one)
 
-ends_alike : {N P S : Type 0} (answers : P → ℕ → Bool → Type 0) (taken : Taking S) (p q : PortOf P S) (e : LaneEnd N S) → lasting p ≡ lasting q → EndsAs answers taken q e → EndsAs answers taken p e
+ends_alike : {N P S : Type 0} (answers : P → ℕ → Bool → Type 0) (taken : Taking S) (p q : PortOf P S) (e : LaneEnd N S)
+    → lasting p ≡ lasting q → EndsAs answers taken q e → EndsAs answers taken p e
 ends_alike {N} {P} {S} answers taken p q e same ends = record {
-  ran = subst (λ (c : Lasting P S). Ran c.lane (answers c.pace) (received e.consumer) (map sent_of (taken e.sink)) (run_end e)) (sym same) ends.ran;
+  ran =
+      subst
+      (λ (c : Lasting P S). Ran c.lane (answers c.pace) (received e.consumer) (map sent_of (taken e.sink)) (run_end e))
+      (sym same) ends.ran;
   some = subst (λ (c : Lasting P S). IsPrefix (works (received e.consumer)) c.accepted) (sym same) ends.some;
   all = λ front is. ends.all front is ∙ ap (λ (c : Lasting P S). c.accepted) (sym same);
 }
 
-pub AllEnded-alike : {N P S : Type 0} (answers : P → ℕ → Bool → Type 0) (taken : Taking S) (ps qs : List (PortOf P S)) (es : List (LaneEnd N S)) → map lasting ps ≡ map lasting qs → AllEnded answers taken qs es → AllEnded answers taken ps es
+pub AllEnded-alike : {N P S : Type 0} (answers : P → ℕ → Bool → Type 0) (taken : Taking S) (ps qs : List (PortOf P S))
+    (es : List (LaneEnd N S))
+    → map lasting ps ≡ map lasting qs → AllEnded answers taken qs es → AllEnded answers taken ps es
 AllEnded-alike answers taken [] [] es same ends = ends
 AllEnded-alike answers taken [] (q ∷ qs) es same ends = absurd (cc (same))
 AllEnded-alike answers taken (p ∷ ps) [] es same ends = absurd (cc (same))
@@ -37,22 +46,26 @@ AllEnded-alike answers taken (p ∷ ps) (q ∷ qs) [] same ends = ends
 AllEnded-alike answers taken (p ∷ ps) (q ∷ qs) (e ∷ es) same ends =
     (ends_alike answers taken p q e (cc (same)) ends.0, AllEnded-alike answers taken ps qs es (cc (same)) ends.1)
 
-pub AllFeed-push : {N P S : Type 0} (feeds : S → Taker → Type 0) (ps : List (PortOf P S)) (es : List (LaneEnd N S)) (p : PortOf P S) (e : LaneEnd N S)
+pub AllFeed-push : {N P S : Type 0} (feeds : S → Taker → Type 0) (ps : List (PortOf P S)) (es : List (LaneEnd N S))
+    (p : PortOf P S) (e : LaneEnd N S)
     → AllFeed feeds ps es → StillFeeds feeds p e → AllFeed feeds (ps ++ p ∷ []) (es ++ e ∷ [])
 AllFeed-push feeds [] [] p e old one = (one, tt)
 AllFeed-push feeds [] (d ∷ es) p e old one = absurd old
 AllFeed-push feeds (q ∷ ps) [] p e old one = absurd old
 AllFeed-push feeds (q ∷ ps) (d ∷ es) p e old one = (old.0, AllFeed-push feeds ps es p e old.1 one)
 
-feed_alike : {N P S : Type 0} (feeds : S → Taker → Type 0) (p q : PortOf P S) (e : LaneEnd N S) → lasting p ≡ lasting q → StillFeeds feeds q e → StillFeeds feeds p e
+feed_alike : {N P S : Type 0} (feeds : S → Taker → Type 0) (p q : PortOf P S) (e : LaneEnd N S) → lasting p ≡ lasting q
+    → StillFeeds feeds q e → StillFeeds feeds p e
 feed_alike {N} {P} {S} feeds p q e same still c fed = still c (subst (λ (l : Lasting P S). feeds l.sink c) same fed)
 
-pub AllFeed-alike : {N P S : Type 0} (feeds : S → Taker → Type 0) (ps qs : List (PortOf P S)) (es : List (LaneEnd N S)) → map lasting ps ≡ map lasting qs → AllFeed feeds qs es → AllFeed feeds ps es
+pub AllFeed-alike : {N P S : Type 0} (feeds : S → Taker → Type 0) (ps qs : List (PortOf P S)) (es : List (LaneEnd N S))
+    → map lasting ps ≡ map lasting qs → AllFeed feeds qs es → AllFeed feeds ps es
 AllFeed-alike feeds [] [] es same fed = fed
 AllFeed-alike feeds [] (q ∷ qs) es same fed = absurd (cc (same))
 AllFeed-alike feeds (p ∷ ps) [] es same fed = absurd (cc (same))
 AllFeed-alike feeds (p ∷ ps) (q ∷ qs) [] same fed = fed
-AllFeed-alike feeds (p ∷ ps) (q ∷ qs) (e ∷ es) same fed = (feed_alike feeds p q e (cc (same)) fed.0, AllFeed-alike feeds ps qs es (cc (same)) fed.1)
+AllFeed-alike feeds (p ∷ ps) (q ∷ qs) (e ∷ es) same fed =
+    (feed_alike feeds p q e (cc (same)) fed.0, AllFeed-alike feeds ps qs es (cc (same)) fed.1)
 
 -- one lane is given its End, or none is
 pub one_ends : {P S : Type 0} (ps qs : List (PortOf P S)) (at : ℕ) → at < length ps
@@ -64,43 +77,58 @@ one_ends {P} {S} (p ∷ ps) qs at lt ends =
     let port : PortOf P S = get_or all at p in
     ⊎_elim
     (λ (same : qs ≡ all). ap (map lasting) same)
-    (λ (changed : qs ≡ slice_set all at (accept End port)). ap (map lasting) changed ∙ map-set_same lasting all at (accept End port) p refl)
+    (λ (changed : qs ≡ slice_set all at (accept End port)).
+    ap (map lasting) changed ∙ map-set_same lasting all at (accept End port) p refl)
     (ends port (slice_get-get_or all at p lt))
 
 -- what a slice of a whole vector was changed to is the vector
 pub put_whole : {X : Type 0} (n : ℕ) (now old : List X) → length now ≡ n → take n (now ++ drop (length now) old) ≡ now
-put_whole n now old is = subst (λ (k : ℕ). take k (now ++ drop (length now) old) ≡ now) is (take-append_seam now (drop (length now) old))
+put_whole n now old is =
+    subst (λ (k : ℕ). take k (now ++ drop (length now) old) ≡ now) is (take-append_seam now (drop (length now) old))
 
 -- ---- lanes and paces, one after the other
 
-pub zip_done : {A B : Type 0} (xs : List A) (bs : List B) (ys all : List (A × B)) → ys ++ zip xs bs ≡ all → (length xs ≡ 0) ⊎ (length bs ≡ 0) → ys ≡ all
+pub zip_done : {A B : Type 0} (xs : List A) (bs : List B) (ys all : List (A × B)) → ys ++ zip xs bs ≡ all
+    → (length xs ≡ 0) ⊎ (length bs ≡ 0) → ys ≡ all
 zip_done [] bs ys all e none = sym (append-nil ys) ∙ e
 zip_done (a ∷ xs) [] ys all e none = sym (append-nil ys) ∙ e
-zip_done (a ∷ xs) (b ∷ bs) ys all e none = absurd (⊎_elim (λ (h : length (a ∷ xs) ≡ 0). absurd (omega arith)) (λ (h : length (b ∷ bs) ≡ 0). absurd (omega arith)) none)
+zip_done (a ∷ xs) (b ∷ bs) ys all e none =
+    absurd (⊎_elim (λ (h : length (a ∷ xs) ≡ 0). absurd (omega arith))
+    (λ (h : length (b ∷ bs) ≡ 0). absurd (omega arith)) none)
 
-pub zip_few : {A B : Type 0} (a : A) (b : B) (xs xs' : List A) (bs bs' : List B) (ys : List (A × B)) (lanes : List A) (paces : List B)
+pub zip_few : {A B : Type 0} (a : A) (b : B) (xs xs' : List A) (bs bs' : List B) (ys : List (A × B)) (lanes : List A)
+    (paces : List B)
     → xs ≡ a ∷ xs' → bs ≡ b ∷ bs' → ys ++ zip xs bs ≡ zip lanes paces → length ys < length lanes
 zip_few {A} {B} a b xs xs' bs bs' ys lanes paces ea eb e =
     let two : ys ++ zip (a ∷ xs') (b ∷ bs') ≡ zip lanes paces =
-    subst (λ (x : List A). ys ++ zip x (b ∷ bs') ≡ zip lanes paces) ea (subst (λ (w : List B). ys ++ zip xs w ≡ zip lanes paces) eb e) in
-    let whole : length (ys ++ zip (a ∷ xs') (b ∷ bs')) ≡ min (length lanes) (length paces) = ap length two ∙ length-zip lanes paces in
+    subst (λ (x : List A). ys ++ zip x (b ∷ bs') ≡ zip lanes paces) ea
+    (subst (λ (w : List B). ys ++ zip xs w ≡ zip lanes paces) eb e) in
+    let whole : length (ys ++ zip (a ∷ xs') (b ∷ bs')) ≡ min (length lanes) (length paces) =
+    ap length two ∙ length-zip lanes paces in
     omega (arith, whole, length-append ys (zip (a ∷ xs') (b ∷ bs')))
 
 -- what holds of each lane and of each outfit holds of the next ones
-zip_here : {A B : Type 0} (Q : A → Type 0) (R : B → Type 0) (a : A) (b : B) (xs : List A) (bs : List B) (ys : List (A × B)) (lanes : List A) (outfits : List B)
+zip_here : {A B : Type 0} (Q : A → Type 0) (R : B → Type 0) (a : A) (b : B) (xs : List A) (bs : List B)
+    (ys : List (A × B)) (lanes : List A) (outfits : List B)
     → ys ++ zip (a ∷ xs) (b ∷ bs) ≡ zip lanes outfits → All Q lanes → All R outfits → Q a × R b
 zip_here Q R a b xs bs [] [] outfits e qs rs = absurd (cc (e))
 zip_here Q R a b xs bs [] (l ∷ lanes) [] e qs rs = absurd (cc (e))
 zip_here {A} {B} Q R a b xs bs [] (l ∷ lanes) (o ∷ outfits) e qs rs =
-    let both : ◌≡◌ {A = A × B} (l, o) (a, b) = cc (e) in
-    (subst Q (ap (λ (x : A × B). x.0) both) (qs 0 l (omega arith)), subst R (ap (λ (x : A × B). x.1) both) (rs 0 o (omega arith)))
+    let both : ◌≡◌ {A = A × B} (l, o) (a, b) = cc (e) in (
+      subst Q (ap (λ (x : A × B). x.0) both) (qs 0 l (omega arith)),
+      subst R (ap (λ (x : A × B). x.1) both) (rs 0 o (omega arith)),
+    )
 zip_here Q R a b xs bs (y ∷ ys) [] outfits e qs rs = absurd (cc (e))
 zip_here Q R a b xs bs (y ∷ ys) (l ∷ lanes) [] e qs rs = absurd (cc (e))
 zip_here Q R a b xs bs (y ∷ ys) (l ∷ lanes) (o ∷ outfits) e qs rs =
-    zip_here Q R a b xs bs ys lanes outfits (cc (e)) (λ k d low. qs (suc k) d (omega (arith, low))) (λ k d low. rs (suc k) d (omega (arith, low)))
+    zip_here Q R a b xs bs ys lanes outfits (cc (e)) (λ k d low. qs (suc k) d (omega (arith, low)))
+    (λ k d low. rs (suc k) d (omega (arith, low)))
 
-pub zip_next : {A B : Type 0} (Q : A → Type 0) (R : B → Type 0) (a : A) (b : B) (xs xs' : List A) (bs bs' : List B) (ys : List (A × B)) (lanes : List A) (outfits : List B)
+pub zip_next : {A B : Type 0} (Q : A → Type 0) (R : B → Type 0) (a : A) (b : B) (xs xs' : List A) (bs bs' : List B)
+    (ys : List (A × B)) (lanes : List A) (outfits : List B)
     → xs ≡ a ∷ xs' → bs ≡ b ∷ bs' → ys ++ zip xs bs ≡ zip lanes outfits → All Q lanes → All R outfits → Q a × R b
 zip_next {A} {B} Q R a b xs xs' bs bs' ys lanes outfits ea eb e qs rs =
     zip_here Q R a b xs' bs' ys lanes outfits
-    (subst (λ (x : List A). ys ++ zip x (b ∷ bs') ≡ zip lanes outfits) ea (subst (λ (w : List B). ys ++ zip xs w ≡ zip lanes outfits) eb e)) qs rs
+    (subst (λ (x : List A). ys ++ zip x (b ∷ bs') ≡ zip lanes outfits) ea
+    (subst (λ (w : List B). ys ++ zip xs w ≡ zip lanes outfits) eb e))
+    qs rs

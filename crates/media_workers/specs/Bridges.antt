@@ -20,7 +20,9 @@ pub record IsNew (name : Asker) (many place : ℕ) (lane : LaneNow) : Type 0 whe
 
 -- The lanes are all those of one bridge, each at its place, and none has handled anything.
 abbrev pub AreNew : List LaneNow → Type 0
-AreNew lanes = (name : Asker) × ((place : ℕ) (lane : LaneNow) → slice_get lanes place ≡ Some lane → IsNew name (length lanes) place lane)
+AreNew lanes =
+    (name : Asker)
+    × ((place : ℕ) (lane : LaneNow) → slice_get lanes place ≡ Some lane → IsNew name (length lanes) place lane)
 
 -- the lanes, each with its pace and its sink, that have been given nothing
 abbrev pub ports_of : {P S : Type 0} → List LaneNow → List (P × S) → List (PortOf P S)
@@ -39,7 +41,8 @@ abbrev pub EndsAs : {N P S : Type 0} → (P → ℕ → Bool → Type 0) → Tak
 EndsAs answers taken port end = Ended port (answers port.pace) (traffic_of taken end) (run_end end)
 
 -- This is how the lanes ended, each at its place.
-abbrev pub AllEnded : {N P S : Type 0} → (P → ℕ → Bool → Type 0) → Taking S → List (PortOf P S) → List (LaneEnd N S) → Type 0
+abbrev pub AllEnded : {N P S : Type 0} → (P → ℕ → Bool → Type 0) → Taking S → List (PortOf P S) → List (LaneEnd N S)
+    → Type 0
 AllEnded answers taken [] [] = Unit {0}
 AllEnded answers taken [] (e ∷ es) = ⊥
 AllEnded answers taken (p ∷ ps) [] = ⊥

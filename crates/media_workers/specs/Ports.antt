@@ -7,7 +7,8 @@ use Rattle.media_workers.specs.declared.parcel.Parcel.TheVariants.{Work, End}
 use Rattle.media_workers.specs.Parcels.{works}
 use Rattle.media_workers.specs.LaneRuns.{LaneNow, Ran, RunEnd, Traffic}
 
--- a lane that was handed in, with its pace and its sink; the parcels with items that `push` accepted for it; and whether it has had its End
+-- a lane that was handed in, with its pace and its sink; the parcels with items that `push` accepted for it; and
+-- whether it has had its End
 pub record PortOf (P S : Type 0) : Type 0 where
   pub lane : LaneNow
   pub pace : P
@@ -25,7 +26,8 @@ accept (Work item notice) port = record port { accepted = port.accepted ++ Work 
 accept End port = record port { closed = true }
 
 -- The run of the lane: it received the first parcels that were accepted for it, and all of them if it received an End.
-pub record Ended {P S : Type 0} (port : PortOf P S) (answers : ℕ → Bool → Type 0) (traffic : Traffic) (told : RunEnd) : Type 0 where
+pub record Ended {P S : Type 0} (port : PortOf P S) (answers : ℕ → Bool → Type 0) (traffic : Traffic)
+    (told : RunEnd) : Type 0 where
   pub ran : Ran port.lane answers traffic.parcels (map sent_of traffic.egress) told
   pub some : IsPrefix (works traffic.parcels) port.accepted
   pub all : (front : List Parcel) → traffic.parcels ≡ front ++ End ∷ [] → works traffic.parcels ≡ port.accepted

@@ -1,5 +1,7 @@
--- What a member hears in a tick: the sum of all others in its room (RFC 7667 section 3.6.1; gains, the tick of 20 ms and who is named are own).
-use Rattle.std.specs.Prelude.{ℕ, ℤ, pos, ◌+ℤ◌, ◌+◌, Bool, not, ◌&&◌, nat_eq, nat_lt, List, [], ◌∷◌, filter, map, take, Option, None, Some, unwrap_or, slice_index_or}
+-- What a member hears in a tick: the sum of all others in its room (RFC 7667 section 3.6.1; gains, the tick of 20 ms
+-- and who is named are own).
+use Rattle.std.specs.Prelude.{ℕ, ℤ, pos, ◌+ℤ◌, ◌+◌, Bool, not, ◌&&◌, nat_eq, nat_lt, List, [], ◌∷◌, filter, map, take}
+use Rattle.std.specs.Prelude.{Option, None, Some, unwrap_or, slice_index_or}
 use Rattle.std.specs.List.{range_with_len}
 use Rattle.rtp_codec.specs.declared.address.Address.{Address}
 use Rattle.rtp_codec.specs.Packet.{most_csrcs}
@@ -112,9 +114,11 @@ contributors voices d m = map (λ v. v.source.ssrc) (filter (contributes d m) (o
 -- the sound of these samples by these contributors, if there is one; the first 15 are named, as a header has fields for
 abbrev pub sound_by : Format → List ℕ → List ℤ → Option Sound
 sound_by format [] samples = None
-sound_by format (s ∷ ss) samples = Some (record { format = format; csrcs = take most_csrcs (s ∷ ss); samples = samples })
+sound_by format (s ∷ ss) samples =
+    Some (record { format = format; csrcs = take most_csrcs (s ∷ ss); samples = samples })
 
 -- what a member hears of these voices in a tick: nothing where nobody contributes
 abbrev pub sound_for : List Voice → Desk → MemberRow → Option Sound
 sound_for voices d m =
-    sound_by (format_of m.codec (member_rate d m)) (contributors voices d m) (map (heard_at voices d m) (range_with_len 0 (tick_at (member_rate d m))))
+    sound_by (format_of m.codec (member_rate d m)) (contributors voices d m)
+    (map (heard_at voices d m) (range_with_len 0 (tick_at (member_rate d m))))

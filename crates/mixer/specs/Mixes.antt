@@ -1,4 +1,5 @@
--- The mixes of all members, tick by tick: each is a stream of its own (RFC 3550 section 7.1: a mixer's own timing and numbers).
+-- The mixes of all members, tick by tick: each is a stream of its own (RFC 3550 section 7.1: a mixer's own timing and
+-- numbers).
 use Rattle.std.specs.Prelude.{ℕ, List, [], ◌∷◌, ◌++◌, length, map, filter, drop, Option, None, unwrap_or}
 use Rattle.std.specs.Option.{option_map, option_and_then, option_or}
 use Rattle.std.specs.List.{flat_map}
@@ -20,7 +21,8 @@ pub record Hears : Type 0 where
   pub member : MemberRow
   pub sound : Sound
 
--- a tick of a mix stream: what its member hears, if there is one and it hears anything, the clock rate of the member's room, if there is one, and the moment
+-- a tick of a mix stream: what its member hears, if there is one and it hears anything, the clock rate of the member's
+-- room, if there is one, and the moment
 pub record Turn : Type 0 where
   pub heard : Option Hears
   pub rate : Option ℕ
@@ -41,16 +43,18 @@ turn_of ssrc before d moment = record {
 -- all ticks of a stream, those before this first
 abbrev pub turns_after : ℕ → List Given → List Given → List Turn
 turns_after ssrc before [] = []
-turns_after ssrc before (put source address rate ts samples ∷ given) = turns_after ssrc (before ++ put source address rate ts samples ∷ []) given
-turns_after ssrc before (tick d moment ∷ given) = turn_of ssrc before d moment ∷ turns_after ssrc (before ++ tick d moment ∷ []) given
+turns_after ssrc before (put source address rate ts samples ∷ given) =
+    turns_after ssrc (before ++ put source address rate ts samples ∷ []) given
+turns_after ssrc before (tick d moment ∷ given) =
+    turn_of ssrc before d moment ∷ turns_after ssrc (before ++ tick d moment ∷ []) given
 turns_after ssrc before (renew ∷ given) = turns_after ssrc (before ++ renew ∷ []) given
 
 -- all ticks of a stream
 abbrev pub turns : ℕ → List Given → List Turn
 turns ssrc given = turns_after ssrc [] given
 
--- a tick without whose mix it is, behind a tick at this clock rate: it has the rate of its sound. A silent one has the rate of the member's room, and
--- without a member the rate of the tick before.
+-- a tick without whose mix it is, behind a tick at this clock rate: it has the rate of its sound. A silent one has the
+-- rate of the member's room, and without a member the rate of the tick before.
 abbrev pub tick_of : ℕ → Turn → MixTick
 tick_of before t = record {
   sound = option_map (λ h. h.sound) t.heard;
@@ -67,20 +71,27 @@ ticks_behind before (t ∷ ts) = tick_of before t ∷ ticks_behind (tick_of befo
 abbrev pub ticks_of : List Turn → List MixTick
 ticks_of ts = ticks_behind 0 ts
 
--- the packets of these ticks: the stream begins with the first sound, and takes its first number and timestamp from the member's row of then
+-- the packets of these ticks: the stream begins with the first sound, and takes its first number and timestamp from the
+-- member's row of then
 abbrev pub packets_of : ℕ → List Turn → List Numbered
 packets_of ssrc [] = []
-packets_of ssrc (t ∷ ts) = unwrap_or (option_map (λ h. mix_list ssrc h.member.first_seq h.member.first_ts (ticks_of (t ∷ ts))) t.heard) (packets_of ssrc ts)
+packets_of ssrc (t ∷ ts) =
+    unwrap_or (option_map (λ h. mix_list ssrc h.member.first_seq h.member.first_ts (ticks_of (t ∷ ts))) t.heard)
+    (packets_of ssrc ts)
 
 -- the stream after these ticks, if it has begun
 abbrev pub stream_of : ℕ → List Turn → Option MixOf
 stream_of ssrc [] = None
-stream_of ssrc (t ∷ ts) = option_or (option_map (λ h. mix_state ssrc h.member.first_seq h.member.first_ts (ticks_of (t ∷ ts))) t.heard) (stream_of ssrc ts)
+stream_of ssrc (t ∷ ts) =
+    option_or (option_map (λ h. mix_state ssrc h.member.first_seq h.member.first_ts (ticks_of (t ∷ ts))) t.heard)
+    (stream_of ssrc ts)
 
 -- what a sender report tells of the stream after these ticks, once it has begun
 abbrev pub counts_of : ℕ → List Turn → Option Counts
 counts_of ssrc [] = None
-counts_of ssrc (t ∷ ts) = unwrap_or (option_map (λ h. mix_counts ssrc h.member.first_seq h.member.first_ts (ticks_of (t ∷ ts))) t.heard) (counts_of ssrc ts)
+counts_of ssrc (t ∷ ts) =
+    unwrap_or (option_map (λ h. mix_counts ssrc h.member.first_seq h.member.first_ts (ticks_of (t ∷ ts))) t.heard)
+    (counts_of ssrc ts)
 
 -- all packets of a stream
 abbrev pub mixes : ℕ → List Given → List Numbered

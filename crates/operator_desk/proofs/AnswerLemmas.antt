@@ -1,5 +1,6 @@
 -- What calls leave to seats.
-use Rattle.std.proofs.Common.{◌≡◌, ℕ, ◌+◌, List, [], ◌∷◌, ◌++◌, length, Option, None, refl, sym, ap, subst, ◌∙◌, length-append, inr, append-nil}
+use Rattle.std.proofs.Common.{◌≡◌, ℕ, ◌+◌, List, [], ◌∷◌, ◌++◌, length, Option, None, refl, sym, ap, subst, ◌∙◌}
+use Rattle.std.proofs.Common.{length-append, inr, append-nil}
 use mathlib.Core.List.{IsPrefix}
 use Rattle.logbook.specs.Pages.{Book}
 use Rattle.desk_rows.specs.Desk.{Desk}
@@ -20,7 +21,9 @@ begins_itself : (xs : List EntryOf) → IsPrefix xs xs
 begins_itself xs = ([], append-nil xs)
 
 -- a seat that has seen the whole log is refused
-pub refused : (start : Desk) (old new : SeatOf) (log : List EntryOf) (call : CallOf) (version : ℕ) (why : Why) → old.seen ≡ log → new.op ≡ old.op → new.seen ≡ old.seen → new.count ≡ old.count → version ≡ length log → IsLegal start log → IsWhy start log new.beyond call why → IsRefused start old new call version why
+pub refused : (start : Desk) (old new : SeatOf) (log : List EntryOf) (call : CallOf) (version : ℕ) (why : Why)
+    → old.seen ≡ log → new.op ≡ old.op → new.seen ≡ old.seen → new.count ≡ old.count → version ≡ length log
+    → IsLegal start log → IsWhy start log new.beyond call why → IsRefused start old new call version why
 refused start old new log call version why seen op same count number legal reason =
     let now : new.seen ≡ log = same ∙ seen in
     record {
@@ -34,22 +37,29 @@ refused start old new log call version why seen op same count number legal reaso
     }
 
 -- memory runs out for a call against which nothing stands
-pub wants_memory : (start : Desk) (log : List EntryOf) (beyond : Option EntryOf) (call : CallOf) → refusal_of (after_log start log) call ≡ None → IsWhy start log beyond call (Told OutOfMemory)
+pub wants_memory : (start : Desk) (log : List EntryOf) (beyond : Option EntryOf) (call : CallOf)
+    → refusal_of (after_log start log) call ≡ None → IsWhy start log beyond call (Told OutOfMemory)
 wants_memory start log beyond call free = inr (refl, free)
 
 -- a seat that has seen the whole log makes the next call
-pub accepted : (start : Desk) (publisher : Book) (old new : SeatOf) (log : List EntryOf) (call : CallOf) (n : ℕ) (notice : NoticeOf)
-    → old.seen ≡ log → new.op ≡ old.op → new.seen ≡ log ++ record { op = old.op; call = call } ∷ [] → n ≡ length log + 1 → IsLegal start new.seen → length (numbers old.op old.seen) ≡ old.count → new.count ≡ old.count + 1
+pub accepted : (start : Desk) (publisher : Book) (old new : SeatOf) (log : List EntryOf) (call : CallOf) (n : ℕ)
+    (notice : NoticeOf)
+    → old.seen ≡ log → new.op ≡ old.op → new.seen ≡ log ++ record { op = old.op; call = call } ∷ [] → n ≡ length log + 1
+    → IsLegal start new.seen → length (numbers old.op old.seen) ≡ old.count → new.count ≡ old.count + 1
     → Tells start publisher new.seen notice → IsAccepted start publisher old new call n notice
 accepted start publisher old new log call n notice seen op goes number legal counted count tells =
     let entry : EntryOf = record { op = old.op; call = call } in
-    let own : numbers old.op new.seen ≡ numbers old.op old.seen ++ n ∷ [] = ap (numbers old.op) goes ∙ (own_numbers old.op log entry refl ∙ (ap (λ k. numbers old.op log ++ k ∷ []) (sym number) ∙ ap (λ l. numbers old.op l ++ n ∷ []) (sym seen))) in
+    let own : numbers old.op new.seen ≡ numbers old.op old.seen ++ n ∷ [] =
+    ap (numbers old.op) goes
+    ∙ (own_numbers old.op log entry refl
+    ∙ (ap (λ k. numbers old.op log ++ k ∷ []) (sym number) ∙ ap (λ l. numbers old.op l ++ n ∷ []) (sym seen))) in
     record {
       op = op;
       at = ap length goes ∙ (length-append log (entry ∷ []) ∙ sym number);
       legal = legal;
       ends = ([], goes ∙ ap (λ l. l ++ entry ∷ []) (sym seen ∙ sym (append-nil old.seen)));
       own = own;
-      count = ap length own ∙ (length-append (numbers old.op old.seen) (n ∷ []) ∙ (ap (λ n. n + 1) counted ∙ sym count));
+      count =
+          ap length own ∙ (length-append (numbers old.op old.seen) (n ∷ []) ∙ (ap (λ n. n + 1) counted ∙ sym count));
       tells = tells;
     }

@@ -35,10 +35,13 @@ IsNotice start publisher notice = (log : List EntryOf) × IsLegal start log × T
 
 -- the rows are those after a legal log of this many calls
 abbrev pub IsCopy : Desk → ℕ → Desk → Type 0
-IsCopy start version rows = (log : List EntryOf) × IsLegal start log × (length log ≡ version) × (rows ≡ desk_now (after_log start log))
+IsCopy start version rows =
+    (log : List EntryOf) × IsLegal start log × (length log ≡ version) × (rows ≡ desk_now (after_log start log))
 
--- the call is the last one of a legal log that goes on from what the seat had seen; of its operator the log has the calls that the seat had made and this one, and no others. The notice is that of this log
-pub record IsAccepted (start : Desk) (publisher : Book) (old new : SeatOf) (call : CallOf) (number : ℕ) (notice : NoticeOf) : Type 0 where
+-- the call is the last one of a legal log that goes on from what the seat had seen; of its operator the log has the
+-- calls that the seat had made and this one, and no others. The notice is that of this log
+pub record IsAccepted (start : Desk) (publisher : Book) (old new : SeatOf) (call : CallOf) (number : ℕ)
+    (notice : NoticeOf) : Type 0 where
   pub op : new.op ≡ old.op
   pub at : length new.seen ≡ number
   pub legal : IsLegal start new.seen
@@ -47,13 +50,15 @@ pub record IsAccepted (start : Desk) (publisher : Book) (old new : SeatOf) (call
   pub count : length (numbers old.op new.seen) ≡ new.count
   pub tells : Tells start publisher new.seen notice
 
--- why a call is refused after a log: for a reason of the log's history, because memory ran out and no other reason holds, or because an entry was found behind the log
+-- why a call is refused after a log: for a reason of the log's history, because memory ran out and no other reason
+-- holds, or because an entry was found behind the log
 abbrev pub IsWhy : Desk → List EntryOf → Option EntryOf → CallOf → Why → Type 0
 IsWhy start log beyond call (reasons.Told why) =
     IsTold (after_log start log) call why ⊎ ((why ≡ OutOfMemory) × (refusal_of (after_log start log) call ≡ None))
 IsWhy start log beyond call reasons.LogTaken = IsSome beyond
 
--- the reason holds after the legal log that the seat has then seen, which goes on from what it had seen, and has no other calls of its operator than those that the seat had made
+-- the reason holds after the legal log that the seat has then seen, which goes on from what it had seen, and has no
+-- other calls of its operator than those that the seat had made
 pub record IsRefused (start : Desk) (old new : SeatOf) (call : CallOf) (version : ℕ) (why : Why) : Type 0 where
   pub op : new.op ≡ old.op
   pub at : length new.seen ≡ version

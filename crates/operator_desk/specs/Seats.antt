@@ -2,7 +2,8 @@
 use Rattle.std.specs.Prelude.{ℕ, zero, suc, List, [], ◌∷◌, ◌++◌, Option, None}
 use Rattle.operator_desk.specs.Entry.{EntryOf}
 
--- an operator's seat: the log that it has seen, how many calls it made that were accepted, and an entry that it found in the cell behind that log
+-- an operator's seat: the log that it has seen, how many calls it made that were accepted, and an entry that it found
+-- in the cell behind that log
 pub record SeatOf : Type 0 where
   pub op : ℕ
   pub seen : List EntryOf

@@ -64,8 +64,8 @@ is_printed line = list_all is_printable line
 abbrev pub is_request : List ℕ → Bool
 is_request line = ends_with nat_eq line (codes " HTTP/1.1")
 
--- What a line asks for, or its first fault and the place of its word; place 0 is the whole line. A browser's request asks
--- for the end of the connection, so that the lines of its body are not read.
+-- What a line asks for, or its first fault and the place of its word; place 0 is the whole line. A browser's request
+-- asks for the end of the connection, so that the lines of its body are not read.
 unfoldable pub asked_of : List ℕ → Result AskOf (ℕ × Fault)
 asked_of line =
     if not (is_printed line) then Err (0, BadByte)

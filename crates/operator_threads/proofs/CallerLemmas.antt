@@ -1,23 +1,28 @@
 -- What is done on a connection, one thing after another.
 use Rattle.std.proofs.lemmas.Bool.Decides.{nat_tests}
 use Rattle.std.proofs.Math.Seq.{take-length}
-use Rattle.std.proofs.Common.{◌≡◌, ◌<◌, ◌-◌, ◌∙◌, ℕ, nat_lt, true, List, [], ◌∷◌, ◌++◌, length, take, drop, length-drop, arith, map, Option, Some, None, Result, Ok, Err, OnErr, refl, sym, ap, subst}
+use Rattle.std.proofs.Common.{◌≡◌, ◌<◌, ◌-◌, ◌∙◌, ℕ, nat_lt, true, List, [], ◌∷◌, ◌++◌, length, take, drop, length-drop}
+use Rattle.std.proofs.Common.{arith, map, Option, Some, None, Result, Ok, Err, OnErr, refl, sym, ap, subst}
 use Rattle.operator_lines.specs.Operators.{Replying, Showing}
 use Rattle.operator_threads.specs.declared.greeting.Greeted.{Greeted}
 use Rattle.operator_threads.specs.declared.greeting.Greeted.TheVariants as greeted
 use Rattle.operator_threads.specs.declared.talking.Standing.{Standing}
 use Rattle.operator_threads.specs.Connection.{Connection}
 use Rattle.operator_threads.specs.Deeds.{Deed, SeatedDeed, alone, AreDeeds, AreSeatedDeeds, HasHeard, HasWritten}
-use Rattle.operator_threads.specs.Deeds.{Beginning, deeds_begun, moment_of, greeted_at, heard_at, round_alone, round_seated}
+use Rattle.operator_threads.specs.Deeds.{Beginning, deeds_begun, moment_of, greeted_at, heard_at, round_alone}
+use Rattle.operator_threads.specs.Deeds.{round_seated}
 use Rattle.operator_threads.specs.Greeting.{GreetsFirst, GreetsSome}
 
 pub deeds_both : (xs ys : List Deed) (a b c : Connection) → AreDeeds xs a b → AreDeeds ys b c → AreDeeds (xs ++ ys) a c
 deeds_both [] ys a b c g h = subst (λ (s : Connection). AreDeeds ys s c) (sym g) h
 deeds_both (x ∷ xs) ys a b c g h = (g.0, g.1, deeds_both xs ys g.0 b c g.2 h)
 
-pub seated_both : {D : Type 0} (replies : Replying D) (shows : Showing D) (xs ys : List SeatedDeed) (a b c : D × Connection)
-    → AreSeatedDeeds replies shows xs a b → AreSeatedDeeds replies shows ys b c → AreSeatedDeeds replies shows (xs ++ ys) a c
-seated_both {D} replies shows [] ys a b c g h = subst (λ (s : D × Connection). AreSeatedDeeds replies shows ys s c) (sym g) h
+pub seated_both : {D : Type 0} (replies : Replying D) (shows : Showing D) (xs ys : List SeatedDeed)
+    (a b c : D × Connection)
+    → AreSeatedDeeds replies shows xs a b → AreSeatedDeeds replies shows ys b c
+    → AreSeatedDeeds replies shows (xs ++ ys) a c
+seated_both {D} replies shows [] ys a b c g h =
+    subst (λ (s : D × Connection). AreSeatedDeeds replies shows ys s c) (sym g) h
 seated_both replies shows (x ∷ xs) ys a b c g h = (g.0, g.1, seated_both replies shows xs ys g.0 b c g.2 h)
 
 -- what is done without a desk is done with one that stays as it is
@@ -49,24 +54,35 @@ first_some lines before after to greeted.Stopped h = (h.0, to, h.1)
 -- ---- rounds
 
 pub round_cut : {D : Type 0} (replies : Replying D) (shows : Showing D) (b : Beginning) (d : D) (old new : Connection)
-    → AreDeeds (deeds_begun b) old new → moment_of b ≡ None → AreSeatedDeeds replies shows (round_seated b) (d, old) (d, new)
+    → AreDeeds (deeds_begun b) old new → moment_of b ≡ None
+    → AreSeatedDeeds replies shows (round_seated b) (d, old) (d, new)
 round_cut replies shows b d old new h e =
-    subst (λ (m : Option ℕ). AreSeatedDeeds replies shows (map alone (deeds_begun b) ++ heard_at m) (d, old) (d, new)) (sym e)
-    (seated_both replies shows (map alone (deeds_begun b)) [] (d, old) (d, new) (d, new) (seated_alone replies shows (deeds_begun b) d old new h) refl)
+    subst (λ (m : Option ℕ). AreSeatedDeeds replies shows (map alone (deeds_begun b) ++ heard_at m) (d, old) (d, new))
+    (sym e)
+    (seated_both replies shows (map alone (deeds_begun b)) [] (d, old) (d, new) (d, new)
+    (seated_alone replies shows (deeds_begun b) d old new h) refl)
 
-pub round_whole : {D : Type 0} (replies : Replying D) (shows : Showing D) (b : Beginning) (moment : ℕ) (d d' : D) (old mid more new : Connection)
-    → AreDeeds (deeds_begun b) old mid → moment_of b ≡ Some moment → HasHeard replies shows moment d d' mid more → HasWritten moment more new
+pub round_whole : {D : Type 0} (replies : Replying D) (shows : Showing D) (b : Beginning) (moment : ℕ) (d d' : D)
+    (old mid more new : Connection)
+    → AreDeeds (deeds_begun b) old mid → moment_of b ≡ Some moment → HasHeard replies shows moment d d' mid more
+    → HasWritten moment more new
     → AreSeatedDeeds replies shows (round_seated b) (d, old) (d', new)
 round_whole replies shows b moment d d' old mid more new h e heard written =
-    subst (λ (m : Option ℕ). AreSeatedDeeds replies shows (map alone (deeds_begun b) ++ heard_at m) (d, old) (d', new)) (sym e)
-    (seated_both replies shows (map alone (deeds_begun b)) (heard_at (Some moment)) (d, old) (d, mid) (d', new) (seated_alone replies shows (deeds_begun b) d old mid h)
+    subst (λ (m : Option ℕ). AreSeatedDeeds replies shows (map alone (deeds_begun b) ++ heard_at m) (d, old) (d', new))
+    (sym e)
+    (seated_both replies shows (map alone (deeds_begun b)) (heard_at (Some moment)) (d, old) (d, mid) (d', new)
+    (seated_alone replies shows (deeds_begun b) d old mid h)
     ((d', more), heard, ((d', new), (refl, written), refl)))
 
-pub alone_cut : (b : Beginning) (old new : Connection) → AreDeeds (deeds_begun b) old new → moment_of b ≡ None → AreDeeds (round_alone b) old new
+pub alone_cut : (b : Beginning) (old new : Connection) → AreDeeds (deeds_begun b) old new → moment_of b ≡ None
+    → AreDeeds (round_alone b) old new
 alone_cut b old new h e =
-    subst (λ (m : Option ℕ). AreDeeds (deeds_begun b ++ greeted_at m) old new) (sym e) (deeds_both (deeds_begun b) [] old new new h refl)
+    subst (λ (m : Option ℕ). AreDeeds (deeds_begun b ++ greeted_at m) old new) (sym e)
+    (deeds_both (deeds_begun b) [] old new new h refl)
 
 pub alone_whole : (b : Beginning) (moment : ℕ) (old mid new : Connection)
-    → AreDeeds (deeds_begun b) old mid → moment_of b ≡ Some moment → AreDeeds (greeted_at (Some moment)) mid new → AreDeeds (round_alone b) old new
+    → AreDeeds (deeds_begun b) old mid → moment_of b ≡ Some moment → AreDeeds (greeted_at (Some moment)) mid new
+    → AreDeeds (round_alone b) old new
 alone_whole b moment old mid new h e more =
-    subst (λ (m : Option ℕ). AreDeeds (deeds_begun b ++ greeted_at m) old new) (sym e) (deeds_both (deeds_begun b) (greeted_at (Some moment)) old mid new h more)
+    subst (λ (m : Option ℕ). AreDeeds (deeds_begun b ++ greeted_at m) old new) (sym e)
+    (deeds_both (deeds_begun b) (greeted_at (Some moment)) old mid new h more)

@@ -1,5 +1,6 @@
 -- Laws of what is done on a connection.
-use Rattle.std.proofs.Common.{◌≡◌, ◌≤◌, ◌&&◌, ◌⊎◌, inl, inr, ℕ, nat_lt, true, false, Bool, List, [], ◌∷◌, ◌++◌, length, take, drop, Option, Some, None, refl, sym, ap, subst, ◌∙◌, append_assoc, rules, arith}
+use Rattle.std.proofs.Common.{◌≡◌, ◌≤◌, ◌&&◌, ◌⊎◌, inl, inr, ℕ, nat_lt, true, false, Bool, List, [], ◌∷◌, ◌++◌, length}
+use Rattle.std.proofs.Common.{take, drop, Option, Some, None, refl, sym, ap, subst, ◌∙◌, append_assoc, rules, arith}
 use Rattle.std.proofs.lemmas.Bool.Decides.{nat_tests}
 use Rattle.std.proofs.lemmas.Grind.{flat_map-append}
 use Rattle.std.proofs.lemmas.List.{append-nil, take-append-drop, take-append-le}
@@ -8,14 +9,18 @@ use Rattle.operator_lines.specs.Fed.{Kept, StandsFor}
 use Rattle.operator_lines.specs.Operators.{Replying, Showing, busy_line}
 use Rattle.operator_lines.specs.Outbound.{piece}
 use Rattle.operator_threads.proofs.TalkLemmas.{open_is}
-use Rattle.operator_threads.specs.Acts.{Act, waited, looked, read, wrote, read_by, written_by, all_read, all_written, octet_count}
-use Rattle.operator_threads.specs.Connection.{Connection, IsSilent, IsLost, HasWaited, HasLooked, NotesStop, HasRead, IsHeardAt, Heeded, is_heard, is_owed}
-use Rattle.operator_threads.specs.Deeds.{HasOffered, HasWritten, GreetsPiece, LosesGreeting, HasGreeted, RefusesOpen, RefusesSeat}
+use Rattle.operator_threads.specs.Acts.{Act, waited, looked, read, wrote, read_by, written_by, all_read, all_written}
+use Rattle.operator_threads.specs.Acts.{octet_count}
+use Rattle.operator_threads.specs.Connection.{Connection, IsSilent, IsLost, HasWaited, HasLooked, NotesStop, HasRead}
+use Rattle.operator_threads.specs.Connection.{IsHeardAt, Heeded, is_heard, is_owed}
+use Rattle.operator_threads.specs.Deeds.{HasOffered, HasWritten, GreetsPiece, LosesGreeting, HasGreeted, RefusesOpen}
+use Rattle.operator_threads.specs.Deeds.{RefusesSeat}
 use Rattle.operator_threads.specs.Deeds.{AnswersPiece, LosesPiece, HasHeard, AnswersHeeded, HasAnswered}
 use Rattle.operator_threads.specs.Deeds.{Deed, waits, looks, stops, greets, refuses, writes, IsDeed, AreDeeds}
 use Rattle.operator_threads.specs.Deeds.{SeatedDeed, alone, answers, hears, IsSeatedDeed, AreSeatedDeeds}
 use Rattle.operator_threads.specs.Greeting.{GreetsLines, GreetsFirst, GreetsAll, BreaksGreeting}
-use Rattle.operator_threads.specs.Talking.{AnswersLines, AnswersAll, AnswersOctets, AnswersSome, BreaksOff, Refuses, after_stop, after_read, after_write, left_after, is_open}
+use Rattle.operator_threads.specs.Talking.{AnswersLines, AnswersAll, AnswersOctets, AnswersSome, BreaksOff, Refuses}
+use Rattle.operator_threads.specs.Talking.{after_stop, after_read, after_write, left_after, is_open}
 use Rattle.operator_threads.specs.Talks.{Grown, all_appended, IsStream, GoesOn, StaysEnded}
 use Rattle.operator_threads.specs.declared.greeting.Greeted.{Greeted}
 use Rattle.operator_threads.specs.declared.greeting.Greeted.TheVariants as greeted
@@ -26,29 +31,39 @@ use Rattle.operator_threads.specs.declared.talking.Standing.TheVariants.{Open, E
 
 -- ---- what is done is one thing more
 
-pub read_waited : (acts : List Act) (longest : ℕ) (any : Bool) → all_read (acts ++ waited longest any ∷ []) ≡ all_read acts
+pub read_waited : (acts : List Act) (longest : ℕ) (any : Bool)
+    → all_read (acts ++ waited longest any ∷ []) ≡ all_read acts
 read_waited acts longest any = flat_map-append read_by acts (waited longest any ∷ []) ∙ append-nil (all_read acts)
 
 pub read_looked : (acts : List Act) (moment : ℕ) → all_read (acts ++ looked moment ∷ []) ≡ all_read acts
 read_looked acts moment = flat_map-append read_by acts (looked moment ∷ []) ∙ append-nil (all_read acts)
 
-pub read_wrote : (acts : List Act) (came : Came) (octets : List ℕ) → all_read (acts ++ wrote came octets ∷ []) ≡ all_read acts
+pub read_wrote : (acts : List Act) (came : Came) (octets : List ℕ)
+    → all_read (acts ++ wrote came octets ∷ []) ≡ all_read acts
 read_wrote acts came octets = flat_map-append read_by acts (wrote came octets ∷ []) ∙ append-nil (all_read acts)
 
-pub read_more : (acts : List Act) (came : Came) (octets : List ℕ) → all_read (acts ++ read came octets ∷ []) ≡ all_read acts ++ octets
-read_more acts came octets = flat_map-append read_by acts (read came octets ∷ []) ∙ ap (λ l. all_read acts ++ l) (append-nil octets)
+pub read_more : (acts : List Act) (came : Came) (octets : List ℕ)
+    → all_read (acts ++ read came octets ∷ []) ≡ all_read acts ++ octets
+read_more acts came octets =
+    flat_map-append read_by acts (read came octets ∷ []) ∙ ap (λ l. all_read acts ++ l) (append-nil octets)
 
-pub written_waited : (acts : List Act) (longest : ℕ) (any : Bool) → all_written (acts ++ waited longest any ∷ []) ≡ all_written acts
-written_waited acts longest any = flat_map-append written_by acts (waited longest any ∷ []) ∙ append-nil (all_written acts)
+pub written_waited : (acts : List Act) (longest : ℕ) (any : Bool)
+    → all_written (acts ++ waited longest any ∷ []) ≡ all_written acts
+written_waited acts longest any =
+    flat_map-append written_by acts (waited longest any ∷ []) ∙ append-nil (all_written acts)
 
 pub written_looked : (acts : List Act) (moment : ℕ) → all_written (acts ++ looked moment ∷ []) ≡ all_written acts
 written_looked acts moment = flat_map-append written_by acts (looked moment ∷ []) ∙ append-nil (all_written acts)
 
-pub written_read : (acts : List Act) (came : Came) (octets : List ℕ) → all_written (acts ++ read came octets ∷ []) ≡ all_written acts
+pub written_read : (acts : List Act) (came : Came) (octets : List ℕ)
+    → all_written (acts ++ read came octets ∷ []) ≡ all_written acts
 written_read acts came octets = flat_map-append written_by acts (read came octets ∷ []) ∙ append-nil (all_written acts)
 
-pub written_more : (acts : List Act) (came : Came) (octets : List ℕ) → all_written (acts ++ wrote came octets ∷ []) ≡ all_written acts ++ take (octet_count came) octets
-written_more acts came octets = flat_map-append written_by acts (wrote came octets ∷ []) ∙ ap (λ l. all_written acts ++ l) (append-nil (take (octet_count came) octets))
+pub written_more : (acts : List Act) (came : Came) (octets : List ℕ)
+    → all_written (acts ++ wrote came octets ∷ []) ≡ all_written acts ++ take (octet_count came) octets
+written_more acts came octets =
+    flat_map-append written_by acts (wrote came octets ∷ [])
+    ∙ ap (λ l. all_written acts ++ l) (append-nil (take (octet_count came) octets))
 
 -- ---- octets are appended
 
@@ -62,30 +77,38 @@ grown_both xs ys zs g h = (g.0 ++ h.0, h.1 ∙ (ap (λ l. l ++ h.0) g.1 ∙ appe
 pub grown_behind : (ws ws' xs ys : List ℕ) → ws' ≡ ws → Grown xs ys → Grown (ws ++ xs) (ws' ++ ys)
 grown_behind ws ws' xs ys e g = (g.0, ap (λ l. l ++ ys) e ∙ (ap (λ l. ws ++ l) g.1 ∙ sym (append_assoc ws xs g.0)))
 
-pub lines_grow : {D : Type 0} (replies : Replying D) (shows : Showing D) (lines : List (List ℕ)) (old new : D) (before after : List ℕ) (from to : Standing)
+pub lines_grow : {D : Type 0} (replies : Replying D) (shows : Showing D) (lines : List (List ℕ)) (old new : D)
+    (before after : List ℕ) (from to : Standing)
     → AnswersLines replies shows lines old new before after from to → Grown before after
 lines_grow replies shows [] old new before after from to h = grown_none before after h.1
 lines_grow replies shows (line ∷ lines) old new before after from to h =
     grown_both before h.2 after (h.4.0, h.4.1) (lines_grow replies shows lines h.1 new h.2 after _ to h.5)
 
-pub refusal_grows : (b : Bool) (before after : List ℕ) (from to : Standing) → Refuses b before after from to → Grown before after
+pub refusal_grows : (b : Bool) (before after : List ℕ) (from to : Standing) → Refuses b before after from to
+    → Grown before after
 refusal_grows true before after from to h = (_, h.0)
 refusal_grows false before after from to h = grown_none before after h.0
 
-pub all_grow : {D : Type 0} (replies : Replying D) (shows : Showing D) (lines : List (List ℕ)) (long : Bool) (old new : D) (before after : List ℕ) (to : Standing) (stopped : Bool)
+pub all_grow : {D : Type 0} (replies : Replying D) (shows : Showing D) (lines : List (List ℕ)) (long : Bool)
+    (old new : D) (before after : List ℕ) (to : Standing) (stopped : Bool)
     → AnswersAll replies shows lines long old new before after to stopped → Grown before after
 all_grow replies shows lines long old new before after to stopped h =
-    grown_both before h.0 after (lines_grow replies shows _ old new before h.0 _ h.1 h.2.1) (refusal_grows _ h.0 after h.1 to h.3)
+    grown_both before h.0 after (lines_grow replies shows _ old new before h.0 _ h.1 h.2.1)
+    (refusal_grows _ h.0 after h.1 to h.3)
 
-pub some_grow : {D : Type 0} (replies : Replying D) (shows : Showing D) (lines : List (List ℕ)) (old : D) (before after : List ℕ)
+pub some_grow : {D : Type 0} (replies : Replying D) (shows : Showing D) (lines : List (List ℕ)) (old : D)
+    (before after : List ℕ)
     → AnswersSome replies shows lines old before after → Grown before after
 some_grow replies shows lines old before after h = lines_grow replies shows _ old h.1 before after _ h.2 h.3
 
-pub octets_grow : {D : Type 0} (replies : Replying D) (shows : Showing D) (stream octets : List ℕ) (old new : D) (before after : List ℕ) (to : Standing) (stopped : Bool)
+pub octets_grow : {D : Type 0} (replies : Replying D) (shows : Showing D) (stream octets : List ℕ) (old new : D)
+    (before after : List ℕ) (to : Standing) (stopped : Bool)
     → AnswersOctets replies shows stream octets old new before after to stopped → Grown before after
-octets_grow replies shows stream octets old new before after to stopped h = all_grow replies shows h.0 h.1 old new before after to stopped h.3
+octets_grow replies shows stream octets old new before after to stopped h =
+    all_grow replies shows h.0 h.1 old new before after to stopped h.3
 
-pub broken_grow : {D : Type 0} (replies : Replying D) (shows : Showing D) (stream octets : List ℕ) (old : D) (before after : List ℕ)
+pub broken_grow : {D : Type 0} (replies : Replying D) (shows : Showing D) (stream octets : List ℕ) (old : D)
+    (before after : List ℕ)
     → BreaksOff replies shows stream octets old before after → Grown before after
 broken_grow replies shows stream octets old before after (inl same) = grown_none before after same
 broken_grow replies shows stream octets old before after (inr h) = some_grow replies shows h.0 old before after h.3
@@ -93,7 +116,9 @@ broken_grow replies shows stream octets old before after (inr h) = some_grow rep
 -- what is written was offered, and no octet of what waits is lost or written twice
 pub taken : (k most : ℕ) (xs : List ℕ) → k ≤ length (take most xs) → take k (take most xs) ++ drop k xs ≡ xs
 taken k most xs few =
-    ap (λ l. l ++ drop k xs) (sym (take-append-le k (take most xs) (drop most xs) few) ∙ ap (take k) (take-append-drop most xs)) ∙ take-append-drop k xs
+    ap (λ l. l ++ drop k xs)
+    (sym (take-append-le k (take most xs) (drop most xs) few) ∙ ap (take k) (take-append-drop most xs))
+    ∙ take-append-drop k xs
 
 pub greetings_grow : (lines : List (List ℕ)) (before after : List ℕ) (from to : Standing)
     → GreetsLines lines before after from to → Grown before after
@@ -130,7 +155,8 @@ after_stop_ends Stopping h = absurd (search rules)
 
 -- nothing was read or written, and the state is the same or no longer opened
 quiet : (old new : Connection) → IsStream old → (new.standing ≡ Open → old.standing ≡ Open) → new.kept ≡ old.kept
-    → all_read new.acts ≡ all_read old.acts → all_written new.acts ≡ all_written old.acts → Grown old.waiting new.waiting
+    → all_read new.acts ≡ all_read old.acts → all_written new.acts ≡ all_written old.acts
+    → Grown old.waiting new.waiting
     → GoesOn old new
 quiet old new s opens kept was put more = record {
   stream = λ opened. subst (λ (k : Kept). StandsFor k (all_read new.acts)) (sym kept)
@@ -140,7 +166,8 @@ quiet old new s opens kept was put more = record {
 
 lost_goes_on : (old new : Connection) → IsStream old → IsLost old new → GoesOn old new
 lost_goes_on old new s h =
-    quiet old new s (λ opened. not_open new.standing opened h.standing) h.silent.kept (ap all_read h.acts) (ap all_written h.acts)
+    quiet old new s (λ opened. not_open new.standing opened h.standing) h.silent.kept (ap all_read h.acts)
+    (ap all_written h.acts)
     (grown_none _ _ h.silent.waiting)
 
 waits_goes_on : (any : Option Bool) (old new : Connection) → IsStream old → HasWaited any old new → GoesOn old new
@@ -157,7 +184,8 @@ looks_goes_on (Some moment) old new s h =
 
 stops_goes_on : (moment : ℕ) (old new : Connection) → IsStream old → NotesStop moment old new → GoesOn old new
 stops_goes_on moment old new s h =
-    quiet old new s (λ opened. after_stop_ends old.standing (sym h.standing ∙ opened)) h.silent.kept (ap all_read h.acts)
+    quiet old new s (λ opened. after_stop_ends old.standing (sym h.standing ∙ opened)) h.silent.kept
+    (ap all_read h.acts)
     (ap all_written h.acts) (grown_none _ _ h.silent.waiting)
 
 cases : (b : Bool) {P Q R : Type 0} → MatchBool b P Q → (b ≡ true → P → R) → (b ≡ false → Q → R) → R
@@ -165,7 +193,8 @@ cases true h f g = f refl h
 cases false h f g = g refl h
 
 same_goes_on : (old new : Connection) → IsStream old → new ≡ old → GoesOn old new
-same_goes_on old new s e = subst (λ (c : Connection). GoesOn old c) (sym e) (record { stream = s; grown = grown_none _ _ refl })
+same_goes_on old new s e =
+    subst (λ (c : Connection). GoesOn old c) (sym e) (record { stream = s; grown = grown_none _ _ refl })
 
 -- one thing after another
 pub goes_on_both : (a b c : Connection) → GoesOn a b → GoesOn b c → GoesOn a c
@@ -185,23 +214,28 @@ record Brought (octets : List ℕ) (old mid : Connection) : Type 0 where
   pub told : all_appended mid ≡ all_appended old
   pub opened : mid.standing ≡ Open → old.standing ≡ Open
 
-read_brings : (c : Came) (octets : List ℕ) (moment : ℕ) (old mid : Connection) → IsStream old → HasRead c octets moment old mid
+read_brings : (c : Came) (octets : List ℕ) (moment : ℕ) (old mid : Connection) → IsStream old
+    → HasRead c octets moment old mid
     → Brought octets old mid
 read_brings c octets moment old mid s h = record {
   stands = λ opened. subst (λ (k : Kept). StandsFor k (all_read old.acts)) (sym h.silent.kept) (s opened);
   read = ap all_read h.acts ∙ read_more old.acts c octets;
-  told = ap (λ l. l ++ mid.waiting) (ap all_written h.acts ∙ written_read old.acts c octets) ∙ ap (λ l. all_written old.acts ++ l) h.silent.waiting;
+  told =
+      ap (λ l. l ++ mid.waiting) (ap all_written h.acts ∙ written_read old.acts c octets)
+      ∙ ap (λ l. all_written old.acts ++ l) h.silent.waiting;
   opened = λ opened. ends_not_open c old.standing (sym h.standing ∙ opened);
 }
 
 -- without octets nothing is heard
-read_goes_on : (c : Came) (octets : List ℕ) (moment : ℕ) (old mid new : Connection) → IsStream old → HasRead c octets moment old mid
+read_goes_on : (c : Came) (octets : List ℕ) (moment : ℕ) (old mid new : Connection) → IsStream old
+    → HasRead c octets moment old mid
     → octets ≡ [] → new ≡ mid → GoesOn old new
 read_goes_on c octets moment old mid new s h none e =
     let b = read_brings c octets moment old mid s h in
     subst (λ (x : Connection). GoesOn old x) (sym e) (record {
       stream = λ opened. subst (λ (l : List ℕ). StandsFor mid.kept l)
-          (sym (b.read ∙ (ap (λ l. all_read old.acts ++ l) none ∙ append-nil (all_read old.acts)))) (b.stands (b.opened opened));
+          (sym (b.read ∙ (ap (λ l. all_read old.acts ++ l) none ∙ append-nil (all_read old.acts))))
+          (b.stands (b.opened opened));
       grown = grown_none _ _ b.told;
     })
 
@@ -212,63 +246,89 @@ no_octets (x ∷ xs) n e f = absurd (grind (arith, nat_tests))
 is_open_heard : (c : Connection) → c.ready.readable && is_heard c ≡ true → c.standing ≡ Open
 is_open_heard c h = open_is c.standing (search rules)
 
-grown_from : (old mid new : Connection) → all_appended mid ≡ all_appended old → new.acts ≡ mid.acts → Grown mid.waiting new.waiting → Grown (all_appended old) (all_appended new)
+grown_from : (old mid new : Connection) → all_appended mid ≡ all_appended old → new.acts ≡ mid.acts
+    → Grown mid.waiting new.waiting → Grown (all_appended old) (all_appended new)
 grown_from old mid new e same g =
-    subst (λ (l : List ℕ). Grown l (all_appended new)) e (grown_behind (all_written mid.acts) (all_written new.acts) mid.waiting new.waiting (ap all_written same) g)
+    subst (λ (l : List ℕ). Grown l (all_appended new)) e
+    (grown_behind (all_written mid.acts) (all_written new.acts) mid.waiting new.waiting (ap all_written same) g)
 
-answered_goes_on : {D : Type 0} (replies : Replying D) (shows : Showing D) (octets : List ℕ) (moment : ℕ) (d d' : D) (old mid new : Connection)
+answered_goes_on : {D : Type 0} (replies : Replying D) (shows : Showing D) (octets : List ℕ) (moment : ℕ) (d d' : D)
+    (old mid new : Connection)
     → Brought octets old mid → old.standing ≡ Open → IsHeardAt moment mid new
     → AnswersPiece replies shows octets d d' mid new ⊎ LosesPiece replies shows octets d mid new → GoesOn old new
 answered_goes_on replies shows octets moment d d' old mid new b opened at (inl a) = record {
-  stream = λ still. subst (λ (l : List ℕ). StandsFor new.kept l) (sym (ap all_read at.acts ∙ b.read)) (a.stands (all_read old.acts) (b.stands opened));
+  stream = λ still.
+      subst (λ (l : List ℕ). StandsFor new.kept l) (sym (ap all_read at.acts ∙ b.read))
+      (a.stands (all_read old.acts) (b.stands opened));
   grown = grown_from old mid new b.told at.acts
-      (octets_grow replies shows (all_read old.acts) octets d d' mid.waiting new.waiting a.standing a.stopped (a.answers (all_read old.acts) (b.stands opened)));
+      (octets_grow replies shows (all_read old.acts) octets d d' mid.waiting new.waiting a.standing a.stopped
+      (a.answers (all_read old.acts) (b.stands opened)));
 }
 answered_goes_on replies shows octets moment d d' old mid new b opened at (inr l) = record {
   stream = λ still. not_open new.standing still l.lost;
   grown = grown_from old mid new b.told at.acts
-      (broken_grow replies shows (all_read old.acts) octets d mid.waiting new.waiting (l.broke (all_read old.acts) (b.stands opened)));
+      (broken_grow replies shows (all_read old.acts) octets d mid.waiting new.waiting
+      (l.broke (all_read old.acts) (b.stands opened)));
 }
 
 greeted_goes_on : (octets : List ℕ) (moment : ℕ) (old mid new : Connection)
     → Brought octets old mid → old.standing ≡ Open → IsHeardAt moment mid new
     → GreetsPiece octets mid new ⊎ LosesGreeting octets mid new → GoesOn old new
 greeted_goes_on octets moment old mid new b opened at (inl a) = record {
-  stream = λ still. subst (λ (l : List ℕ). StandsFor new.kept l) (sym (ap all_read at.acts ∙ b.read)) (a.stands (all_read old.acts) (b.stands opened));
-  grown = grown_from old mid new b.told at.acts (all_greetings_grow a.lines a.too_long mid.waiting new.waiting a.standing a.greeted a.greets);
+  stream = λ still.
+      subst (λ (l : List ℕ). StandsFor new.kept l) (sym (ap all_read at.acts ∙ b.read))
+      (a.stands (all_read old.acts) (b.stands opened));
+  grown =
+      grown_from old mid new b.told at.acts
+      (all_greetings_grow a.lines a.too_long mid.waiting new.waiting a.standing a.greeted a.greets);
 }
 greeted_goes_on octets moment old mid new b opened at (inr l) = record {
   stream = λ still. not_open new.standing still l.lost;
   grown = grown_from old mid new b.told at.acts
-      (broken_greeting_grows (all_read old.acts) octets mid.waiting new.waiting (l.broke (all_read old.acts) (b.stands opened)));
+      (broken_greeting_grows (all_read old.acts) octets mid.waiting new.waiting
+      (l.broke (all_read old.acts) (b.stands opened)));
 }
 
 greets_goes_on : (moment : ℕ) (old new : Connection) → IsStream old → HasGreeted moment old new → GoesOn old new
 greets_goes_on moment old new s h = cases (old.ready.readable && is_heard old) h
     (λ e r. cases (nat_lt 0 (octet_count r.came)) r.greets
-    (λ more p. greeted_goes_on r.octets moment old r.mid new (read_brings r.came r.octets moment old r.mid s r.read) (is_open_heard old e) p.at p.greeted)
-    (λ none q. read_goes_on r.came r.octets moment old r.mid new s r.read (no_octets r.octets (octet_count r.came) r.read.count none) q))
+    (λ more p.
+    greeted_goes_on r.octets moment old r.mid new (read_brings r.came r.octets moment old r.mid s r.read)
+    (is_open_heard old e) p.at p.greeted)
+    (λ none q.
+    read_goes_on r.came r.octets moment old r.mid new s r.read
+    (no_octets r.octets (octet_count r.came) r.read.count none) q))
     (λ e q. same_goes_on old new s q)
 
-hears_goes_on : {D : Type 0} (replies : Replying D) (shows : Showing D) (moment : ℕ) (d d' : D) (old new : Connection) → IsStream old
+hears_goes_on : {D : Type 0} (replies : Replying D) (shows : Showing D) (moment : ℕ) (d d' : D) (old new : Connection)
+    → IsStream old
     → HasHeard replies shows moment d d' old new → GoesOn old new
 hears_goes_on replies shows moment d d' old new s h = cases (old.ready.readable && is_heard old) h
     (λ e r. cases (nat_lt 0 (octet_count r.came)) r.hears
-    (λ more p. answered_goes_on replies shows r.octets moment d d' old r.mid new (read_brings r.came r.octets moment old r.mid s r.read) (is_open_heard old e) p.at p.heard)
-    (λ none q. read_goes_on r.came r.octets moment old r.mid new s r.read (no_octets r.octets (octet_count r.came) r.read.count none) q.1))
+    (λ more p.
+    answered_goes_on replies shows r.octets moment d d' old r.mid new
+    (read_brings r.came r.octets moment old r.mid s r.read) (is_open_heard old e) p.at p.heard)
+    (λ none q.
+    read_goes_on r.came r.octets moment old r.mid new s r.read
+    (no_octets r.octets (octet_count r.came) r.read.count none) q.1))
     (λ e q. same_goes_on old new s q.1)
 
 heeded_grow : {D : Type 0} (replies : Replying D) (shows : Showing D) (h : Heeded) (d d' : D) (old new : Connection)
     → AnswersHeeded replies shows h d d' old new → Grown old.waiting new.waiting
-heeded_grow replies shows h d d' old new (inl a) = all_grow replies shows h.lines h.too_long d d' old.waiting new.waiting a.1 a.0 a.2
+heeded_grow replies shows h d d' old new (inl a) =
+    all_grow replies shows h.lines h.too_long d d' old.waiting new.waiting a.1 a.0 a.2
 heeded_grow replies shows h d d' old new (inr l) = some_grow replies shows h.lines d old.waiting new.waiting l.0
 
-answers_goes_on : {D : Type 0} (replies : Replying D) (shows : Showing D) (moment : ℕ) (h : Option Heeded) (d d' : D) (old new : Connection)
+answers_goes_on : {D : Type 0} (replies : Replying D) (shows : Showing D) (moment : ℕ) (h : Option Heeded) (d d' : D)
+    (old new : Connection)
     → IsStream old → HasAnswered replies shows moment h d d' old new → GoesOn old new
 answers_goes_on replies shows moment None d d' old new s p = same_goes_on old new s p.1
 answers_goes_on replies shows moment (Some h) d d' old new s t = cases (is_open old.standing) t.said
-    (λ e p. quiet old new s (λ still. open_is old.standing e) t.kept (ap all_read t.acts) (ap all_written t.acts) (heeded_grow replies shows h d d' old new p.0))
-    (λ e q. quiet old new s (λ still. sym q.2 ∙ still) t.kept (ap all_read t.acts) (ap all_written t.acts) (grown_none _ _ q.1))
+    (λ e p.
+    quiet old new s (λ still. open_is old.standing e) t.kept (ap all_read t.acts) (ap all_written t.acts)
+    (heeded_grow replies shows h d d' old new p.0))
+    (λ e q.
+    quiet old new s (λ still. sym q.2 ∙ still) t.kept (ap all_read t.acts) (ap all_written t.acts) (grown_none _ _ q.1))
 
 refused_grows : (old new : Connection) → RefusesOpen old new → Grown old.waiting new.waiting
 refused_grows old new (inl t) = (busy_line, t.0)
@@ -276,8 +336,11 @@ refused_grows old new (inr t) = grown_none _ _ t.0
 
 refuses_goes_on : (moment : ℕ) (old new : Connection) → IsStream old → RefusesSeat moment old new → GoesOn old new
 refuses_goes_on moment old new s r = cases (is_open old.standing) r.told
-    (λ e p. quiet old new s (λ still. open_is old.standing e) r.kept (ap all_read r.acts) (ap all_written r.acts) (refused_grows old new p.0))
-    (λ e q. quiet old new s (λ still. sym q.1 ∙ still) r.kept (ap all_read r.acts) (ap all_written r.acts) (grown_none _ _ q.0))
+    (λ e p.
+    quiet old new s (λ still. open_is old.standing e) r.kept (ap all_read r.acts) (ap all_written r.acts)
+    (refused_grows old new p.0))
+    (λ e q.
+    quiet old new s (λ still. sym q.1 ∙ still) r.kept (ap all_read r.acts) (ap all_written r.acts) (grown_none _ _ q.0))
 
 write_not_open : (c : Came) (s : Standing) → after_write c s ≡ Open → s ≡ Open
 write_not_open (came.Octets n) s h = h
@@ -286,7 +349,8 @@ write_not_open came.Later s h = h
 write_not_open came.Again s h = h
 write_not_open came.Failed s h = absurd (search rules)
 
-whole : (c : Came) (w : List ℕ) → octet_count c ≤ length (take piece w) → take (octet_count c) (take piece w) ++ left_after c w ≡ w
+whole : (c : Came) (w : List ℕ) → octet_count c ≤ length (take piece w)
+    → take (octet_count c) (take piece w) ++ left_after c w ≡ w
 whole (came.Octets n) w few = taken n piece w few
 whole came.End w few = refl
 whole came.Later w few = refl
@@ -296,11 +360,13 @@ whole came.Failed w few = refl
 offered_goes_on : (moment : ℕ) (old new : Connection) → IsStream old → HasOffered moment old new → GoesOn old new
 offered_goes_on moment old new s w = record {
   stream = λ still. subst (λ (k : Kept). StandsFor k (all_read new.acts)) (sym w.kept)
-      (subst (λ (l : List ℕ). StandsFor old.kept l) (sym (ap all_read w.acts ∙ read_wrote old.acts w.came _)) (s (write_not_open w.came old.standing (sym w.standing ∙ still))));
+      (subst (λ (l : List ℕ). StandsFor old.kept l) (sym (ap all_read w.acts ∙ read_wrote old.acts w.came _))
+      (s (write_not_open w.came old.standing (sym w.standing ∙ still))));
   grown = grown_none _ _
       (ap (λ l. l ++ new.waiting) (ap all_written w.acts ∙ written_more old.acts w.came _)
       ∙ (append_assoc (all_written old.acts) _ new.waiting
-      ∙ ap (λ l. all_written old.acts ++ l) (ap (λ l. take (octet_count w.came) (take piece old.waiting) ++ l) w.waiting ∙ whole w.came old.waiting w.few)));
+      ∙ ap (λ l. all_written old.acts ++ l)
+      (ap (λ l. take (octet_count w.came) (take piece old.waiting) ++ l) w.waiting ∙ whole w.came old.waiting w.few)));
 }
 
 writes_goes_on : (moment : ℕ) (old new : Connection) → IsStream old → HasWritten moment old new → GoesOn old new
@@ -322,17 +388,22 @@ deeds_go_on [] old new s h = same_goes_on old new s (sym h)
 deeds_go_on (deed ∷ deeds) old new s h =
     let one = deed_goes_on deed old h.0 s h.1 in goes_on_both old h.0 new one (deeds_go_on deeds h.0 new one.stream h.2)
 
-seated_goes_on : {D : Type 0} (replies : Replying D) (shows : Showing D) (deed : SeatedDeed) (old new : D × Connection) → IsStream old.1
+seated_goes_on : {D : Type 0} (replies : Replying D) (shows : Showing D) (deed : SeatedDeed) (old new : D × Connection)
+    → IsStream old.1
     → IsSeatedDeed replies shows old deed new → GoesOn old.1 new.1
 seated_goes_on replies shows (alone deed) old new s h = deed_goes_on deed old.1 new.1 s h.1
-seated_goes_on replies shows (answers moment) old new s h = answers_goes_on replies shows moment old.1.heeded old.0 new.0 old.1 new.1 s h
+seated_goes_on replies shows (answers moment) old new s h =
+    answers_goes_on replies shows moment old.1.heeded old.0 new.0 old.1 new.1 s h
 seated_goes_on replies shows (hears moment) old new s h = hears_goes_on replies shows moment old.0 new.0 old.1 new.1 s h
 
-pub seated_go_on : {D : Type 0} (replies : Replying D) (shows : Showing D) (deeds : List SeatedDeed) (old new : D × Connection) → IsStream old.1
+pub seated_go_on : {D : Type 0} (replies : Replying D) (shows : Showing D) (deeds : List SeatedDeed)
+    (old new : D × Connection)
+    → IsStream old.1
     → AreSeatedDeeds replies shows deeds old new → GoesOn old.1 new.1
 seated_go_on {D} replies shows [] old new s h = same_goes_on old.1 new.1 s (ap (λ (p : D × Connection). p.1) (sym h))
 seated_go_on replies shows (deed ∷ deeds) old new s h =
-    let one = seated_goes_on replies shows deed old h.0 s h.1 in goes_on_both old.1 h.0.1 new.1 one (seated_go_on replies shows deeds h.0 new one.stream h.2)
+    let one = seated_goes_on replies shows deed old h.0 s h.1 in
+    goes_on_both old.1 h.0.1 new.1 one (seated_go_on replies shows deeds h.0 new one.stream h.2)
 
 -- ---- after the end
 
@@ -352,33 +423,48 @@ ended_by_write came.Failed s e = refl
 closed : (c : Connection) → is_open c.standing ≡ false → c.ready.readable && is_heard c ≡ true → {X : Type 0} → X
 closed c e h = absurd (search rules)
 
-ended_as : (old new : Connection) (s : Standing) → new.standing ≡ s → is_open s ≡ false → all_read new.acts ≡ all_read old.acts → StaysEnded old new
+ended_as : (old new : Connection) (s : Standing) → new.standing ≡ s → is_open s ≡ false
+    → all_read new.acts ≡ all_read old.acts → StaysEnded old new
 ended_as old new s same e got = record { ended = ap is_open same ∙ e; read = got }
 
 ended_same : (old new : Connection) → is_open old.standing ≡ false → new ≡ old → StaysEnded old new
-ended_same old new e same = record { ended = ap (λ (c : Connection). is_open c.standing) same ∙ e; read = ap (λ (c : Connection). all_read c.acts) same }
+ended_same old new e same =
+    record {
+      ended = ap (λ (c : Connection). is_open c.standing) same ∙ e;
+      read = ap (λ (c : Connection). all_read c.acts) same;
+    }
 
-wait_ends : (any : Option Bool) (old new : Connection) → is_open old.standing ≡ false → HasWaited any old new → StaysEnded old new
+wait_ends : (any : Option Bool) (old new : Connection) → is_open old.standing ≡ false → HasWaited any old new
+    → StaysEnded old new
 wait_ends None old new e h = ended_as old new Lost h.standing refl (ap all_read h.acts)
-wait_ends (Some any) old new e h = ended_as old new old.standing h.standing e (ap all_read h.acts ∙ read_waited old.acts _ any)
+wait_ends (Some any) old new e h =
+    ended_as old new old.standing h.standing e (ap all_read h.acts ∙ read_waited old.acts _ any)
 
-look_ends : (moment : Option ℕ) (old new : Connection) → is_open old.standing ≡ false → HasLooked moment old new → StaysEnded old new
+look_ends : (moment : Option ℕ) (old new : Connection) → is_open old.standing ≡ false → HasLooked moment old new
+    → StaysEnded old new
 look_ends None old new e h = ended_as old new Lost h.standing refl (ap all_read h.acts)
-look_ends (Some moment) old new e h = ended_as old new old.standing h.standing e (ap all_read h.acts ∙ read_looked old.acts moment)
+look_ends (Some moment) old new e h =
+    ended_as old new old.standing h.standing e (ap all_read h.acts ∙ read_looked old.acts moment)
 
-deed_ends : (deed : Deed) (old new : Connection) → is_open old.standing ≡ false → IsDeed old deed new → StaysEnded old new
+deed_ends : (deed : Deed) (old new : Connection) → is_open old.standing ≡ false → IsDeed old deed new
+    → StaysEnded old new
 deed_ends (waits any) old new e h = wait_ends any old new e h
 deed_ends (looks moment) old new e h = look_ends moment old new e h
-deed_ends (stops moment) old new e h = ended_as old new (after_stop old.standing) h.standing (ended_by_stop old.standing) (ap all_read h.acts)
-deed_ends (greets moment) old new e h = cases (old.ready.readable && is_heard old) h (λ may r. closed old e may) (λ may q. ended_same old new e q)
+deed_ends (stops moment) old new e h =
+    ended_as old new (after_stop old.standing) h.standing (ended_by_stop old.standing) (ap all_read h.acts)
+deed_ends (greets moment) old new e h =
+    cases (old.ready.readable && is_heard old) h (λ may r. closed old e may) (λ may q. ended_same old new e q)
 deed_ends (refuses moment) old new e h = cases (is_open old.standing) h.told
     (λ opened p. absurd (let u : true ≡ false = sym opened ∙ e in (search rules)))
     (λ opened q. ended_as old new old.standing q.1 e (ap all_read h.acts))
 deed_ends (writes moment) old new e h = cases (old.ready.writable && is_owed old) h
-    (λ may w. ended_as old new (after_write w.came old.standing) w.standing (ended_by_write w.came old.standing e) (ap all_read w.acts ∙ read_wrote old.acts w.came _))
+    (λ may w.
+    ended_as old new (after_write w.came old.standing) w.standing (ended_by_write w.came old.standing e)
+    (ap all_read w.acts ∙ read_wrote old.acts w.came _))
     (λ may q. ended_same old new e q)
 
-answer_ends : {D : Type 0} (replies : Replying D) (shows : Showing D) (moment : ℕ) (h : Option Heeded) (d d' : D) (old new : Connection)
+answer_ends : {D : Type 0} (replies : Replying D) (shows : Showing D) (moment : ℕ) (h : Option Heeded) (d d' : D)
+    (old new : Connection)
     → is_open old.standing ≡ false → HasAnswered replies shows moment h d d' old new → (d' ≡ d) × StaysEnded old new
 answer_ends replies shows moment None d d' old new e p = (p.0, ended_same old new e p.1)
 answer_ends replies shows moment (Some h) d d' old new e t = cases (is_open old.standing) t.said
@@ -386,14 +472,18 @@ answer_ends replies shows moment (Some h) d d' old new e t = cases (is_open old.
     (λ opened q. (q.0, ended_as old new old.standing q.2 e (ap all_read t.acts)))
 
 seated_ends : {D : Type 0} (replies : Replying D) (shows : Showing D) (deed : SeatedDeed) (old new : D × Connection)
-    → is_open old.1.standing ≡ false → IsSeatedDeed replies shows old deed new → (new.0 ≡ old.0) × StaysEnded old.1 new.1
+    → is_open old.1.standing ≡ false → IsSeatedDeed replies shows old deed new
+    → (new.0 ≡ old.0) × StaysEnded old.1 new.1
 seated_ends replies shows (alone deed) old new e h = (h.0, deed_ends deed old.1 new.1 e h.1)
-seated_ends replies shows (answers moment) old new e h = answer_ends replies shows moment old.1.heeded old.0 new.0 old.1 new.1 e h
+seated_ends replies shows (answers moment) old new e h =
+    answer_ends replies shows moment old.1.heeded old.0 new.0 old.1 new.1 e h
 seated_ends replies shows (hears moment) old new e h = cases (old.1.ready.readable && is_heard old.1) h
     (λ may r. closed old.1 e may) (λ may q. (q.0, ended_same old.1 new.1 e q.1))
 
-pub seated_end : {D : Type 0} (replies : Replying D) (shows : Showing D) (deeds : List SeatedDeed) (old new : D × Connection)
-    → is_open old.1.standing ≡ false → AreSeatedDeeds replies shows deeds old new → (new.0 ≡ old.0) × StaysEnded old.1 new.1
+pub seated_end : {D : Type 0} (replies : Replying D) (shows : Showing D) (deeds : List SeatedDeed)
+    (old new : D × Connection)
+    → is_open old.1.standing ≡ false → AreSeatedDeeds replies shows deeds old new
+    → (new.0 ≡ old.0) × StaysEnded old.1 new.1
 seated_end {D} replies shows [] old new e h =
     (ap (λ (p : D × Connection). p.0) (sym h), ended_same old.1 new.1 e (ap (λ (p : D × Connection). p.1) (sym h)))
 seated_end replies shows (deed ∷ deeds) old new e h =

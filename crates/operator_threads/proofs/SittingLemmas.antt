@@ -8,7 +8,8 @@ use Rattle.operator_threads.specs.Deeds.{Deed, SeatedDeed, AreDeeds, AreSeatedDe
 use Rattle.operator_threads.specs.Talks.{IsRoundAlone, HasWaitedFor, HasHadRounds, IsRoundSeated, HasSat, IsStep}
 use Rattle.operator_threads.proofs.CallerLemmas.{deeds_both, seated_both}
 
-all_both : {X : Type 0} (P : X → Type 0) (xs ys : List X) → AllByRecursion P xs → AllByRecursion P ys → AllByRecursion P (xs ++ ys)
+all_both : {X : Type 0} (P : X → Type 0) (xs ys : List X) → AllByRecursion P xs → AllByRecursion P ys
+    → AllByRecursion P (xs ++ ys)
 all_both P [] ys these those = those
 all_both P (x ∷ xs) ys these those = (these.0, all_both P xs ys these.1 those)
 
@@ -51,13 +52,18 @@ pub sat_both : {D : Type 0} (replies : Replying D) (shows : Showing D) (a b c : 
 sat_both replies shows a b c g h = (
   g.0 ++ h.0,
   all_both IsRoundSeated g.0 h.0 g.1 h.1,
-  subst (λ (deeds : List SeatedDeed). AreSeatedDeeds replies shows deeds a c) (sym (flat_map-append (λ deeds. deeds) g.0 h.0))
+  subst (λ (deeds : List SeatedDeed). AreSeatedDeeds replies shows deeds a c)
+      (sym (flat_map-append (λ deeds. deeds) g.0 h.0))
       (seated_both replies shows (flat_map (λ deeds. deeds) g.0) (flat_map (λ deeds. deeds) h.0) a b c g.2 h.2),
 )
 
 -- what a step did, whether the connection goes on or not
-pub sat_step : {D : Type 0} (replies : Replying D) (shows : Showing D) (goes_on : Bool) (deeds : List SeatedDeed) (a b c : D × Connection)
-    → HasSat replies shows a b → IsStep goes_on deeds → AreSeatedDeeds replies shows deeds b c → HasSat replies shows a c
-sat_step replies shows true deeds a b c g is done = sat_both replies shows a b c g (sat_one replies shows deeds b c is done)
+pub sat_step : {D : Type 0} (replies : Replying D) (shows : Showing D) (goes_on : Bool) (deeds : List SeatedDeed)
+    (a b c : D × Connection)
+    → HasSat replies shows a b → IsStep goes_on deeds → AreSeatedDeeds replies shows deeds b c
+    → HasSat replies shows a c
+sat_step replies shows true deeds a b c g is done =
+    sat_both replies shows a b c g (sat_one replies shows deeds b c is done)
 sat_step {D} replies shows false deeds a b c g is done =
-    subst (λ (s : D × Connection). HasSat replies shows a s) (subst (λ (ds : List SeatedDeed). AreSeatedDeeds replies shows ds b c) is done) g
+    subst (λ (s : D × Connection). HasSat replies shows a s)
+    (subst (λ (ds : List SeatedDeed). AreSeatedDeeds replies shows ds b c) is done) g

@@ -27,8 +27,10 @@ source_is a b h =
 
 pub source_itself : (a : VideoSource) → same_source a a ≡ true
 source_itself a =
-    from_both (nat_eq a.ssrc a.ssrc) (bytes_eq a.ip a.ip && nat_eq a.port a.port) ((unsigned_Decides a.ssrc a.ssrc).1 refl)
-    (from_both (bytes_eq a.ip a.ip) (nat_eq a.port a.port) ((bytes_eq-Decides a.ip a.ip).1 refl) ((unsigned_Decides a.port a.port).1 refl))
+    from_both (nat_eq a.ssrc a.ssrc) (bytes_eq a.ip a.ip && nat_eq a.port a.port)
+    ((unsigned_Decides a.ssrc a.ssrc).1 refl)
+    (from_both (bytes_eq a.ip a.ip) (nat_eq a.port a.port) ((bytes_eq-Decides a.ip a.ip).1 refl)
+    ((unsigned_Decides a.port a.port).1 refl))
 
 -- what passes as one choice is one
 pub choice_is : (a b : SlotChoice) → same_choice a b ≡ true → a ≡ b
@@ -39,10 +41,13 @@ choice_is a b h =
     λ i. record { out_ssrc = out i; source = source i }
 
 pub choice_itself : (a : SlotChoice) → same_choice a a ≡ true
-choice_itself a = from_both (nat_eq a.out_ssrc a.out_ssrc) (same_source a.source a.source) ((unsigned_Decides a.out_ssrc a.out_ssrc).1 refl) (source_itself a.source)
+choice_itself a =
+    from_both (nat_eq a.out_ssrc a.out_ssrc) (same_source a.source a.source)
+    ((unsigned_Decides a.out_ssrc a.out_ssrc).1 refl) (source_itself a.source)
 
 -- a test that passes one thing alone is an equivalence
-module _ {X : Type 0} (eq : X → X → Bool) (is : (a b : X) → eq a b ≡ true → a ≡ b) (itself : (a : X) → eq a a ≡ true) where
+module _ {X : Type 0} (eq : X → X → Bool) (is : (a b : X) → eq a b ≡ true → a ≡ b)
+    (itself : (a : X) → eq a a ≡ true) where
   alike : (x y z : X) → eq x y ≡ true → eq x z ≡ eq y z
   alike x y z h = ap (λ w. eq w z) (is x y h)
 

@@ -1,4 +1,5 @@
--- Which sources wait to be asked for a picture, and which may be asked (RFC 4585 section 6.3.1, a PLI; the rule is own).
+-- Which sources wait to be asked for a picture, and which may be asked (RFC 4585 section 6.3.1, a PLI; the rule is
+-- own).
 use Rattle.std.specs.Prelude.{ℕ, Bool, not, ◌&&◌, ◌-◌, nat_lt, if◌then◌else◌, List, [], ◌∷◌, ◌++◌, map, filter}
 use Rattle.desk_rows.specs.Desk.{Desk}
 use Rattle.picture_requests.specs.declared.source.VideoSource.{VideoSource}
@@ -45,7 +46,8 @@ due moment r = may_be_asked moment r.sent r.waiting
 abbrev pub still_chosen : List SlotChoice → List VideoSource → List VideoSource
 still_chosen choices sources = filter (is_among (chosen_sources choices)) sources
 
--- what waits after choices changed: what waited and is still chosen, and then the sources to which choices changed, each once
+-- what waits after choices changed: what waited and is still chosen, and then the sources to which choices changed,
+-- each once
 abbrev pub waiting_after : List SlotChoice → List SlotChoice → List VideoSource → List VideoSource
 waiting_after before after waiting = each_once (still_chosen after waiting ++ changed_to before after)
 

@@ -35,21 +35,24 @@ choices_after (ask source moment) choices = choices
 -- whether a source waits after a step, by the choices before it and whether it waited
 abbrev pub waits_after : VideoSource → RequestStep → List SlotChoice → Bool → Bool
 waits_after source (see desk moment) choices waits =
-    (is_among (chosen_sources (choices_of desk)) source && waits) || is_among (changed_to choices (choices_of desk)) source
+    (is_among (chosen_sources (choices_of desk)) source && waits)
+    || is_among (changed_to choices (choices_of desk)) source
 waits_after source (want wanted moment) choices waits = waits || same_source source wanted
 waits_after source (ask asked moment) choices waits = not (same_source source asked) && waits
 
 -- whether a source waits after these steps, by the choices before them and whether it waited
 abbrev pub waits_at_end : VideoSource → List RequestStep → List SlotChoice → Bool → Bool
 waits_at_end source [] choices waits = waits
-waits_at_end source (s ∷ ss) choices waits = waits_at_end source ss (choices_after s choices) (waits_after source s choices waits)
+waits_at_end source (s ∷ ss) choices waits =
+    waits_at_end source ss (choices_after s choices) (waits_after source s choices waits)
 
 -- when a source was asked in these steps
 abbrev pub asks_of : VideoSource → List RequestStep → List ℕ
 asks_of source [] = []
 asks_of source (see desk moment ∷ ss) = asks_of source ss
 asks_of source (want wanted moment ∷ ss) = asks_of source ss
-asks_of source (ask asked moment ∷ ss) = if same_source source asked then moment ∷ asks_of source ss else asks_of source ss
+asks_of source (ask asked moment ∷ ss) =
+    if same_source source asked then moment ∷ asks_of source ss else asks_of source ss
 
 -- ---- what a caller keeps to
 
@@ -58,7 +61,8 @@ abbrev pub AreDue : RequestsOf → List RequestStep → Type 0
 AreDue r [] = Unit {0}
 AreDue r (see desk moment ∷ ss) = AreDue (after_step (see desk moment) r) ss
 AreDue r (want source moment ∷ ss) = AreDue (after_step (want source moment) r) ss
-AreDue r (ask source moment ∷ ss) = (is_among (due moment r) source ≡ true) × AreDue (after_step (ask source moment) r) ss
+AreDue r (ask source moment ∷ ss) =
+    (is_among (due moment r) source ≡ true) × AreDue (after_step (ask source moment) r) ss
 
 -- No moment is before this one, or before one that came earlier.
 abbrev pub AreInOrder : ℕ → List RequestStep → Type 0

@@ -1,5 +1,6 @@
 -- Where a put falls.
-use Rattle.std.proofs.Common.{◌≡◌, ℕ, ℤ, ◌+◌, ◌-◌, ◌<◌, ◌≤◌, ◌^◌, ◌%◌, false, nat_lt, nat_le, List, length, drop, take, length-drop, refl, sym, ap, ◌∙◌, arith}
+use Rattle.std.proofs.Common.{◌≡◌, ℕ, ℤ, ◌+◌, ◌-◌, ◌<◌, ◌≤◌, ◌^◌, ◌%◌, false, nat_lt, nat_le, List, length, drop, take}
+use Rattle.std.proofs.Common.{length-drop, refl, sym, ap, ◌∙◌, arith}
 use Rattle.std.proofs.lemmas.List.{take_all}
 use Rattle.std.proofs.lemmas.Bool.Decides.{nat_tests}
 use Rattle.playout.specs.declared.placed.PlacedSamples.TheVariants.{Kept}
@@ -12,8 +13,10 @@ lt_no m n h = grind (arith, nat_tests)
 le_no : (m n : ℕ) → n < m → nat_le m n ≡ false
 le_no m n h = grind (arith, nat_tests)
 
-pub place_far : (p ts w far : ℕ) → p % 2 ^ 32 ≡ w → far ≡ (ts + 2 ^ 31 + 2 ^ 32 - w) % 2 ^ 32 → place_of p ts ≡ p + far - 2 ^ 31
-place_far p ts w far h is = ap (λ v. p + (ts + 2 ^ 31 + 2 ^ 32 - v) % 2 ^ 32 - 2 ^ 31) h ∙ ap (λ f. p + f - 2 ^ 31) (sym is)
+pub place_far : (p ts w far : ℕ) → p % 2 ^ 32 ≡ w → far ≡ (ts + 2 ^ 31 + 2 ^ 32 - w) % 2 ^ 32
+    → place_of p ts ≡ p + far - 2 ^ 31
+place_far p ts w far h is =
+    ap (λ v. p + (ts + 2 ^ 31 + 2 ^ 32 - v) % 2 ^ 32 - 2 ^ 31) h ∙ ap (λ f. p + f - 2 ^ 31) (sym is)
 
 pub placed_kept : (rate p q ts : ℕ) (pairs : List Pair) (samples : List ℤ) → place_of p ts ≡ q
     → q + length samples ≤ p + rate → p ≤ q + rate → p < q + length samples
@@ -37,8 +40,10 @@ pub count_is : (all some count : ℕ) → all ≡ some + count → count ≡ all
 count_is all some count e = omega (arith, e)
 
 -- the samples from the position on are all that count
-pub late_part : (p q b : ℕ) (pairs : List Pair) (samples : List ℤ) → q + b ≡ p → offers p pairs q samples ≡ offers p pairs (p + 0) (take (length samples - b) (drop b samples))
+pub late_part : (p q b : ℕ) (pairs : List Pair) (samples : List ℤ) → q + b ≡ p
+    → offers p pairs q samples ≡ offers p pairs (p + 0) (take (length samples - b) (drop b samples))
 late_part p q b pairs samples e =
     below_left p b q pairs samples e
     ∙ (let z : p ≡ p + 0 = omega arith in ap (λ (n : ℕ). offers p pairs n (drop b samples)) z)
-    ∙ ap (offers p pairs (p + 0)) (sym (take_all (length samples - b) (drop b samples) (omega (arith, length-drop b samples))))
+    ∙ ap (offers p pairs (p + 0))
+    (sym (take_all (length samples - b) (drop b samples) (omega (arith, length-drop b samples))))

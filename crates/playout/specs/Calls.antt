@@ -8,12 +8,17 @@ use Rattle.playout.specs.Playout.{Play, begun_by, is_reset, place_of, placed_of,
 abbrev pub put_after : Play → ℕ → List ℤ → Play
 put_after play ts samples =
     if is_reset play.rate play.position (place_of play.position ts) (length samples) then begun_by play.rate ts samples
-    else record { rate = play.rate; position = play.position; pairs = pairs_after play.rate play.position play.pairs ts samples }
+    else record {
+      rate = play.rate;
+      position = play.position;
+      pairs = pairs_after play.rate play.position play.pairs ts samples;
+    }
 
 -- the playout after a put at this rate: it begins anew if there was none, or one of another rate
 abbrev pub play_put : ℕ → Option Play → ℕ → List ℤ → Play
 play_put rate None ts samples = begun_by rate ts samples
-play_put rate (Some play) ts samples = if nat_eq play.rate rate then put_after play ts samples else begun_by rate ts samples
+play_put rate (Some play) ts samples =
+    if nat_eq play.rate rate then put_after play ts samples else begun_by rate ts samples
 
 -- the playout after a take of this many samples. Before the first put there is none.
 abbrev pub play_taken : ℕ → Option Play → Option Play
@@ -34,10 +39,12 @@ abbrev pub answer_of : Option Play → ℕ → List ℤ → PlacedSamples
 answer_of None ts samples = Kept (length samples)
 answer_of (Some play) ts samples = placed_of play.rate play.position play.pairs ts samples
 
--- These are the next samples of a playout, and this many of them are present. Before the first put they are zeros, and none is present.
+-- These are the next samples of a playout, and this many of them are present. Before the first put they are zeros, and
+-- none is present.
 abbrev pub PlaysOut : Option Play → List ℤ → ℕ → Type 0
 PlaysOut None out count = AreTaken [] 0 out × (count ≡ 0)
-PlaysOut (Some play) out count = AreTaken play.pairs play.position out × (count ≡ present play.pairs play.position (length out))
+PlaysOut (Some play) out count =
+    AreTaken play.pairs play.position out × (count ≡ present play.pairs play.position (length out))
 
 -- the playout, if it has this rate
 abbrev pub at_rate : ℕ → Option Play → Option Play

@@ -1,5 +1,7 @@
 -- A jitter buffer of samples: a position that never wraps, and samples at places (own).
-use Rattle.std.specs.Prelude.{◌≡◌, ℕ, ℤ, pos, ◌+◌, ◌-◌, ◌<◌, ◌%◌, ◌^◌, ◌/◌, ◌*◌, Bool, ◌||◌, if◌then◌else◌, nat_eq, nat_lt, nat_le, is_some, zero, suc, List, [], ◌∷◌, ◌++◌, length, Option, None, Some, unwrap_or, slice_index_or}
+use Rattle.std.specs.Prelude.{◌≡◌, ℕ, ℤ, pos, ◌+◌, ◌-◌, ◌<◌, ◌%◌, ◌^◌, ◌/◌, ◌*◌, Bool, ◌||◌, if◌then◌else◌, nat_eq}
+use Rattle.std.specs.Prelude.{nat_lt, nat_le, is_some, zero, suc, List, [], ◌∷◌, ◌++◌, length, Option, None, Some}
+use Rattle.std.specs.Prelude.{unwrap_or, slice_index_or}
 use Rattle.playout.specs.declared.placed.PlacedSamples.{PlacedSamples}
 use Rattle.playout.specs.declared.placed.PlacedSamples.TheVariants.{Kept, Late, Reset}
 
@@ -16,7 +18,9 @@ sample_at (pair ∷ pairs) place = if nat_eq pair.place place then Some pair.sam
 -- Those below the position are left out, and a place that has a sample keeps it.
 abbrev pub offer : ℕ → List Pair → ℕ → ℤ → List Pair
 offer position pairs place sample =
-    if nat_lt place position || is_some (sample_at pairs place) then pairs else pairs ++ record { place = place; sample = sample } ∷ []
+    if nat_lt place position || is_some (sample_at pairs place)
+    then pairs
+    else pairs ++ record { place = place; sample = sample } ∷ []
 
 -- the samples at this place onward
 abbrev pub offers : ℕ → List Pair → ℕ → List ℤ → List Pair
@@ -70,4 +74,5 @@ present pairs position (suc n) = present pairs position n + (if is_some (sample_
 
 -- These are the samples from the position on, 0 where there is none.
 abbrev pub AreTaken : List Pair → ℕ → List ℤ → Type 0
-AreTaken pairs position out = (i : ℕ) → i < length out → slice_index_or out i (pos 0) ≡ unwrap_or (sample_at pairs (position + i)) (pos 0)
+AreTaken pairs position out =
+    (i : ℕ) → i < length out → slice_index_or out i (pos 0) ≡ unwrap_or (sample_at pairs (position + i)) (pos 0)

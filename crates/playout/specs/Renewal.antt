@@ -1,5 +1,6 @@
 -- When the jitter buffer of a source begins anew because its sound is late, or because too much of it waits (own).
-use Rattle.std.specs.Prelude.{ℕ, ℤ, ◌+◌, ◌-◌, ◌*◌, ◌/◌, min, Bool, true, false, ◌||◌, if◌then◌else◌, nat_lt, nat_le, List, length, Option, None, Some}
+use Rattle.std.specs.Prelude.{ℕ, ℤ, ◌+◌, ◌-◌, ◌*◌, ◌/◌, min, Bool, true, false, ◌||◌, if◌then◌else◌, nat_lt, nat_le}
+use Rattle.std.specs.Prelude.{List, length, Option, None, Some}
 use Rattle.playout.specs.declared.offset.Offset.{Offset}
 use Rattle.playout.specs.declared.tally.SoundTally.{SoundTally}
 use Rattle.playout.specs.Playout.{Play, is_reset, place_of, begun_by}
@@ -25,7 +26,8 @@ full_span rate = rate * 20
 abbrev pub no_tally : SoundTally
 no_tally = record { late = 0; full = 0 }
 
--- how far the place of a timestamp is from the position. What lies ahead waits: it is there to be taken before the samples of this timestamp.
+-- how far the place of a timestamp is from the position. What lies ahead waits: it is there to be taken before the
+-- samples of this timestamp.
 abbrev pub offset_of : ℕ → ℕ → Offset
 offset_of position ts = record { ahead = place_of position ts - position; behind = position - place_of position ts }
 
@@ -33,7 +35,8 @@ offset_of position ts = record { ahead = place_of position ts - position; behind
 abbrev pub late_among : ℕ → Offset → ℕ
 late_among count offset = min count offset.behind
 
--- the tally with so many samples more. Each late sample adds its weight, and each sample in time takes 1 away. A put that does not find too much waiting ends the full sound.
+-- the tally with so many samples more. Each late sample adds its weight, and each sample in time takes 1 away. A put
+-- that does not find too much waiting ends the full sound.
 abbrev pub tallied : ℕ → SoundTally → Offset → ℕ → SoundTally
 tallied rate tally offset count = record {
   late = tally.late + late_weight * late_among count offset - (count - late_among count offset);
@@ -61,7 +64,8 @@ pub record SourcePlay : Type 0 where
 abbrev pub no_sound : Bool → SourcePlay
 no_sound renews = record { play = None; tally = no_tally; renews = renews }
 
--- a source after a put at this rate that leads to this tally. Where that is overdue, the playout begins anew, as by a first put.
+-- a source after a put at this rate that leads to this tally. Where that is overdue, the playout begins anew, as by a
+-- first put.
 abbrev pub renewing_put : ℕ → Option Play → SoundTally → ℕ → List ℤ → SourcePlay
 renewing_put rate play tally ts samples =
     if is_overdue rate tally then record { play = Some (begun_by rate ts samples); tally = no_tally; renews = true }

@@ -1,5 +1,6 @@
 -- What an address may be sent, and what it may ask for and report (own).
-use Rattle.std.specs.Prelude.{ℕ, ◌+◌, ◌-◌, ◌*◌, ◌/◌, min, nat_eq, if◌then◌else◌, List, [], ◌∷◌, take, Option, None, Some}
+use Rattle.std.specs.Prelude.{ℕ, ◌+◌, ◌-◌, ◌*◌, ◌/◌, min, nat_eq, if◌then◌else◌, List, [], ◌∷◌, take, Option, None}
+use Rattle.std.specs.Prelude.{Some}
 use Rattle.rtp_codec.specs.declared.address.Address.{Address}
 use Rattle.rtp_codec.specs.Address.{same_address}
 use Rattle.rate_limiter.specs.declared.bucket.Bucket.{Bucket}
@@ -18,7 +19,8 @@ new_tokens = 256
 abbrev pub most_tokens : ℕ
 most_tokens = 65536
 
--- the most of a quota that is granted to an address in a window: numbers that are asked for again; report blocks and PLIs
+-- the most of a quota that is granted to an address in a window: numbers that are asked for again; report blocks and
+-- PLIs
 abbrev pub most_of : Quota → ℕ
 most_of Numbers = 512
 most_of Items = 64
@@ -56,11 +58,19 @@ used a buckets = a ∷ take (most_addresses - 1) (other_buckets a.address bucket
 
 -- a datagram of this many octets came: 1.5 octets of tokens for each, up to the most tokens
 abbrev pub refilled : ℕ → Bucket → Bucket
-refilled octets a = record { address = a.address; tokens = min (a.tokens + octets * 3 / 2) most_tokens; window = a.window; numbers = a.numbers; items = a.items }
+refilled octets a =
+    record {
+      address = a.address;
+      tokens = min (a.tokens + octets * 3 / 2) most_tokens;
+      window = a.window;
+      numbers = a.numbers;
+      items = a.items;
+    }
 
 -- this many octets were sent
 abbrev pub paid : ℕ → Bucket → Bucket
-paid octets a = record { address = a.address; tokens = a.tokens - octets; window = a.window; numbers = a.numbers; items = a.items }
+paid octets a =
+    record { address = a.address; tokens = a.tokens - octets; window = a.window; numbers = a.numbers; items = a.items }
 
 -- how much of a quota was granted in the bucket's last window
 abbrev pub counted_of : Quota → Bucket → ℕ
@@ -78,6 +88,18 @@ left_in window quota a = most_of quota - counted_in window quota a
 -- this much of a quota was granted in a window
 abbrev pub counted : ℕ → Quota → ℕ → Bucket → Bucket
 counted window Numbers granted a =
-    record { address = a.address; tokens = a.tokens; window = window; numbers = counted_in window Numbers a + granted; items = counted_in window Items a }
+    record {
+      address = a.address;
+      tokens = a.tokens;
+      window = window;
+      numbers = counted_in window Numbers a + granted;
+      items = counted_in window Items a;
+    }
 counted window Items granted a =
-    record { address = a.address; tokens = a.tokens; window = window; numbers = counted_in window Numbers a; items = counted_in window Items a + granted }
+    record {
+      address = a.address;
+      tokens = a.tokens;
+      window = window;
+      numbers = counted_in window Numbers a;
+      items = counted_in window Items a + granted;
+    }

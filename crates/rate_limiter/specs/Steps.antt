@@ -1,5 +1,6 @@
 -- What happens to a limiter, step by step, and what it grants (own).
-use Rattle.std.specs.Prelude.{ℕ, ◌+◌, ◌≤◌, min, nat_eq, nat_le, Bool, false, ◌&&◌, not, if◌then◌else◌, List, [], ◌∷◌, Option, None, Some}
+use Rattle.std.specs.Prelude.{ℕ, ◌+◌, ◌≤◌, min, nat_eq, nat_le, Bool, false, ◌&&◌, not, if◌then◌else◌, List, [], ◌∷◌}
+use Rattle.std.specs.Prelude.{Option, None, Some}
 use Rattle.std.specs.Option.{is_some}
 use Rattle.rtp_codec.specs.declared.address.Address.{Address}
 use Rattle.rtp_codec.specs.Address.{same_address}
@@ -8,7 +9,8 @@ use Rattle.rate_limiter.specs.declared.quota.Quota.{Quota}
 use Rattle.rate_limiter.specs.declared.quota.Quota.TheVariants.{Numbers, Items}
 use Rattle.rate_limiter.specs.Buckets.{bucket_at, bucket_of, used, refilled, paid, counted, left_in, window_of}
 
--- a datagram of this many octets came from an address; this many octets are to be sent to it; it asks for this much of a quota
+-- a datagram of this many octets came from an address; this many octets are to be sent to it; it asks for this much of
+-- a quota
 pub data LimiterStep : Type 0 where
   refill : (from : Address) → (octets : ℕ) → LimiterStep
   spend : (to : Address) → (octets : ℕ) → LimiterStep
@@ -30,8 +32,10 @@ may_ask from moment quota count buckets = min count (left_in (window_of moment) 
 -- the buckets after a step
 abbrev pub buckets_after : LimiterStep → List Bucket → List Bucket
 buckets_after (refill from octets) buckets = used (refilled octets (bucket_of from buckets)) buckets
-buckets_after (spend to octets) buckets = if may_spend to octets buckets then used (paid octets (bucket_of to buckets)) buckets else buckets
-buckets_after (ask from moment quota count) buckets = used (counted (window_of moment) quota (may_ask from moment quota count buckets) (bucket_of from buckets)) buckets
+buckets_after (spend to octets) buckets =
+    if may_spend to octets buckets then used (paid octets (bucket_of to buckets)) buckets else buckets
+buckets_after (ask from moment quota count) buckets =
+    used (counted (window_of moment) quota (may_ask from moment quota count buckets) (bucket_of from buckets)) buckets
 
 -- the octets that came from an address in a step
 abbrev pub octets_from : Address → LimiterStep → ℕ
@@ -42,7 +46,8 @@ octets_from address (ask from moment quota count) = 0
 -- the octets that a step grants to an address
 abbrev pub octets_to : Address → LimiterStep → List Bucket → ℕ
 octets_to address (refill from octets) buckets = 0
-octets_to address (spend to octets) buckets = if same_address to address && may_spend to octets buckets then octets else 0
+octets_to address (spend to octets) buckets =
+    if same_address to address && may_spend to octets buckets then octets else 0
 octets_to address (ask from moment quota count) buckets = 0
 
 -- as much of a quota as this is, if it is so much of another
@@ -57,11 +62,16 @@ abbrev pub granted_at : Address → Quota → ℕ → LimiterStep → List Bucke
 granted_at address quota window (refill from octets) buckets = 0
 granted_at address quota window (spend to octets) buckets = 0
 granted_at address quota window (ask from moment asked count) buckets =
-    if same_address from address && nat_eq (window_of moment) window then counted_as quota asked (may_ask from moment asked count buckets) else 0
+    if same_address from address && nat_eq (window_of moment) window
+    then counted_as quota asked (may_ask from moment asked count buckets)
+    else 0
 
 -- 1 if a step enters an address anew, else 0
 abbrev pub enters : Address → LimiterStep → List Bucket → ℕ
-enters address step buckets = if is_some (bucket_at address (buckets_after step buckets)) && not (is_some (bucket_at address buckets)) then 1 else 0
+enters address step buckets =
+    if is_some (bucket_at address (buckets_after step buckets)) && not (is_some (bucket_at address buckets))
+    then 1
+    else 0
 
 -- the octets that came from an address
 abbrev pub all_from : Address → List LimiterStep → ℕ
@@ -76,7 +86,8 @@ all_to address (s ∷ ss) buckets = octets_to address s buckets + all_to address
 -- how much of a quota was granted to an address in a window
 abbrev pub all_asked : Address → Quota → ℕ → List LimiterStep → List Bucket → ℕ
 all_asked address quota window [] buckets = 0
-all_asked address quota window (s ∷ ss) buckets = granted_at address quota window s buckets + all_asked address quota window ss (buckets_after s buckets)
+all_asked address quota window (s ∷ ss) buckets =
+    granted_at address quota window s buckets + all_asked address quota window ss (buckets_after s buckets)
 
 -- how many times an address was entered anew
 abbrev pub entries : Address → List LimiterStep → List Bucket → ℕ

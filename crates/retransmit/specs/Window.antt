@@ -1,4 +1,5 @@
--- The window of an outgoing stream: which packets can be sent again, and to whom (own; generic NACKs, RFC 4585 section 6.2.1, ask for them).
+-- The window of an outgoing stream: which packets can be sent again, and to whom (own; generic NACKs, RFC 4585 section
+-- 6.2.1, ask for them).
 use Rattle.std.specs.Prelude.{◌≡◌, ℕ, ◌-◌, Bool, ◌&&◌, nat_eq, List, [], ◌∷◌, length, drop, find, Option, None, IfSome}
 use Rattle.std.specs.List.{last_or}
 use Rattle.rtp_codec.specs.Address.{same_address}

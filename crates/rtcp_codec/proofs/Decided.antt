@@ -1,5 +1,6 @@
 -- Octets are a compound or have a fault.
-use Rattle.std.proofs.Common.{◌≡◌, ℕ, zero, suc, ◌+◌, ◌-◌, ◌*◌, ◌%◌, ◌^◌, ◌<◌, ◌≤◌, Bool, true, false, List, [], ◌∷◌, ◌++◌, length, get_or, take, drop, refl, sym, ap, ◌∙◌, arith, inl, inr}
+use Rattle.std.proofs.Common.{◌≡◌, ℕ, zero, suc, ◌+◌, ◌-◌, ◌*◌, ◌%◌, ◌^◌, ◌<◌, ◌≤◌, Bool, true, false, List, [], ◌∷◌}
+use Rattle.std.proofs.Common.{◌++◌, length, get_or, take, drop, refl, sym, ap, ◌∙◌, arith, inl, inr}
 use Rattle.std.specs.Prelude.{◌⊎◌}
 use Rattle.std.specs.Int.{w32, to_be_bytes}
 use Rattle.std.specs.List.{flat_map, AllByRecursion}
@@ -13,11 +14,14 @@ use Rattle.rtcp_codec.specs.declared.kind.PacketKind.TheVariants as kinds
 use Rattle.rtcp_codec.specs.Kind.{kind_of}
 use Rattle.rtcp_codec.specs.Description.{Item, Chunk, item_octets, chunk_octets, IsFill, FitsItem, FitsChunk, HasChunks}
 use Rattle.rtcp_codec.specs.Packet.{Packet}
-use Rattle.rtcp_codec.specs.Compound.{version, size, kind_at, is_padded, padding_of, packet_at, body_of, IsReport, IsWholeReason, IsWholeBody, IsBadPadding, IsFirstOf, fault_order, IsCompound, HasFault}
+use Rattle.rtcp_codec.specs.Compound.{version, size, kind_at, is_padded, padding_of, packet_at, body_of, IsReport}
+use Rattle.rtcp_codec.specs.Compound.{IsWholeReason, IsWholeBody, IsBadPadding, IsFirstOf, fault_order, IsCompound}
+use Rattle.rtcp_codec.specs.Compound.{HasFault}
 use Rattle.rtcp_codec.specs.inner.Reading.{HasItems, HasChunk, IsHead, IsGoodPadding, Takes}
 use Rattle.rtcp_codec.proofs.Framing.{IsBytes, IsBytes-take, IsBytes-drop}
 use Rattle.rtcp_codec.proofs.Lists.{front_of}
-use Rattle.rtcp_codec.proofs.Descriptions.{item_at, no_items, items_behind, items_stand, chunk_long, chunk_parts, chunks_behind, no_chunks}
+use Rattle.rtcp_codec.proofs.Descriptions.{item_at, no_items, items_behind, items_stand, chunk_long, chunk_parts}
+use Rattle.rtcp_codec.proofs.Descriptions.{chunks_behind, no_chunks}
 use Rattle.rtcp_codec.proofs.WholeBodies.{first_32, body_words, judged_packet, padding_first, body_first}
 use Rattle.rtcp_codec.proofs.Compounds.{GoesOn, goes_on_first, goes_on, first_fault, later_fault, is_compound}
 
@@ -50,7 +54,8 @@ one_more i octets rest fits e r = record {
 -- n: no fewer than there are octets
 some_items : (n : ℕ) (octets : List ℕ) → length octets ≤ n → IsBytes octets → Items octets ⊎ (HasItems octets → ⊥)
 some_items n [] few bytes = inr (no_items [] (λ some. absurd (omega arith)) (omega arith))
-some_items n (zero ∷ rest) few bytes = inl (record { items = []; rest = rest; fits = tt; parts = refl; bytes = λ i. bytes (suc i) })
+some_items n (zero ∷ rest) few bytes =
+    inl (record { items = []; rest = rest; fits = tt; parts = refl; bytes = λ i. bytes (suc i) })
 some_items zero (suc k ∷ more) few bytes = absurd (omega arith)
 some_items (suc n) (suc k ∷ more) few bytes =
     let octets : List ℕ = suc k ∷ more in
@@ -77,7 +82,8 @@ record Described (octets : List ℕ) : Type 0 where
   pub words : length rest % 4 ≡ 0
   pub bytes : IsBytes rest
 
-described : (ssrc : ℕ) (octets behind : List ℕ) → length octets % 4 ≡ 0 → octets ≡ to_be_bytes w32 ssrc ++ behind → ssrc < 2 ^ 32 → Items behind → Described octets
+described : (ssrc : ℕ) (octets behind : List ℕ) → length octets % 4 ≡ 0 → octets ≡ to_be_bytes w32 ssrc ++ behind
+    → ssrc < 2 ^ 32 → Items behind → Described octets
 described ssrc octets behind words e small r =
     let chunk : Chunk = record { ssrc = ssrc; items = r.items } in
     let over = length r.rest % 4 in
@@ -122,14 +128,16 @@ reason_or_not : (octets : List ℕ) → Decided (IsWholeReason octets)
 reason_or_not [] = inl tt
 reason_or_not (n ∷ octets) = at_most n (length octets)
 
-body_or_not : (k : PacketKind) (n : ℕ) (body : List ℕ) → IsBytes body → length body % 4 ≡ 0 → Decided (IsWholeBody k n body)
+body_or_not : (k : PacketKind) (n : ℕ) (body : List ℕ) → IsBytes body → length body % 4 ≡ 0
+    → Decided (IsWholeBody k n body)
 body_or_not kinds.Sender n body bytes words = at_most (24 + 24 * n) (length body)
 body_or_not kinds.Receiver n body bytes words = at_most (4 + 24 * n) (length body)
 body_or_not kinds.Sdes n body bytes words = chunks_or_not n body bytes words
 body_or_not kinds.Bye n body bytes words =
     elim (at_most (4 * n) (length body)) [
       | inr short ↦ inr (λ h. short h.0)
-      | inl long ↦ elim (reason_or_not (drop (4 * n) body)) [ inl whole ↦ inl (long, whole) | inr cut ↦ inr (λ h. cut h.1) ]
+      | inl long ↦
+          elim (reason_or_not (drop (4 * n) body)) [ inl whole ↦ inl (long, whole) | inr cut ↦ inr (λ h. cut h.1) ]
     ]
 body_or_not kinds.App n body bytes words = at_most 8 (length body)
 body_or_not kinds.Nack n body bytes words = at_most 12 (length body)
@@ -154,16 +162,28 @@ Faulty first octets = (fault : RtcpFault) × IsFirstOf fault_order first fault o
 
 too_short : (first : Bool) (octets : List ℕ) → length octets < 4 → Faulty first octets
 too_short true octets short = (Short, inl ((refl, short), refl))
-too_short false octets short = (Length, inr (λ h. absurd (let e = h.0 in cc), inr (λ h. omega (arith, h.0, short), inr (λ h. absurd (let e = h.0 in cc), inl (omega (arith, short), refl)))))
+too_short false octets short = (
+  Length,
+  inr (
+    λ h. absurd (let e = h.0 in cc),
+    inr (λ h. omega (arith, h.0, short), inr (λ h. absurd (let e = h.0 in cc), inl (omega (arith, short), refl))),
+  ),
+)
 
-sized : (first : Bool) (octets : List ℕ) → 4 ≤ length octets → version octets ≡ 2 → (first ≡ true → IsReport (kind_at octets)) → Faulty first octets ⊎ IsHead first octets
+sized : (first : Bool) (octets : List ℕ) → 4 ≤ length octets → version octets ≡ 2
+    → (first ≡ true → IsReport (kind_at octets)) → Faulty first octets ⊎ IsHead first octets
 sized first octets long two report =
     elim (cases_lt (length octets) (size octets)) [
-      | inl short ↦ inl (Length, inr (λ h. omega (arith, h.1, long), inr (λ h. h.1 two, inr (λ h. h.1 (report h.0), inl (short, refl)))))
+      | inl short ↦
+          inl (
+            Length,
+            inr (λ h. omega (arith, h.1, long), inr (λ h. h.1 two, inr (λ h. h.1 (report h.0), inl (short, refl)))),
+          )
       | inr whole ↦ inr (record { long = long; is_version = two; report = report; whole = whole })
     ]
 
-begun : (first : Bool) (octets : List ℕ) → 4 ≤ length octets → version octets ≡ 2 → Faulty first octets ⊎ IsHead first octets
+begun : (first : Bool) (octets : List ℕ) → 4 ≤ length octets → version octets ≡ 2
+    → Faulty first octets ⊎ IsHead first octets
 begun false octets long two = sized false octets long two (λ e. absurd cc)
 begun true octets long two =
     elim (report_or_not (kind_at octets)) [
@@ -193,7 +213,8 @@ ended : (rest : List ℕ) → Ended rest
 ended [] = record { at_end = true; none = λ e. refl; some = λ e. absurd cc }
 ended (x ∷ xs) = record { at_end = false; none = λ e. absurd cc; some = λ e. omega arith }
 
-counted : (at_end : Bool) (n : ℕ) (packet : List ℕ) → is_padded packet ≡ true → IsGoodPadding at_end n packet ⊎ ((at_end ≡ false) ⊎ IsBadPadding n packet)
+counted : (at_end : Bool) (n : ℕ) (packet : List ℕ) → is_padded packet ≡ true
+    → IsGoodPadding at_end n packet ⊎ ((at_end ≡ false) ⊎ IsBadPadding n packet)
 counted false n packet set = inr (inl refl)
 counted true n packet set =
     elim (cases_eq n 0) [
@@ -202,12 +223,20 @@ counted true n packet set =
         | inr broken ↦ inr (inr (inr (inl broken)))
         | inl words ↦ elim (cases_lt (length packet) (4 + n)) [
           | inl short ↦ inr (inr (inr (inr short)))
-          | inr long ↦ inl (record { none = λ e. absurd (let x = sym set ∙ e in cc); last = λ e. refl; some = λ e. omega (arith, some); words = words; size = long })
+          | inr long ↦
+              inl (record {
+                none = λ e. absurd (let x = sym set ∙ e in cc);
+                last = λ e. refl;
+                some = λ e. omega (arith, some);
+                words = words;
+                size = long;
+              })
         ]
       ]
     ]
 
-no_padding : (at_end : Bool) (n : ℕ) (packet : List ℕ) → 4 ≤ length packet → is_padded packet ≡ false → n ≡ 0 → IsGoodPadding at_end n packet
+no_padding : (at_end : Bool) (n : ℕ) (packet : List ℕ) → 4 ≤ length packet → is_padded packet ≡ false → n ≡ 0
+    → IsGoodPadding at_end n packet
 no_padding at_end n packet long unset none = record {
   none = λ e. none;
   last = λ e. absurd (let x = sym unset ∙ e in cc);
@@ -216,8 +245,11 @@ no_padding at_end n packet long unset none = record {
   size = omega (arith, none, long);
 }
 
-padding_by : (at_end padded : Bool) (packet : List ℕ) → 4 ≤ length packet → is_padded packet ≡ padded → IsGoodPadding at_end (padding_of packet) packet ⊎ ((is_padded packet ≡ true) × ((at_end ≡ false) ⊎ IsBadPadding (padding_of packet) packet))
-padding_by at_end false packet long unset = inl (no_padding at_end (padding_of packet) packet long unset (rw unset refl))
+padding_by : (at_end padded : Bool) (packet : List ℕ) → 4 ≤ length packet → is_padded packet ≡ padded
+    → IsGoodPadding at_end (padding_of packet) packet
+    ⊎ ((is_padded packet ≡ true) × ((at_end ≡ false) ⊎ IsBadPadding (padding_of packet) packet))
+padding_by at_end false packet long unset =
+    inl (no_padding at_end (padding_of packet) packet long unset (rw unset refl))
 padding_by at_end true packet long set =
     elim (counted at_end (padding_of packet) packet set) [ inl good ↦ inl good | inr bad ↦ inr (set, bad) ]
 
@@ -226,21 +258,26 @@ padding_by at_end true packet long set =
 abbrev Taken : Bool → List ℕ → Type 0
 Taken first octets = (p : Packet) × Takes first p octets (drop (size octets) octets)
 
-bodied : (first at_end : Bool) (octets : List ℕ) → IsBytes octets → IsHead first octets → (at_end ≡ true → drop (size octets) octets ≡ []) → IsGoodPadding at_end (padding_of (packet_at octets)) (packet_at octets) → Faulty first octets ⊎ Taken first octets
+bodied : (first at_end : Bool) (octets : List ℕ) → IsBytes octets → IsHead first octets
+    → (at_end ≡ true → drop (size octets) octets ≡ [])
+    → IsGoodPadding at_end (padding_of (packet_at octets)) (packet_at octets) → Faulty first octets ⊎ Taken first octets
 bodied first at_end octets bytes head end good =
     let packet = packet_at octets in
     let rest = drop (size octets) octets in
     let body = body_of packet in
     let n = get_or packet 0 0 % 32 in
     let parts : octets ≡ packet ++ rest = sym (take-append-drop (size octets) octets) in
-    let inside : IsBytes body = IsBytes-take (length packet - padding_of packet - 4) (drop 4 packet) (IsBytes-drop 4 packet (IsBytes-take (size octets) octets bytes)) in
+    let inside : IsBytes body =
+    IsBytes-take (length packet - padding_of packet - 4) (drop 4 packet)
+    (IsBytes-drop 4 packet (IsBytes-take (size octets) octets bytes)) in
     let words : length body % 4 ≡ 0 = body_words first at_end octets packet body head refl good refl in
     elim (body_or_not (kind_of (get_or packet 1 0) n) n body inside words) [
       | inl whole ↦ inr (judged_packet first at_end octets packet rest body bytes head refl parts end good refl whole)
       | inr lacks ↦ inl (Body, body_first first at_end octets packet rest body head refl parts end good refl lacks)
     ]
 
-padded : (first : Bool) (octets : List ℕ) → IsBytes octets → IsHead first octets → Faulty first octets ⊎ Taken first octets
+padded : (first : Bool) (octets : List ℕ) → IsBytes octets → IsHead first octets
+    → Faulty first octets ⊎ Taken first octets
 padded first octets bytes head =
     let packet = packet_at octets in
     let rest = drop (size octets) octets in
@@ -248,7 +285,13 @@ padded first octets bytes head =
     let long : 4 ≤ length packet = omega (arith, head.whole, length-take (size octets) octets) in
     elim (padding_by end.at_end (is_padded packet) packet long refl) [
       | inl good ↦ bodied first end.at_end octets bytes head end.none good
-      | inr bad ↦ inl (Padding, padding_first first end.at_end octets packet rest head refl (sym (take-append-drop (size octets) octets)) end.some bad)
+      | inr bad ↦
+          inl (
+            Padding,
+            padding_first first end.at_end octets packet rest head refl (sym (take-append-drop (size octets) octets))
+                end.some
+                bad,
+          )
     ]
 
 one_packet : (first : Bool) (octets : List ℕ) → IsBytes octets → Faulty first octets ⊎ Taken first octets
@@ -269,7 +312,10 @@ all_left (suc n) (x ∷ xs) octets few bytes on =
     let after = drop (size rest) rest in
     elim (one_packet false rest bytes) [
       | inl fault ↦ inr (fault.0, later_fault fault.0 rest octets on (omega arith) fault.1)
-      | inr p ↦ all_left n after octets (omega (arith, few, length-drop (size rest) rest)) (IsBytes-drop (size rest) rest bytes) (goes_on rest after octets p on)
+      | inr p ↦
+          all_left n after octets (omega (arith, few, length-drop (size rest) rest))
+          (IsBytes-drop (size rest) rest bytes)
+          (goes_on rest after octets p on)
     ]
 
 by_index : (octets : List ℕ) → AreOctets octets → IsBytes octets
@@ -283,5 +329,7 @@ compound_or_fault octets small =
     let rest = drop (size octets) octets in
     elim (one_packet true octets bytes) [
       | inl fault ↦ inr (fault.0, first_fault fault.0 octets fault.1)
-      | inr p ↦ all_left (length rest) rest octets (omega arith) (IsBytes-drop (size octets) octets bytes) (goes_on_first octets rest p)
+      | inr p ↦
+          all_left (length rest) rest octets (omega arith) (IsBytes-drop (size octets) octets bytes)
+          (goes_on_first octets rest p)
     ]

@@ -1,41 +1,51 @@
 -- What fits the fields of a packet: by its types, counts, lengths and meaning, or part by part.
-use Rattle.std.proofs.Common.{◌≡◌, ℕ, ◌%◌, ◌^◌, ◌<◌, ◌≤◌, List, [], ◌∷◌, ◌++◌, length, Option, Some, None, ap, arith, length-append}
+use Rattle.std.proofs.Common.{◌≡◌, ℕ, ◌%◌, ◌^◌, ◌<◌, ◌≤◌, List, [], ◌∷◌, ◌++◌, length, Option, Some, None, ap, arith}
+use Rattle.std.proofs.Common.{length-append}
 use Rattle.std.specs.Prelude.{IfSome}
 use Rattle.std.specs.Int.{w32, to_be_bytes}
 use Rattle.std.specs.List.{AllByRecursion}
 use Rattle.rtcp_codec.specs.declared.report.ReportBlock.{ReportBlock}
 use Rattle.rtcp_codec.specs.Description.{Item, Chunk, FitsItem, FitsChunk, TextsFit, ItemsTold, most_text}
-use Rattle.rtcp_codec.specs.Packet.{Packet, Sender, Receiver, Sdes, Bye, App, Nack, Pli, Other, count_of, most_count, FitsTypes, FitsTypesOfChunk, CountFits, PartsFit, MeaningFits, IsBody}
+use Rattle.rtcp_codec.specs.Packet.{Packet, Sender, Receiver, Sdes, Bye, App, Nack, Pli, Other, count_of, most_count}
+use Rattle.rtcp_codec.specs.Packet.{FitsTypes, FitsTypesOfChunk, CountFits, PartsFit, MeaningFits, IsBody}
 use Rattle.rtcp_codec.specs.Report.{FitsBlock, FitsLost}
 use Rattle.rtcp_codec.specs.inner.Reading.{IsSoundBlock, FitsFields}
 
-all_map : {X : Type 0} (P Q : X → Type 0) → ((x : X) → P x → Q x) → (xs : List X) → AllByRecursion P xs → AllByRecursion Q xs
+all_map : {X : Type 0} (P Q : X → Type 0) → ((x : X) → P x → Q x) → (xs : List X) → AllByRecursion P xs
+    → AllByRecursion Q xs
 all_map P Q f [] h = tt
 all_map P Q f (x ∷ xs) h = (f x h.0, all_map P Q f xs h.1)
 
-all_both : {X : Type 0} (P Q R : X → Type 0) → ((x : X) → P x → Q x → R x) → (xs : List X) → AllByRecursion P xs → AllByRecursion Q xs → AllByRecursion R xs
+all_both : {X : Type 0} (P Q R : X → Type 0) → ((x : X) → P x → Q x → R x) → (xs : List X) → AllByRecursion P xs
+    → AllByRecursion Q xs → AllByRecursion R xs
 all_both P Q R f [] h k = tt
 all_both P Q R f (x ∷ xs) h k = (f x h.0 k.0, all_both P Q R f xs h.1 k.1)
 
 -- ---- from the four to the parts
 
-sound_blocks : (bs : List ReportBlock) → AllByRecursion FitsBlock bs → AllByRecursion (λ b. FitsLost b.lost) bs → AllByRecursion IsSoundBlock bs
+sound_blocks : (bs : List ReportBlock) → AllByRecursion FitsBlock bs → AllByRecursion (λ b. FitsLost b.lost) bs
+    → AllByRecursion IsSoundBlock bs
 sound_blocks = all_both FitsBlock (λ b. FitsLost b.lost) IsSoundBlock (λ b h k. record { numbers = h; lost = k })
 
-items_fit : (is : List Item) → AllByRecursion (λ i. i.kind < 2 ^ 8) is → TextsFit is → ItemsTold is → AllByRecursion FitsItem is
+items_fit : (is : List Item) → AllByRecursion (λ i. i.kind < 2 ^ 8) is → TextsFit is → ItemsTold is
+    → AllByRecursion FitsItem is
 items_fit [] h k l = tt
 items_fit (i ∷ is) h k l = (record { kind = l.0; octet = h.0; text = omega (arith, k.0) }, items_fit is h.1 k.1 l.1)
 
-chunks_fit : (cs : List Chunk) → AllByRecursion FitsTypesOfChunk cs → AllByRecursion (λ c. TextsFit c.items) cs → AllByRecursion (λ c. ItemsTold c.items) cs → AllByRecursion FitsChunk cs
+chunks_fit : (cs : List Chunk) → AllByRecursion FitsTypesOfChunk cs → AllByRecursion (λ c. TextsFit c.items) cs
+    → AllByRecursion (λ c. ItemsTold c.items) cs → AllByRecursion FitsChunk cs
 chunks_fit [] h k l = tt
-chunks_fit (c ∷ cs) h k l = (record { ssrc = h.0.ssrc; items = items_fit c.items h.0.kinds k.0 l.0 }, chunks_fit cs h.1 k.1 l.1)
+chunks_fit (c ∷ cs) h k l =
+    (record { ssrc = h.0.ssrc; items = items_fit c.items h.0.kinds k.0 l.0 }, chunks_fit cs h.1 k.1 l.1)
 
-reason_fits : (r : Option (List ℕ)) → IfSome r (λ text. length text ≤ most_text) → IfSome r (λ text. length text < 2 ^ 8)
+reason_fits : (r : Option (List ℕ)) → IfSome r (λ text. length text ≤ most_text)
+    → IfSome r (λ text. length text < 2 ^ 8)
 reason_fits None h = tt
 reason_fits (Some text) h = omega (arith, h)
 
 pub fields_fit : (p : Packet) → FitsTypes p → CountFits p → PartsFit p → MeaningFits p → FitsFields p
-fields_fit (Sender s n t c o bs) types counted lengths meaning = (types.0, types.1, types.2, types.3, types.4, sound_blocks bs types.5 meaning)
+fields_fit (Sender s n t c o bs) types counted lengths meaning =
+    (types.0, types.1, types.2, types.3, types.4, sound_blocks bs types.5 meaning)
 fields_fit (Receiver s bs) types counted lengths meaning = (types.0, sound_blocks bs types.1 meaning)
 fields_fit (Sdes cs) types counted lengths meaning = chunks_fit cs types lengths meaning
 fields_fit (Bye ns r) types counted lengths meaning = (types, reason_fits r lengths)
@@ -57,7 +67,8 @@ few (Other t n b) h = h
 -- ---- and back, for a packet that stands in a body
 
 chunk_types : (c : Chunk) → FitsChunk c → FitsTypesOfChunk c
-chunk_types c h = record { ssrc = h.ssrc; kinds = all_map FitsItem (λ i. i.kind < 2 ^ 8) (λ i f. f.octet) c.items h.items }
+chunk_types c h =
+    record { ssrc = h.ssrc; kinds = all_map FitsItem (λ i. i.kind < 2 ^ 8) (λ i f. f.octet) c.items h.items }
 
 texts_fit : (c : Chunk) → FitsChunk c → TextsFit c.items
 texts_fit c h = all_map FitsItem (λ i. length i.text ≤ most_text) (λ i f. omega (arith, f.text)) c.items h.items
@@ -65,7 +76,8 @@ texts_fit c h = all_map FitsItem (λ i. length i.text ≤ most_text) (λ i f. om
 items_told : (c : Chunk) → FitsChunk c → ItemsTold c.items
 items_told c h = all_map FitsItem (λ i. 0 < i.kind) (λ i f. f.kind) c.items h.items
 
-reason_told : (r : Option (List ℕ)) → IfSome r (λ text. length text < 2 ^ 8) → IfSome r (λ text. length text ≤ most_text)
+reason_told : (r : Option (List ℕ)) → IfSome r (λ text. length text < 2 ^ 8)
+    → IfSome r (λ text. length text ≤ most_text)
 reason_told None h = tt
 reason_told (Some text) h = omega (arith, h)
 
@@ -94,7 +106,9 @@ lengths_of (Sender s n t c o bs) body f is words = tt
 lengths_of (Receiver s bs) body f is words = tt
 lengths_of (Sdes cs) body f is words = all_map FitsChunk (λ c. TextsFit c.items) texts_fit cs f
 lengths_of (Bye ns r) body f is words = reason_told r f.1
-lengths_of (App t s m c) body f is words = omega (arith, ap length is, length-append (to_be_bytes w32 s ++ m) c, length-append (to_be_bytes w32 s) m, f.1, words)
+lengths_of (App t s m c) body f is words =
+    omega
+    (arith, ap length is, length-append (to_be_bytes w32 s ++ m) c, length-append (to_be_bytes w32 s) m, f.1, words)
 lengths_of (Nack s m ws) body f is words = tt
 lengths_of (Pli s m) body f is words = tt
 lengths_of (Other t n b) body f is words = omega (arith, ap length is, words)
@@ -115,5 +129,12 @@ pub record Sized (p : Packet) : Type 0 where
   pub lengths : PartsFit p
   pub meaning : MeaningFits p
 
-pub sizes : (p : Packet) (body : List ℕ) → FitsFields p → count_of p ≤ most_count → IsBody p body → length body % 4 ≡ 0 → Sized p
-sizes p body f h is words = record { types = types_of p f; counted = counts_of p f h; lengths = lengths_of p body f is words; meaning = meaning_of p f }
+pub sizes : (p : Packet) (body : List ℕ) → FitsFields p → count_of p ≤ most_count → IsBody p body → length body % 4 ≡ 0
+    → Sized p
+sizes p body f h is words =
+    record {
+      types = types_of p f;
+      counted = counts_of p f h;
+      lengths = lengths_of p body f is words;
+      meaning = meaning_of p f;
+    }

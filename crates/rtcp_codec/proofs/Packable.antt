@@ -1,5 +1,6 @@
 -- Any numbers can be packed: a word takes what it may, bit by bit, and further words take the rest.
-use Rattle.std.proofs.Common.{◌≡◌, ◌⊎◌, ℕ, zero, suc, ◌+◌, ◌-◌, ◌%◌, ◌^◌, ◌<◌, ◌≤◌, true, false, cond, List, [], ◌∷◌, ◌++◌, length, get_or, refl, sym, ap, subst, ◌∙◌, arith, inl, inr}
+use Rattle.std.proofs.Common.{◌≡◌, ◌⊎◌, ℕ, zero, suc, ◌+◌, ◌-◌, ◌%◌, ◌^◌, ◌<◌, ◌≤◌, true, false, cond, List, [], ◌∷◌}
+use Rattle.std.proofs.Common.{◌++◌, length, get_or, refl, sym, ap, subst, ◌∙◌, arith, inl, inr}
 use Rattle.std.specs.List.{AllByRecursion}
 use Rattle.std.proofs.lemmas.Bool.{cases_eq}
 use Rattle.std.proofs.lemmas.List.Concat.{flat_map-cons}
@@ -32,7 +33,9 @@ front x (y ∷ ys) = elim (cases_eq y x) [
 ]
 
 -- the bits from i on
-take_bits : (n i pid blp : ℕ) (rest numbers : List ℕ) → 0 < i → i + n ≡ 17 → pid < 2 ^ 16 → blp < 2 ^ (i - 1) → numbers_up_to (i - 1) pid blp ++ rest ≡ pid ∷ numbers → TakesUpTo (i - 1) pid blp rest → ((k : ℕ) → get_or rest k 0 < 2 ^ 16) → length rest ≤ length numbers → Taken pid numbers
+take_bits : (n i pid blp : ℕ) (rest numbers : List ℕ) → 0 < i → i + n ≡ 17 → pid < 2 ^ 16 → blp < 2 ^ (i - 1)
+    → numbers_up_to (i - 1) pid blp ++ rest ≡ pid ∷ numbers → TakesUpTo (i - 1) pid blp rest
+    → ((k : ℕ) → get_or rest k 0 < 2 ^ 16) → length rest ≤ length numbers → Taken pid numbers
 take_bits zero i pid blp rest numbers some all fits lt names takes few left =
     let end : i - 1 ≡ most_bits = omega arith in
     record {
@@ -52,20 +55,26 @@ take_bits (suc n) i pid blp rest numbers some all fits lt names takes few left =
       | inl b ↦
           let parts : rest ≡ cond true (x ∷ []) [] ++ b.0 = b.1 in
           let t = turned true i pid blp bit (blp + bit) rest b.0 numbers some refl lt names parts refl in
-          take_bits n (i + 1) pid (blp + bit) b.0 numbers (omega arith) (omega arith) fits (subst (λ (m : ℕ). blp + bit < m) power t.below) t.names
-          (takes_more true i pid blp bit (blp + bit) rest b.0 some (omega arith) fits refl lt few takes parts refl (λ h. refl))
+          take_bits n (i + 1) pid (blp + bit) b.0 numbers (omega arith) (omega arith) fits
+          (subst (λ (m : ℕ). blp + bit < m) power t.below) t.names
+          (takes_more true i pid blp bit (blp + bit) rest b.0 some (omega arith) fits refl lt few takes parts refl
+          (λ h. refl))
           (fit_after true x rest b.0 few parts)
           (omega (arith, ap (λ (l : List ℕ). length l) parts, left))
       | inr none ↦
           let t = turned false i pid blp bit blp rest rest numbers some refl lt names refl refl in
-          take_bits n (i + 1) pid blp rest numbers (omega arith) (omega arith) fits (subst (λ (m : ℕ). blp < m) power t.below) t.names
-          (takes_more false i pid blp bit blp rest rest some (omega arith) fits refl lt few takes refl refl (λ h. absurd (none h)))
+          take_bits n (i + 1) pid blp rest numbers (omega arith) (omega arith) fits
+          (subst (λ (m : ℕ). blp < m) power t.below) t.names
+          (takes_more false i pid blp bit blp rest rest some (omega arith) fits refl lt few takes refl refl
+          (λ h. absurd (none h)))
           few left
     ]
 
 take_word : (pid : ℕ) (numbers : List ℕ) → pid < 2 ^ 16 → ((k : ℕ) → get_or numbers k 0 < 2 ^ 16) → Taken pid numbers
 unfolding numbers_up_to
-take_word pid numbers fits few = take_bits 16 1 pid 0 numbers numbers (omega arith) refl fits (omega arith) refl (takes_none pid numbers fits) few (omega arith)
+take_word pid numbers fits few =
+    take_bits 16 1 pid 0 numbers numbers (omega arith) refl fits (omega arith) refl (takes_none pid numbers fits) few
+    (omega arith)
 
 -- words that take all of the numbers
 record Words (numbers : List ℕ) : Type 0 where
@@ -83,7 +92,11 @@ take_words (suc n) (pid ∷ numbers) le few =
     let one : NackWord = record { pid = pid; blp = w.blp } in
     record {
       words = one ∷ r.words;
-      names = flat_map-cons (λ (x : NackWord). numbers_of x.pid x.blp) one r.words ∙ ap (λ (l : List ℕ). numbers_of pid w.blp ++ l) r.names ∙ ap (λ (l : List ℕ). l ++ w.after) (numbers_are pid w.blp) ∙ w.names;
+      names =
+          flat_map-cons (λ (x : NackWord). numbers_of x.pid x.blp) one r.words
+          ∙ ap (λ (l : List ℕ). numbers_of pid w.blp ++ l) r.names
+          ∙ ap (λ (l : List ℕ). l ++ w.after) (numbers_are pid w.blp)
+          ∙ w.names;
       greedy = (subst (TakesAll pid w.blp) (sym r.names) (takes_all pid w.blp w.after w.takes), r.greedy);
       fits = (record { pid = few 0; blp = w.below }, r.fits);
     }
@@ -93,7 +106,8 @@ fit_each [] h k = omega arith
 fit_each (x ∷ xs) h zero = h.0
 fit_each (x ∷ xs) h (suc k) = fit_each xs h.1 k
 
-pub words_for : (numbers : List ℕ) → AllByRecursion (λ n. n < 2 ^ 16) numbers → (words : List NackWord) × IsPacking numbers words
+pub words_for : (numbers : List ℕ) → AllByRecursion (λ n. n < 2 ^ 16) numbers
+    → (words : List NackWord) × IsPacking numbers words
 words_for numbers h =
     let w = take_words (length numbers) numbers (omega arith) (fit_each numbers h) in
     (w.words, record { names = w.names; packed = are_packed w.words w.greedy; fits = w.fits })

@@ -1,5 +1,6 @@
 -- The numbers that words name, one bit and one word after another.
-use Rattle.std.proofs.Common.{◌≡◌, ℕ, zero, suc, ◌+◌, ◌-◌, ◌*◌, ◌/◌, ◌%◌, ◌^◌, ◌<◌, Bool, true, false, cond, eqb, List, [], ◌∷◌, ◌++◌, map, refl, sym, ap, ◌∙◌, append_assoc, arith, eq-eqb}
+use Rattle.std.proofs.Common.{◌≡◌, ℕ, zero, suc, ◌+◌, ◌-◌, ◌*◌, ◌/◌, ◌%◌, ◌^◌, ◌<◌, Bool, true, false, cond, eqb, List}
+use Rattle.std.proofs.Common.{[], ◌∷◌, ◌++◌, map, refl, sym, ap, ◌∙◌, append_assoc, arith, eq-eqb}
 use Rattle.std.specs.List.{range_with_len, filter}
 use Rattle.std.proofs.lemmas.List.{map-append, append-nil}
 use Rattle.std.proofs.lemmas.Bool.{ne_eqb}
@@ -20,7 +21,9 @@ map-cond f true x = refl
 map-cond f false x = refl
 
 -- the last bit adds a number if it is set
-numbers-more : (n pid blp : ℕ) → numbers_up_to (suc n) pid blp ≡ numbers_up_to n pid blp ++ cond (has_bit blp (1 + n)) ((pid + (1 + n)) % 2 ^ 16 ∷ []) []
+numbers-more : (n pid blp : ℕ)
+    → numbers_up_to (suc n) pid blp
+    ≡ numbers_up_to n pid blp ++ cond (has_bit blp (1 + n)) ((pid + (1 + n)) % 2 ^ 16 ∷ []) []
 unfolding numbers_up_to
 numbers-more n pid blp =
     let f : ℕ → ℕ = λ i. (pid + i) % 2 ^ 16 in
@@ -31,7 +34,8 @@ numbers-more n pid blp =
     ∙ ap (λ (l : List ℕ). pid ∷ l) (map-append f (filter p range) (filter p ((1 + n) ∷ [])))
     ∙ ap (λ (l : List ℕ). (pid ∷ map f (filter p range)) ++ l) (map-cond f (p (1 + n)) (1 + n))
 
-pub named_bit : (i pid blp : ℕ) → 0 < i → blp / 2 ^ (i - 1) % 2 ≡ 1 → numbers_up_to (i + 1 - 1) pid blp ≡ numbers_up_to (i - 1) pid blp ++ (pid + i) % 2 ^ 16 ∷ []
+pub named_bit : (i pid blp : ℕ) → 0 < i → blp / 2 ^ (i - 1) % 2 ≡ 1
+    → numbers_up_to (i + 1 - 1) pid blp ≡ numbers_up_to (i - 1) pid blp ++ (pid + i) % 2 ^ 16 ∷ []
 named_bit zero pid blp h set = absurd (omega arith)
 named_bit (suc n) pid blp h set =
     let up : suc n + 1 - 1 ≡ suc n = omega arith in
@@ -43,7 +47,8 @@ named_bit (suc n) pid blp h set =
     ∙ ap (λ (b : Bool). numbers_up_to n pid blp ++ cond b ((pid + suc n) % 2 ^ 16 ∷ []) []) test
     ∙ ap (λ (k : ℕ). numbers_up_to k pid blp ++ (pid + suc n) % 2 ^ 16 ∷ []) (sym down)
 
-pub unnamed_bit : (i pid blp : ℕ) → 0 < i → (blp / 2 ^ (i - 1) % 2 ≡ 1 → ⊥) → numbers_up_to (i + 1 - 1) pid blp ≡ numbers_up_to (i - 1) pid blp
+pub unnamed_bit : (i pid blp : ℕ) → 0 < i → (blp / 2 ^ (i - 1) % 2 ≡ 1 → ⊥)
+    → numbers_up_to (i + 1 - 1) pid blp ≡ numbers_up_to (i - 1) pid blp
 unnamed_bit zero pid blp h set = absurd (omega arith)
 unnamed_bit (suc n) pid blp h set =
     let up : suc n + 1 - 1 ≡ suc n = omega arith in
@@ -67,7 +72,11 @@ even_more x k = omega arith
 same_bit : (n m k b : ℕ) → m ≡ 2 * k → (b + m * 2 ^ n) / 2 ^ (1 + n - 1) % 2 ≡ b / 2 ^ (1 + n - 1) % 2
 same_bit n m k b e =
     let at : 1 + n - 1 ≡ n = omega arith in
-    ap (λ (j : ℕ). (b + m * 2 ^ n) / 2 ^ j % 2) at ∙ ap (λ (x : ℕ). x % 2) (add-mul-div_right b m {z = 2 ^ n} (pow_pos n)) ∙ ap (λ (j : ℕ). (b / 2 ^ n + j) % 2) e ∙ even_more (b / 2 ^ n) k ∙ ap (λ (j : ℕ). b / 2 ^ j % 2) (sym at)
+    ap (λ (j : ℕ). (b + m * 2 ^ n) / 2 ^ j % 2) at
+    ∙ ap (λ (x : ℕ). x % 2) (add-mul-div_right b m {z = 2 ^ n} (pow_pos n))
+    ∙ ap (λ (j : ℕ). (b / 2 ^ n + j) % 2) e
+    ∙ even_more (b / 2 ^ n) k
+    ∙ ap (λ (j : ℕ). b / 2 ^ j % 2) (sym at)
 
 -- bits from n on change no number below
 low_bits : (n k pid b : ℕ) → numbers_up_to n pid (b + k * 2 ^ n) ≡ numbers_up_to n pid b
@@ -76,10 +85,14 @@ low_bits zero k pid b = refl
 low_bits (suc n) k pid b =
     let two : k * 2 ^ suc n ≡ (2 * k) * 2 ^ n = ap (λ (m : ℕ). k * m) (pow-succ' 2 n) ∙ regroup k (2 ^ n) in
     let whole : b + k * 2 ^ suc n ≡ b + (2 * k) * 2 ^ n = ap (λ (m : ℕ). b + m) two in
-    let below : numbers_up_to n pid (b + k * 2 ^ suc n) ≡ numbers_up_to n pid b = ap (λ (m : ℕ). numbers_up_to n pid m) whole ∙ low_bits n (2 * k) pid b in
-    let test : has_bit (b + k * 2 ^ suc n) (1 + n) ≡ has_bit b (1 + n) = ap (λ (m : ℕ). eqb (m / 2 ^ (1 + n - 1) % 2) 1) whole ∙ ap (λ (m : ℕ). eqb m 1) (same_bit n (2 * k) k b refl) in
-    numbers-more n pid (b + k * 2 ^ suc n) ∙ ap (λ (l : List ℕ). l ++ cond (has_bit (b + k * 2 ^ suc n) (1 + n)) ((pid + (1 + n)) % 2 ^ 16 ∷ []) []) below
-    ∙ ap (λ (t : Bool). numbers_up_to n pid b ++ cond t ((pid + (1 + n)) % 2 ^ 16 ∷ []) []) test ∙ sym (numbers-more n pid b)
+    let below : numbers_up_to n pid (b + k * 2 ^ suc n) ≡ numbers_up_to n pid b =
+    ap (λ (m : ℕ). numbers_up_to n pid m) whole ∙ low_bits n (2 * k) pid b in
+    let test : has_bit (b + k * 2 ^ suc n) (1 + n) ≡ has_bit b (1 + n) =
+    ap (λ (m : ℕ). eqb (m / 2 ^ (1 + n - 1) % 2) 1) whole ∙ ap (λ (m : ℕ). eqb m 1) (same_bit n (2 * k) k b refl) in
+    numbers-more n pid (b + k * 2 ^ suc n)
+    ∙ ap (λ (l : List ℕ). l ++ cond (has_bit (b + k * 2 ^ suc n) (1 + n)) ((pid + (1 + n)) % 2 ^ 16 ∷ []) []) below
+    ∙ ap (λ (t : Bool). numbers_up_to n pid b ++ cond t ((pid + (1 + n)) % 2 ^ 16 ∷ []) []) test
+    ∙ sym (numbers-more n pid b)
 
 top_bit : (b bit : ℕ) → 0 < bit → b < bit → (b + bit) / bit % 2 ≡ 1
 top_bit b bit some lt =
@@ -89,14 +102,18 @@ top_bit b bit some lt =
     ap (λ (m : ℕ). m / bit % 2) one ∙ ap (λ (m : ℕ). m % 2) q ∙ omega (arith, z)
 
 -- the bit of number i is set above all lower ones
-pub set_bit : (i pid b bit : ℕ) → 0 < i → bit ≡ 2 ^ (i - 1) → b < bit → numbers_up_to (i + 1 - 1) pid (b + bit) ≡ numbers_up_to (i - 1) pid b ++ (pid + i) % 2 ^ 16 ∷ []
+pub set_bit : (i pid b bit : ℕ) → 0 < i → bit ≡ 2 ^ (i - 1) → b < bit
+    → numbers_up_to (i + 1 - 1) pid (b + bit) ≡ numbers_up_to (i - 1) pid b ++ (pid + i) % 2 ^ 16 ∷ []
 set_bit i pid b bit some power lt =
-    let test : (b + bit) / 2 ^ (i - 1) % 2 ≡ 1 = ap (λ (q : ℕ). (b + bit) / q % 2) (sym power) ∙ top_bit b bit (omega arith) lt in
+    let test : (b + bit) / 2 ^ (i - 1) % 2 ≡ 1 =
+    ap (λ (q : ℕ). (b + bit) / q % 2) (sym power) ∙ top_bit b bit (omega arith) lt in
     let one : b + bit ≡ b + 1 * 2 ^ (i - 1) = omega arith in
-    named_bit i pid (b + bit) some test ∙ ap (λ (l : List ℕ). l ++ (pid + i) % 2 ^ 16 ∷ []) (ap (numbers_up_to (i - 1) pid) one ∙ low_bits (i - 1) 1 pid b)
+    named_bit i pid (b + bit) some test
+    ∙ ap (λ (l : List ℕ). l ++ (pid + i) % 2 ^ 16 ∷ []) (ap (numbers_up_to (i - 1) pid) one ∙ low_bits (i - 1) 1 pid b)
 
 -- the bit of number i isn't set
-pub clear_bit : (i pid b bit : ℕ) → 0 < i → bit ≡ 2 ^ (i - 1) → b < bit → numbers_up_to (i + 1 - 1) pid b ≡ numbers_up_to (i - 1) pid b
+pub clear_bit : (i pid b bit : ℕ) → 0 < i → bit ≡ 2 ^ (i - 1) → b < bit
+    → numbers_up_to (i + 1 - 1) pid b ≡ numbers_up_to (i - 1) pid b
 clear_bit i pid b bit some power lt =
     let z : b / bit < 1 = div_below b bit 1 (omega arith) (omega arith) in
     let q : b / 2 ^ (i - 1) ≡ b / bit = ap (λ (q : ℕ). b / q) (sym power) in
@@ -115,13 +132,24 @@ pub record Turned (i pid blp bit : ℕ) (after numbers : List ℕ) : Type 0 wher
   pub names : numbers_up_to (i + 1 - 1) pid blp ++ after ≡ pid ∷ numbers
   pub below : blp < bit * 2
 
-pub turned : (set : Bool) (i pid blp bit now : ℕ) (rest after numbers : List ℕ) → 0 < i → bit ≡ 2 ^ (i - 1) → blp < bit → numbers_up_to (i - 1) pid blp ++ rest ≡ pid ∷ numbers → rest ≡ cond set ((pid + i) % 2 ^ 16 ∷ []) [] ++ after → now ≡ cond set (blp + bit) blp → Turned i pid now bit after numbers
+pub turned : (set : Bool) (i pid blp bit now : ℕ) (rest after numbers : List ℕ) → 0 < i → bit ≡ 2 ^ (i - 1) → blp < bit
+    → numbers_up_to (i - 1) pid blp ++ rest ≡ pid ∷ numbers → rest ≡ cond set ((pid + i) % 2 ^ 16 ∷ []) [] ++ after
+    → now ≡ cond set (blp + bit) blp → Turned i pid now bit after numbers
 turned true i pid blp bit now rest after numbers some power lt so_far front is = record {
-  names = ap (λ (b : ℕ). numbers_up_to (i + 1 - 1) pid b ++ after) is ∙ ap (λ (l : List ℕ). l ++ after) (set_bit i pid blp bit some power lt) ∙ append_assoc (numbers_up_to (i - 1) pid blp) ((pid + i) % 2 ^ 16 ∷ []) after ∙ ap (λ (l : List ℕ). numbers_up_to (i - 1) pid blp ++ l) (sym front) ∙ so_far;
+  names =
+      ap (λ (b : ℕ). numbers_up_to (i + 1 - 1) pid b ++ after) is
+      ∙ ap (λ (l : List ℕ). l ++ after) (set_bit i pid blp bit some power lt)
+      ∙ append_assoc (numbers_up_to (i - 1) pid blp) ((pid + i) % 2 ^ 16 ∷ []) after
+      ∙ ap (λ (l : List ℕ). numbers_up_to (i - 1) pid blp ++ l) (sym front)
+      ∙ so_far;
   below = omega (arith, is);
 }
 turned false i pid blp bit now rest after numbers some power lt so_far front is = record {
-  names = ap (λ (b : ℕ). numbers_up_to (i + 1 - 1) pid b ++ after) is ∙ ap (λ (l : List ℕ). l ++ after) (clear_bit i pid blp bit some power lt) ∙ ap (λ (l : List ℕ). numbers_up_to (i - 1) pid blp ++ l) (sym front) ∙ so_far;
+  names =
+      ap (λ (b : ℕ). numbers_up_to (i + 1 - 1) pid b ++ after) is
+      ∙ ap (λ (l : List ℕ). l ++ after) (clear_bit i pid blp bit some power lt)
+      ∙ ap (λ (l : List ℕ). numbers_up_to (i - 1) pid blp ++ l) (sym front)
+      ∙ so_far;
   below = omega (arith, is);
 }
 

@@ -1,11 +1,13 @@
 -- The compound grammar, and why a datagram is no compound (RFC 3550 section 6.1 and A.2).
-use Rattle.std.specs.Prelude.{◌≡◌, ◌≢◌, ℕ, ◌+◌, ◌-◌, ◌*◌, ◌/◌, ◌%◌, ◌<◌, ◌≤◌, ◌==◌, Bool, true, false, if◌then◌else◌, List, [], ◌∷◌, ◌++◌, length, take, drop, map, slice_index, ◌⊎◌, ⊤}
+use Rattle.std.specs.Prelude.{◌≡◌, ◌≢◌, ℕ, ◌+◌, ◌-◌, ◌*◌, ◌/◌, ◌%◌, ◌<◌, ◌≤◌, ◌==◌, Bool, true, false, if◌then◌else◌}
+use Rattle.std.specs.Prelude.{List, [], ◌∷◌, ◌++◌, length, take, drop, map, slice_index, ◌⊎◌, ⊤}
 use Rattle.std.specs.List.{flat_map, AllByRecursion}
 use Rattle.std.specs.Int.{w16, from_be_bytes}
 use Rattle.rtcp_codec.specs.declared.kind.PacketKind.{PacketKind}
 use Rattle.rtcp_codec.specs.declared.kind.PacketKind.TheVariants as kinds
 use Rattle.rtcp_codec.specs.declared.fault.RtcpFault.{RtcpFault}
-use Rattle.rtcp_codec.specs.declared.fault.RtcpFault.TheVariants.{Short, Version, First, Length, Padding, Body, OutOfMemory}
+use Rattle.rtcp_codec.specs.declared.fault.RtcpFault.TheVariants.{Short, Version, First, Length, Padding, Body}
+use Rattle.rtcp_codec.specs.declared.fault.RtcpFault.TheVariants.{OutOfMemory}
 use Rattle.rtcp_codec.specs.Description.{HasChunks}
 use Rattle.rtcp_codec.specs.Kind.{kind_of}
 use Rattle.rtcp_codec.specs.Packet.{Packet, kind, IsPacket, written_packet}

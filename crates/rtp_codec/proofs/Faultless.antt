@@ -1,5 +1,7 @@
 -- Octets that have no fault are a packet.
-use Rattle.std.proofs.Common.{◌≡◌, ℕ, zero, suc, ◌+◌, ◌-◌, ◌*◌, ◌/◌, ◌%◌, ◌^◌, ◌<◌, ◌≤◌, Bool, true, false, not, cond, List, [], ◌∷◌, ◌++◌, length, get_or, take, drop, Option, Some, None, refl, sym, ap, subst, ◌∙◌, arith, inl, inr}
+use Rattle.std.proofs.Common.{◌≡◌, ℕ, zero, suc, ◌+◌, ◌-◌, ◌*◌, ◌/◌, ◌%◌, ◌^◌, ◌<◌, ◌≤◌, Bool, true, false, not, cond}
+use Rattle.std.proofs.Common.{List, [], ◌∷◌, ◌++◌, length, get_or, take, drop, Option, Some, None, refl, sym, ap, subst}
+use Rattle.std.proofs.Common.{◌∙◌, arith, inl, inr}
 use Rattle.std.specs.Prelude.{is_some, nat_lt, nat_le, ◌==◌}
 use Rattle.std.specs.Int.{w16, w32, from_be_bytes, to_be_bytes}
 use Rattle.std.proofs.lemmas.Bool.{ltb-false, le-leb, lt-leb, lt-ltb, eqb-true, eqb-false, cases_lt, or_parts}
@@ -9,8 +11,10 @@ use Rattle.rtp_codec.specs.declared.fault.RtpFault.{RtpFault}
 use Rattle.rtp_codec.specs.declared.fault.RtpFault.TheVariants.{Short, Version, Csrc, Extension, Padding}
 use Rattle.rtp_codec.specs.declared.writing.Header.{Header}
 use Rattle.rtp_codec.specs.Octets.{AreOctets}
-use Rattle.rtp_codec.specs.Packet.{Packet, IsPacket, FitsHeader, FitsExtension, IsPadding, second_octet, number_fields, extension_octets, fixed_header}
-use Rattle.rtp_codec.specs.Fault.{version, is_padded, is_extended, csrc_count, behind_csrcs, extension_size, lacks_extension, behind_extension, last_octet, lacks_padding, first_fault}
+use Rattle.rtp_codec.specs.Packet.{Packet, IsPacket, FitsHeader, FitsExtension, IsPadding, second_octet, number_fields}
+use Rattle.rtp_codec.specs.Packet.{extension_octets, fixed_header}
+use Rattle.rtp_codec.specs.Fault.{version, is_padded, is_extended, csrc_count, behind_csrcs, extension_size}
+use Rattle.rtp_codec.specs.Fault.{lacks_extension, behind_extension, last_octet, lacks_padding, first_fault}
 use Rattle.rtp_codec.proofs.PacketLemmas.{fixed_header_is, counted_parts}
 
 -- ---- octets by index
@@ -49,7 +53,9 @@ first_16 (a ∷ b ∷ rest) small long =
     record {
       value = n;
       rest = rest;
-      parts = ap (λ (l : List ℕ). l ++ rest) (sym (be_bytes_2 (a ∷ b ∷ []) n refl (two_small a b (small 0) (small 1)) refl));
+      parts =
+          ap (λ (l : List ℕ). l ++ rest)
+          (sym (be_bytes_2 (a ∷ b ∷ []) n refl (two_small a b (small 0) (small 1)) refl));
       fits = omega (arith, small 0, small 1);
       left = omega arith;
       small = λ i. small (suc (suc i));
@@ -63,7 +69,10 @@ first_32 (a ∷ b ∷ c ∷ d ∷ rest) small long =
     record {
       value = n;
       rest = rest;
-      parts = ap (λ (l : List ℕ). l ++ rest) (sym (be_bytes_4 (a ∷ b ∷ c ∷ d ∷ []) n refl (four_small a b c d (small 0) (small 1) (small 2) (small 3)) refl));
+      parts =
+          ap (λ (l : List ℕ). l ++ rest)
+          (sym
+          (be_bytes_4 (a ∷ b ∷ c ∷ d ∷ []) n refl (four_small a b c d (small 0) (small 1) (small 2) (small 3)) refl));
       fits = omega (arith, small 0, small 1, small 2, small 3);
       left = omega arith;
       small = λ i. small (suc (suc (suc (suc i))));
@@ -103,7 +112,10 @@ begins (a ∷ b ∷ more) small long =
       second = b;
       header = h;
       rest = x.rest;
-      parts = ap (λ (l : List ℕ). a ∷ b ∷ l) (s.parts ∙ ap (λ (l : List ℕ). to_be_bytes w16 s.value ++ l) (t.parts ∙ ap (λ (l : List ℕ). to_be_bytes w32 t.value ++ l) x.parts));
+      parts =
+          ap (λ (l : List ℕ). a ∷ b ∷ l) (s.parts
+          ∙ ap (λ (l : List ℕ). to_be_bytes w16 s.value ++ l)
+          (t.parts ∙ ap (λ (l : List ℕ). to_be_bytes w32 t.value ++ l) x.parts));
       its_second = marked b (small 1);
       fits = record { pt = omega arith; seq = s.fits; ts = t.fits; ssrc = x.fits };
       small = x.small;
@@ -121,8 +133,10 @@ record Extends (extended : Bool) (octets : List ℕ) : Type 0 where
   pub behind : rest ≡ behind_extension extended octets
   pub fits : FitsExtension value
 
-extends : (extended : Bool) (octets : List ℕ) → IsSmall octets → lacks_extension extended octets ≡ false → Extends extended octets
-extends false octets small whole = record { value = None; rest = octets; parts = refl; some = refl; behind = refl; fits = tt }
+extends : (extended : Bool) (octets : List ℕ) → IsSmall octets → lacks_extension extended octets ≡ false
+    → Extends extended octets
+extends false octets small whole =
+    record { value = None; rest = octets; parts = refl; some = refl; behind = refl; fits = tt }
 extends true (a ∷ b ∷ c ∷ d ∷ more) small whole =
     let octets : List ℕ = a ∷ b ∷ c ∷ d ∷ more in
     let tests = or_parts (nat_lt (length octets) 4) (nat_lt (length octets) (extension_size octets)) whole in
@@ -132,16 +146,21 @@ extends true (a ∷ b ∷ c ∷ d ∷ more) small whole =
     let text : List ℕ = take (4 * words) more in
     let few : length text ≡ 4 * words = omega (arith, long, length-take (4 * words) more) in
     let count : length text / 4 ≡ words = omega (arith, few) in
-    let front : to_be_bytes w16 profile ≡ a ∷ b ∷ [] = be_bytes_2 (a ∷ b ∷ []) profile refl (two_small a b (small 0) (small 1)) refl in
-    let counted : to_be_bytes w16 (length text / 4) ≡ c ∷ d ∷ [] = ap (λ (n : ℕ). to_be_bytes w16 n) count ∙ be_bytes_2 (c ∷ d ∷ []) words refl (two_small c d (small 2) (small 3)) refl in
+    let front : to_be_bytes w16 profile ≡ a ∷ b ∷ [] =
+    be_bytes_2 (a ∷ b ∷ []) profile refl (two_small a b (small 0) (small 1)) refl in
+    let counted : to_be_bytes w16 (length text / 4) ≡ c ∷ d ∷ [] =
+    ap (λ (n : ℕ). to_be_bytes w16 n) count
+    ∙ be_bytes_2 (c ∷ d ∷ []) words refl (two_small c d (small 2) (small 3)) refl in
     record {
       value = Some (profile, text);
       rest = drop (4 * words) more;
-      parts = sym (ap (λ (l : List ℕ). l ++ (to_be_bytes w16 (length text / 4) ++ (text ++ drop (4 * words) more))) front
+      parts =
+          sym (ap (λ (l : List ℕ). l ++ (to_be_bytes w16 (length text / 4) ++ (text ++ drop (4 * words) more))) front
           ∙ ap (λ (l : List ℕ). a ∷ b ∷ (l ++ (text ++ drop (4 * words) more))) counted
           ∙ ap (λ (l : List ℕ). a ∷ b ∷ c ∷ d ∷ l) (take-append-drop (4 * words) more));
       some = refl;
-      behind = ap (λ (n : ℕ). drop n octets) (let e : suc (suc (suc (suc (4 * words)))) ≡ 4 + 4 * words = omega arith in e);
+      behind =
+          ap (λ (n : ℕ). drop n octets) (let e : suc (suc (suc (suc (4 * words)))) ≡ 4 + 4 * words = omega arith in e);
       fits = (omega (arith, small 0, small 1), words, few, omega (arith, small 2, small 3));
     }
 extends true (a ∷ b ∷ c ∷ []) small whole = absurd cc
@@ -166,14 +185,19 @@ last_split (x ∷ []) zero h = refl
 last_split (x ∷ y ∷ ys) zero h = absurd (omega arith)
 last_split (x ∷ xs) (suc m) h = ap (λ (l : List ℕ). x ∷ l) (last_split xs m (omega arith))
 
-counts : (octets : List ℕ) (m : ℕ) → last_octet octets ≡ suc m → suc m ≤ length octets → IsPadding (suc m) (drop (length octets - suc m) octets)
+counts : (octets : List ℕ) (m : ℕ) → last_octet octets ≡ suc m → suc m ≤ length octets
+    → IsPadding (suc m) (drop (length octets - suc m) octets)
 counts octets m is few =
     let at = length octets - suc m in
     let padding = drop at octets in
     let len : length padding ≡ suc m = omega (arith, length-drop at octets) in
     let place : at + m ≡ length octets - 1 = omega arith in
-    let last : get_or padding m 0 ≡ suc m = get_or-drop at octets m 0 ∙ ap (λ (i : ℕ). get_or octets i 0) place ∙ is in
-    (take m padding, omega (arith, length-take m padding), last_split padding m len ∙ ap (λ (x : ℕ). take m padding ++ x ∷ []) last)
+    let last : get_or padding m 0 ≡ suc m =
+    get_or-drop at octets m 0 ∙ ap (λ (i : ℕ). get_or octets i 0) place ∙ is in (
+      take m padding,
+      omega (arith, length-take m padding),
+      last_split padding m len ∙ ap (λ (x : ℕ). take m padding ++ x ∷ []) last,
+    )
 
 padded_by : (octets : List ℕ) (n : ℕ) → last_octet octets ≡ n → (n ≡ 0 → ⊥) → n ≤ length octets → Pads true octets
 padded_by octets zero is some few = absurd (some refl)
@@ -187,10 +211,19 @@ padded_by octets (suc m) is some few = record {
 }
 
 pads : (padded : Bool) (octets : List ℕ) → lacks_padding padded octets ≡ false → Pads padded octets
-pads false octets whole = record { payload = octets; count = 0; padding = []; parts = sym (append-nil octets); some = refl; is_padding = refl }
+pads false octets whole =
+    record {
+      payload = octets;
+      count = 0;
+      padding = [];
+      parts = sym (append-nil octets);
+      some = refl;
+      is_padding = refl;
+    }
 pads true octets whole =
     let tests = or_parts (last_octet octets == 0) (nat_lt (length octets) (last_octet octets)) whole in
-    padded_by octets (last_octet octets) refl (eqb-false (last_octet octets) 0 tests.0) (ltb-false (length octets) (last_octet octets) tests.1)
+    padded_by octets (last_octet octets) refl (eqb-false (last_octet octets) 0 tests.0)
+    (ltb-false (length octets) (last_octet octets) tests.1)
 
 -- ---- no case of a fault holds
 
@@ -201,7 +234,8 @@ record Faultless (octets : List ℕ) : Type 0 where
   pub extension : lacks_extension (is_extended octets) (behind_csrcs octets) ≡ false
   pub padding : lacks_padding (is_padded octets) (behind_extension (is_extended octets) (behind_csrcs octets)) ≡ false
 
-not_told : (b : Bool) (f : RtpFault) (others : Option RtpFault) → cond b (Some f) others ≡ None → (b ≡ false) × (others ≡ None)
+not_told : (b : Bool) (f : RtpFault) (others : Option RtpFault) → cond b (Some f) others ≡ None
+    → (b ≡ false) × (others ≡ None)
 not_told true f others e = absurd cc
 not_told false f others e = (refl, e)
 
@@ -216,7 +250,9 @@ faultless octets e =
     let b = not_told (not (version octets == 2)) Version _ a.1 in
     let c = not_told (nat_lt (length octets) (12 + 4 * csrc_count octets)) Csrc _ b.1 in
     let d = not_told (lacks_extension (is_extended octets) (behind_csrcs octets)) Extension _ c.1 in
-    let f = not_told (lacks_padding (is_padded octets) (behind_extension (is_extended octets) (behind_csrcs octets))) Padding _ d.1 in
+    let f =
+    not_told (lacks_padding (is_padded octets) (behind_extension (is_extended octets) (behind_csrcs octets))) Padding _
+    d.1 in
     record {
       long = ltb-false (length octets) 12 a.0;
       version = eqb-true (version octets) 2 (not_false (version octets == 2) b.0);
@@ -227,28 +263,37 @@ faultless octets e =
 
 -- ---- the packet
 
-from_parts : (x y : ℕ) (h : Header) (after : List ℕ) → second_octet h ≡ y → FitsHeader h → IsSmall after → Faultless ((x ∷ y ∷ number_fields h) ++ after) → (p : Packet) × IsPacket p ((x ∷ y ∷ number_fields h) ++ after)
+from_parts : (x y : ℕ) (h : Header) (after : List ℕ) → second_octet h ≡ y → FitsHeader h → IsSmall after
+    → Faultless ((x ∷ y ∷ number_fields h) ++ after) → (p : Packet) × IsPacket p ((x ∷ y ∷ number_fields h) ++ after)
 from_parts x y h after second fits small f =
     let fixed : List ℕ = x ∷ y ∷ number_fields h in
     let octets : List ℕ = fixed ++ after in
     let n : ℕ = x % 16 in
     let csrcs : List ℕ = take (4 * n) after in
     let rest : List ℕ = drop (4 * n) after in
-    let twelve : 12 + 4 * n ≡ suc (suc (suc (suc (suc (suc (suc (suc (suc (suc (suc (suc (4 * n)))))))))))) = omega arith in
+    let twelve : 12 + 4 * n ≡ suc (suc (suc (suc (suc (suc (suc (suc (suc (suc (suc (suc (4 * n)))))))))))) =
+    omega arith in
     let behind : behind_csrcs octets ≡ rest = ap (λ (m : ℕ). drop m octets) twelve in
     let few : length csrcs ≡ 4 * n = omega (arith, f.csrcs, length-take (4 * n) after) in
     let within : IsSmall rest = λ i. rw (get_or-drop (4 * n) after i 0) (small (4 * n + i)) in
     let e = extends (x / 16 % 2 == 1) rest within (sym (ap (lacks_extension (x / 16 % 2 == 1)) behind) ∙ f.extension) in
-    let left : behind_extension (x / 16 % 2 == 1) (behind_csrcs octets) ≡ e.rest = ap (behind_extension (x / 16 % 2 == 1)) behind ∙ sym e.behind in
+    let left : behind_extension (x / 16 % 2 == 1) (behind_csrcs octets) ≡ e.rest =
+    ap (behind_extension (x / 16 % 2 == 1)) behind ∙ sym e.behind in
     let q = pads (x / 32 % 2 == 1) e.rest (sym (ap (lacks_padding (x / 32 % 2 == 1)) left) ∙ f.padding) in
-    let p : Packet = record { header = h; csrc_octets = csrcs; extension = e.value; payload = q.payload; padding = q.count } in
+    let p : Packet =
+    record { header = h; csrc_octets = csrcs; extension = e.value; payload = q.payload; padding = q.count } in
     let parts : List ℕ = csrcs ++ (extension_octets e.value ++ (q.payload ++ q.padding)) in
-    let joined : after ≡ parts = sym (take-append-drop (4 * n) after) ∙ ap (λ (l : List ℕ). csrcs ++ l) (e.parts ∙ ap (λ (l : List ℕ). extension_octets e.value ++ l) q.parts) in
-    let front : fixed_header (nat_lt 0 q.count) (is_some e.value) h n ≡ fixed = fixed_header_is fixed (nat_lt 0 q.count) (is_some e.value) h refl f.version q.some e.some second refl in (
+    let joined : after ≡ parts =
+    sym (take-append-drop (4 * n) after)
+    ∙ ap (λ (l : List ℕ). csrcs ++ l) (e.parts ∙ ap (λ (l : List ℕ). extension_octets e.value ++ l) q.parts) in
+    let front : fixed_header (nat_lt 0 q.count) (is_some e.value) h n ≡ fixed =
+    fixed_header_is fixed (nat_lt 0 q.count) (is_some e.value) h refl f.version q.some e.some second refl in (
       p,
       record {
         padding_octets = q.padding;
-        parts = counted_parts p octets n parts few (ap (λ (l : List ℕ). fixed ++ l) joined ∙ ap (λ (l : List ℕ). l ++ parts) (sym front));
+        parts =
+            counted_parts p octets n parts few
+            (ap (λ (l : List ℕ). fixed ++ l) joined ∙ ap (λ (l : List ℕ). l ++ parts) (sym front));
         header = fits;
         csrcs = omega (arith, few);
         csrcs_fit = omega (arith, few);
@@ -257,7 +302,8 @@ from_parts x y h after second fits small f =
       },
     )
 
-pub faultless_is_packet : (octets : List ℕ) → AreOctets octets → first_fault octets ≡ None → (p : Packet) × IsPacket p octets
+pub faultless_is_packet : (octets : List ℕ) → AreOctets octets → first_fault octets ≡ None
+    → (p : Packet) × IsPacket p octets
 faultless_is_packet octets small e =
     let f = faultless octets e in
     let b = begins octets (by_index octets small) f.long in

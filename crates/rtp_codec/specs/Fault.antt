@@ -1,5 +1,6 @@
 -- Why a datagram is no RTP packet: the cases, and which is reported (RFC 3550 section 5.1).
-use Rattle.std.specs.Prelude.{ℕ, ◌+◌, ◌-◌, ◌*◌, ◌/◌, ◌%◌, ◌==◌, nat_lt, Bool, not, ◌&&◌, ◌||◌, if◌then◌else◌, List, [], ◌∷◌, length, take, drop, slice_index, Option, Some, None}
+use Rattle.std.specs.Prelude.{ℕ, ◌+◌, ◌-◌, ◌*◌, ◌/◌, ◌%◌, ◌==◌, nat_lt, Bool, not, ◌&&◌, ◌||◌, if◌then◌else◌, List, []}
+use Rattle.std.specs.Prelude.{◌∷◌, length, take, drop, slice_index, Option, Some, None}
 use Rattle.std.specs.Int.{w16, from_be_bytes}
 use Rattle.rtp_codec.specs.declared.fault.RtpFault.{RtpFault}
 use Rattle.rtp_codec.specs.declared.fault.RtpFault.TheVariants.{Short, Version, Csrc, Extension, Padding}

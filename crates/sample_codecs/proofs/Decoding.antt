@@ -22,4 +22,5 @@ all_below_at p (suc n) k h lt =
     ]
 
 pub table_decoded : (code : ℕ) → code < 256 → slice_index_or DECODED code (pos 0) ≡ decoded code
-table_decoded code lt = (Decides-int_eq _ _).0 (all_below_at (λ k. int_eq (slice_index_or DECODED k (pos 0)) (decoded k)) 256 code refl lt)
+table_decoded code lt =
+    (Decides-int_eq _ _).0 (all_below_at (λ k. int_eq (slice_index_or DECODED k (pos 0)) (decoded k)) 256 code refl lt)

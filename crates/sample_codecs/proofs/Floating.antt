@@ -1,5 +1,8 @@
 -- What a float keeps of a biased magnitude: its exponent, and its first four digits (IEEE 754 binary32).
-use Rattle.std.proofs.Common.{◌≡◌, ℕ, suc, ◌+◌, ◌-◌, ◌*◌, ◌/◌, ◌^◌, ◌<◌, ◌≤◌, false, pos, T, not, zero-add, suc-add, arith, inl, inr, refl, le_trans, shl_lt, ap, ◌∙◌, sym, subst, mul-div_cancel, mul-one, mul_right_comm, pow_pos, mul-le-mul_right, lt_of_not-le, lt_irrefl, lt_of_lt_of_le, mul_assoc, pow-add}
+use Rattle.std.proofs.Common.{◌≡◌, ℕ, suc, ◌+◌, ◌-◌, ◌*◌, ◌/◌, ◌^◌, ◌<◌, ◌≤◌, false, pos, T, not, zero-add, suc-add}
+use Rattle.std.proofs.Common.{arith, inl, inr, refl, le_trans, shl_lt, ap, ◌∙◌, sym, subst, mul-div_cancel, mul-one}
+use Rattle.std.proofs.Common.{mul_right_comm, pow_pos, mul-le-mul_right, lt_of_not-le, lt_irrefl, lt_of_lt_of_le}
+use Rattle.std.proofs.Common.{mul_assoc, pow-add}
 use lib.Ieee.{Float, nan, inf, fin, binary32, up, down, size, of_int, to_bits, is_nan}
 use lib.Ieee.Back.{round_whole}
 use lib.Ieee.Digits.{size-lt, size-le}
@@ -17,7 +20,9 @@ bits_by w = 0 + (size w - 24) * 2 ^ 23 + w / 2 ^ (size w - 24)
 units_is : (m u d n : ℕ) → 0 < d → m * u * 1 ≡ n * d → m * u * 2 ^ 149 / d ≡ n * 2 ^ 149
 units_is m u d n some value =
     let plain : m * u ≡ n * d = sym (mul-one (m * u)) ∙ value in
-    ap (λ (x : ℕ). x * 2 ^ 149 / d) plain ∙ ap (λ (x : ℕ). x / d) (mul_right_comm n d (2 ^ 149)) ∙ mul-div_cancel (n * 2 ^ 149) some
+    ap (λ (x : ℕ). x * 2 ^ 149 / d) plain
+    ∙ ap (λ (x : ℕ). x / d) (mul_right_comm n d (2 ^ 149))
+    ∙ mul-div_cancel (n * 2 ^ 149) some
 
 bits_are : (x : Float) (n : ℕ) → HasValue x false n 1 → to_bits binary32 x ≡ bits_by (n * 2 ^ 149)
 unfolding to_bits
@@ -43,21 +48,27 @@ size_at : (w k : ℕ) → 2 ^ k ≤ w → w < 2 ^ suc k → size w ≡ suc k
 size_at w k low high =
     let most : size w ≤ suc k = size-le w (suc k) high in
     let least : k < size w = lt_of_not-le (λ (le : size w ≤ k).
-    lt_irrefl w (lt_of_lt_of_le (size-lt w) (le_trans (pow-le-pow_right {n = 2} (omega arith) {i = size w} {j = k} le) low))) in
+    lt_irrefl w
+    (lt_of_lt_of_le (size-lt w) (le_trans (pow-le-pow_right {n = 2} (omega arith) {i = size w} {j = k} le) low))) in
     omega (arith, most, least)
 
 -- a magnitude of suc k digits, where k + j is 23
 bits_at : (n k j : ℕ) → k + j ≡ 23 → 2 ^ k ≤ n → n < 2 ^ suc k → n < 32768
     → to_bits binary32 (of_int binary32 (pos n)) ≡ (k + 126) * 2 ^ 23 + n * 2 ^ j
 bits_at n k j sum low high small =
-    let least : 2 ^ (k + 149) ≤ n * 2 ^ 149 = subst (λ (x : ℕ). x ≤ n * 2 ^ 149) (sym (pow-add 2 k 149)) (mul-le-mul_right {m = 2 ^ k} {n = n} (2 ^ 149) low) in
-    let most : n * 2 ^ 149 < 2 ^ suc (k + 149) = subst (λ (x : ℕ). n * 2 ^ 149 < 2 ^ x) (suc-add k 149) (shl_lt {a = n} (suc k) 149 high) in
+    let least : 2 ^ (k + 149) ≤ n * 2 ^ 149 =
+    subst (λ (x : ℕ). x ≤ n * 2 ^ 149) (sym (pow-add 2 k 149)) (mul-le-mul_right {m = 2 ^ k} {n = n} (2 ^ 149) low) in
+    let most : n * 2 ^ 149 < 2 ^ suc (k + 149) =
+    subst (λ (x : ℕ). n * 2 ^ 149 < 2 ^ x) (suc-add k 149) (shl_lt {a = n} (suc k) 149 high) in
     let digits : size (n * 2 ^ 149) ≡ suc (k + 149) = size_at (n * 2 ^ 149) (k + 149) least most in
     let dropped : size (n * 2 ^ 149) - 24 ≡ k + 126 = omega (arith, digits) in
     let split : 149 ≡ j + (k + 126) = omega (arith, sum) in
     let parted : n * 2 ^ 149 ≡ n * 2 ^ j * 2 ^ (k + 126) =
-    ap (λ (x : ℕ). n * 2 ^ x) split ∙ ap (λ (x : ℕ). n * x) (pow-add 2 j (k + 126)) ∙ sym (mul_assoc n (2 ^ j) (2 ^ (k + 126))) in
-    let quotient : n * 2 ^ 149 / 2 ^ (k + 126) ≡ n * 2 ^ j = ap (λ (x : ℕ). x / 2 ^ (k + 126)) parted ∙ mul-div_cancel (n * 2 ^ j) (pow_pos (k + 126)) in
+    ap (λ (x : ℕ). n * 2 ^ x) split
+    ∙ ap (λ (x : ℕ). n * x) (pow-add 2 j (k + 126))
+    ∙ sym (mul_assoc n (2 ^ j) (2 ^ (k + 126))) in
+    let quotient : n * 2 ^ 149 / 2 ^ (k + 126) ≡ n * 2 ^ j =
+    ap (λ (x : ℕ). x / 2 ^ (k + 126)) parted ∙ mul-div_cancel (n * 2 ^ j) (pow_pos (k + 126)) in
     bits_are _ n (value_of n small)
     ∙ ap (λ (x : ℕ). x + n * 2 ^ 149 / 2 ^ (size (n * 2 ^ 149) - 24)) (zero-add ((size (n * 2 ^ 149) - 24) * 2 ^ 23))
     ∙ ap (λ (x : ℕ). x * 2 ^ 23 + n * 2 ^ 149 / 2 ^ x) dropped

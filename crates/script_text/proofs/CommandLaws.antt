@@ -1,5 +1,6 @@
 -- The laws of the words of commands, once for all commands.
-use Rattle.std.proofs.Common.{◌≡◌, ℕ, suc, ◌+◌, ◌<◌, ◌≤◌, List, [], ◌∷◌, ◌++◌, length, drop, drop-cons, false, Some, None, Ok, refl, sym, ap, ◌∙◌, subst, map, arith, not, eqb, true, inl, inr}
+use Rattle.std.proofs.Common.{◌≡◌, ℕ, suc, ◌+◌, ◌<◌, ◌≤◌, List, [], ◌∷◌, ◌++◌, length, drop, drop-cons, false, Some}
+use Rattle.std.proofs.Common.{None, Ok, refl, sym, ap, ◌∙◌, subst, map, arith, not, eqb, true, inl, inr}
 use Rattle.std.specs.List.{list_all}
 use Rattle.std.proofs.lemmas.Bool.{cases_lt}
 use Rattle.std.proofs.lemmas.Grind.{common_steps}
@@ -16,10 +17,12 @@ use Rattle.script_text.specs.declared.name.LineKind.{LineKind}
 use Rattle.script_text.specs.Words.{word_at, none_left, value_or}
 use Rattle.desk_rows.specs.Values.{as_codec, as_media}
 use Rattle.script_text.specs.Values.{field_of, in_row, value_text, AllFit, values_of, value_at, number_in, address_in}
-use Rattle.script_text.specs.Calls.{name_text, all_names, name_of, shape_of, Spelt, fields_of, command_with, with_rate, command_of, command_words, SpellCommand, IsCommand, is_slash, head_text, head_of}
+use Rattle.script_text.specs.Calls.{name_text, all_names, name_of, shape_of, Spelt, fields_of, command_with, with_rate}
+use Rattle.script_text.specs.Calls.{command_of, command_words, SpellCommand, IsCommand, is_slash, head_text, head_of}
 use Rattle.script_text.specs.Requests.{kind_text}
 use Rattle.script_text.proofs.Joined.{AllFree, free_test}
-use Rattle.script_text.proofs.ValueLaws.{found_text, free_values, bind_ok, word_back, or_back, values_back, values_again}
+use Rattle.script_text.proofs.ValueLaws.{found_text, free_values, bind_ok, word_back, or_back, values_back}
+use Rattle.script_text.proofs.ValueLaws.{values_again}
 
 -- ---- the tables
 
@@ -60,7 +63,8 @@ unfoldable pub read_from : ℕ → List Field → List Value → List Value
 read_from k [] vs = []
 read_from k (f ∷ shape) vs = with_field f (value_at k vs) ∷ read_from (k + 1) shape vs
 
-says : (n : Name) (vs : List Value) → let read = read_from 0 (shape_of n) vs in fields_of (command_with n read) ≡ record { name = n; values = read }
+says : (n : Name) (vs : List Value)
+    → let read = read_from 0 (shape_of n) vs in fields_of (command_with n read) ≡ record { name = n; values = read }
 unfolding read_from with_field
 says n vs = grind arith
 
@@ -83,18 +87,21 @@ at_place vs k lt = let e : k + 1 ≡ suc k = omega arith in rw e (drop-cons vs k
 past_end : (vs : List Value) (k : ℕ) → length vs ≤ k → drop k vs ≡ []
 past_end vs k le = grind (arith, common_steps)
 
-read_drop : (k : ℕ) (shape : List Field) (vs : List Value) → map field_of (drop k vs) ≡ shape → read_from k shape vs ≡ drop k vs
+read_drop : (k : ℕ) (shape : List Field) (vs : List Value) → map field_of (drop k vs) ≡ shape
+    → read_from k shape vs ≡ drop k vs
 unfolding read_from
 read_drop k [] vs h = none_mapped (drop k vs) h
 read_drop k (f ∷ shape) vs h =
     elim (cases_lt k (length vs)) [
       | inl lt ↦
           let at = at_place vs k lt in
-          let both : field_of (value_at k vs) ∷ map field_of (drop (k + 1) vs) ≡ f ∷ shape = ap (map field_of) (sym at) ∙ h in
+          let both : field_of (value_at k vs) ∷ map field_of (drop (k + 1) vs) ≡ f ∷ shape =
+          ap (map field_of) (sym at) ∙ h in
           let first : field_of (value_at k vs) ≡ f = cc in
           let others : map field_of (drop (k + 1) vs) ≡ shape = cc in
           ap (λ (g : Field). with_field g (value_at k vs) ∷ read_from (k + 1) shape vs) (sym first)
-          ∙ (ap (λ (v : Value). v ∷ read_from (k + 1) shape vs) (same_field (value_at k vs)) ∙ (ap (λ (t : List Value). value_at k vs ∷ t) (read_drop (k + 1) shape vs others) ∙ sym at))
+          ∙ (ap (λ (v : Value). v ∷ read_from (k + 1) shape vs) (same_field (value_at k vs))
+          ∙ (ap (λ (t : List Value). value_at k vs ∷ t) (read_drop (k + 1) shape vs others) ∙ sym at))
       | inr le ↦
           let none : [] ≡ f ∷ shape = ap (map field_of) (sym (past_end vs k le)) ∙ h in
           absurd cc
@@ -104,12 +111,16 @@ pub read_all : (shape : List Field) (vs : List Value) → map field_of vs ≡ sh
 read_all shape vs h = read_drop 0 shape vs h
 
 -- values of a name's fields are what the call says
-pub says_back : (n : Name) (vs : List Value) → map field_of vs ≡ shape_of n → fields_of (command_with n vs) ≡ record { name = n; values = vs }
-says_back n vs h = subst (λ (t : List Value). fields_of (command_with n t) ≡ record { name = n; values = t }) (read_all (shape_of n) vs h) (says n vs)
+pub says_back : (n : Name) (vs : List Value) → map field_of vs ≡ shape_of n
+    → fields_of (command_with n vs) ≡ record { name = n; values = vs }
+says_back n vs h =
+    subst (λ (t : List Value). fields_of (command_with n t) ≡ record { name = n; values = t })
+    (read_all (shape_of n) vs h) (says n vs)
 
 -- words spell a name with values
 abbrev Spells : List (List ℕ) → Spelt → Type 0
-Spells words s = (behind : List (List ℕ)) × (words ≡ name_text s.name ∷ behind) × (with_rate s.name behind ≡ map value_text s.values)
+Spells words s =
+    (behind : List (List ℕ)) × (words ≡ name_text s.name ∷ behind) × (with_rate s.name behind ≡ map value_text s.values)
 
 pub none_back : (place : ℕ) (words : List (List ℕ)) → none_left place words ≡ Ok tt → words ≡ []
 none_back place [] e = refl
@@ -118,28 +129,34 @@ none_back place (w ∷ ws) e = absurd cc
 -- ---- commands
 
 -- the words of a command name the rate of its room
-rated : (c : Command) → with_rate (fields_of c).name (map value_text (fields_of c).values) ≡ map value_text (fields_of c).values
+rated : (c : Command)
+    → with_rate (fields_of c).name (map value_text (fields_of c).values) ≡ map value_text (fields_of c).values
 rated c = grind arith
 
 -- a command's words spell it
 pub command_spelt : (c : Command) → SpellCommand (command_words c) c
 command_spelt c = (map value_text (fields_of c).values, refl, rated c)
 
-values_read : (place : ℕ) (c : Command) → IsCommand c → values_of place (shape_of (fields_of c).name) (map value_text (fields_of c).values) ≡ Ok ((fields_of c).values, [])
+values_read : (place : ℕ) (c : Command) → IsCommand c
+    → values_of place (shape_of (fields_of c).name) (map value_text (fields_of c).values)
+    ≡ Ok ((fields_of c).values, [])
 values_read place c h =
     let vs = (fields_of c).values in
     let texts = map value_text vs in
     subst (λ (shape : List Field). values_of place shape texts ≡ Ok (vs, [])) (shaped c)
-    (subst (λ (ws : List (List ℕ)). values_of place (map field_of vs) ws ≡ Ok (vs, [])) (append-nil texts) (values_again place vs [] h))
+    (subst (λ (ws : List (List ℕ)). values_of place (map field_of vs) ws ≡ Ok (vs, [])) (append-nil texts)
+    (values_again place vs [] h))
 
 -- words that spell a command are read as the command
-pub command_again : (place : ℕ) (words : List (List ℕ)) (c : Command) → SpellCommand words c → IsCommand c → command_of place words ≡ Ok c
+pub command_again : (place : ℕ) (words : List (List ℕ)) (c : Command) → SpellCommand words c → IsCommand c
+    → command_of place words ≡ Ok c
 unfolding command_of
 command_again place words c spelt h =
     rw (spelt.1, name_again (fields_of c).name, spelt.2, values_read (place + 1) c h, rebuilds c) refl
 
 -- words that are read as a command spell it
-pub command_back : (place : ℕ) (words : List (List ℕ)) (c : Command) → command_of place words ≡ Ok c → SpellCommand words c × IsCommand c
+pub command_back : (place : ℕ) (words : List (List ℕ)) (c : Command) → command_of place words ≡ Ok c
+    → SpellCommand words c × IsCommand c
 unfolding command_of
 command_back place words c e =
     let w = bind_ok (word_at place words) _ c e in
@@ -149,13 +166,16 @@ command_back place words c e =
     let is : command_with n.0 r.0.0 ≡ c = cc (l.2) in
     let b = values_back (place + 1) (shape_of n.0) (with_rate n.0 w.0.1) r.0 r.1 in
     let said : fields_of c ≡ record { name = n.0; values = r.0.0 } = ap fields_of (sym is) ∙ says_back n.0 r.0.0 b.1 in
-    let name : w.0.0 ≡ name_text n.0 = found_text name_text w.0.0 all_names n.0 (or_back place UnknownWord (name_of w.0.0) n.0 n.1) in
+    let name : w.0.0 ≡ name_text n.0 =
+    found_text name_text w.0.0 all_names n.0 (or_back place UnknownWord (name_of w.0.0) n.0 n.1) in
     let none : r.0.1 ≡ [] = none_back _ r.0.1 l.1 in
-    let filled : with_rate n.0 w.0.1 ≡ map value_text r.0.0 = b.0 ∙ (ap (λ (t : List (List ℕ)). map value_text r.0.0 ++ t) none ∙ append-nil (map value_text r.0.0)) in
+    let filled : with_rate n.0 w.0.1 ≡ map value_text r.0.0 =
+    b.0 ∙ (ap (λ (t : List (List ℕ)). map value_text r.0.0 ++ t) none ∙ append-nil (map value_text r.0.0)) in
     let text : words ≡ name_text n.0 ∷ w.0.1 = word_back place words w.0 w.1 ∙ ap (λ (t : List ℕ). t ∷ w.0.1) name in (
       subst (λ (s : Spelt). Spells words s) (sym said) (w.0.1, text, filled),
       subst (λ (s : Spelt). AllFit s.values) (sym said) b.2,
     )
 
 pub command_free : (c : Command) → IsCommand c → AllFree 32 (command_words c)
-command_free c h = (free_test 32 (name_text (fields_of c).name) (name_free (fields_of c).name), free_values (fields_of c).values h)
+command_free c h =
+    (free_test 32 (name_text (fields_of c).name) (name_free (fields_of c).name), free_values (fields_of c).values h)

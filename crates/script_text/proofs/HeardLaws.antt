@@ -1,5 +1,6 @@
 -- One decoding has every datagram, and so every script.
-use Rattle.std.proofs.Common.{◌≡◌, ◌⊎◌, ◌^◌, ℕ, suc, Bool, true, false, not, ◌||◌, ◌==◌, nat_lt, length, slice_index, if◌then◌else◌, List, [], ◌∷◌, Option, Some, None, Result, Ok, Err, refl, inl, inr, arith}
+use Rattle.std.proofs.Common.{◌≡◌, ◌⊎◌, ◌^◌, ℕ, suc, Bool, true, false, not, ◌||◌, ◌==◌, nat_lt, length, slice_index}
+use Rattle.std.proofs.Common.{if◌then◌else◌, List, [], ◌∷◌, Option, Some, None, Result, Ok, Err, refl, inl, inr, arith}
 use Rattle.std.specs.Prelude.{IfSome}
 use Rattle.std.specs.List.{list_all}
 use Rattle.std.proofs.lemmas.Bool.{cases_lt}
@@ -12,7 +13,8 @@ use Rattle.intake.specs.Taking.{Voice, IsVoice}
 use Rattle.script_text.specs.declared.fault.Fault.{Fault}
 use Rattle.script_text.specs.Lines.{line_limit}
 use Rattle.script_text.specs.Words.{words_of}
-use Rattle.script_text.specs.Requests.{Request, Nothing, Begin, Desk, Item, Rx, Wait, Report, Show, is_printable, words_request, line_request, request_of}
+use Rattle.script_text.specs.Requests.{Request, Nothing, Begin, Desk, Item, Rx, Wait, Report, Show, is_printable}
+use Rattle.script_text.specs.Requests.{words_request, line_request, request_of}
 use Rattle.script_text.specs.Decodings.{Decoding, script_asker, IsDecoded, DecodesRequest, DecodesLines, InEachDecoding}
 use Rattle.script_text.specs.Lines.{lines_of}
 use Rattle.script_text.proofs.FirstLineLemmas.{read_by}
@@ -42,7 +44,8 @@ read : HaveReadings → (numbers : List ℕ) → OctetsOrNot numbers → Reading
 read readings numbers (inl small) = (readings numbers small).0
 read readings numbers (inr other) = too_long
 
-reads : (readings : HaveReadings) (octets : List ℕ) (d : OctetsOrNot octets) → AreOctets octets → IsReading octets (read readings octets d)
+reads : (readings : HaveReadings) (octets : List ℕ) (d : OctetsOrNot octets) → AreOctets octets
+    → IsReading octets (read readings octets d)
 unfolding read
 reads readings octets (inl small) h = (readings octets small).1
 reads readings octets (inr other) h = absurd (other h)
@@ -60,7 +63,8 @@ datagrams_heard voices readings =
 
 -- ---- all lines
 
-words_read : (long bad empty : Bool) (read : Result Request (ℕ × Fault)) (moment : ℕ) (from : Address) (octets : List ℕ) → read_by long bad empty read ≡ Ok (Rx moment from octets) → read ≡ Ok (Rx moment from octets)
+words_read : (long bad empty : Bool) (read : Result Request (ℕ × Fault)) (moment : ℕ) (from : Address) (octets : List ℕ)
+    → read_by long bad empty read ≡ Ok (Rx moment from octets) → read ≡ Ok (Rx moment from octets)
 words_read true bad empty read moment from octets e = absurd cc
 words_read false true empty read moment from octets e = absurd cc
 words_read false false true read moment from octets e = absurd cc
@@ -71,12 +75,16 @@ by_recursion [] h = tt
 by_recursion (x ∷ xs) h = (h 0, by_recursion xs (λ i. h (suc i)))
 
 -- a datagram of a line is of octets
-line_octets : (line : List ℕ) (moment : ℕ) (from : Address) (octets : List ℕ) → request_of line ≡ Ok (Rx moment from octets) → AreOctets octets
+line_octets : (line : List ℕ) (moment : ℕ) (from : Address) (octets : List ℕ)
+    → request_of line ≡ Ok (Rx moment from octets) → AreOctets octets
 unfolding line_request
 line_octets line moment from octets e =
-    by_recursion octets (rx_back line moment from octets (words_read (nat_lt line_limit (length line)) (not (list_all is_printable line)) (length line == 0 || slice_index line 0 == 35) (words_request (words_of line)) moment from octets e)).3.bytes
+    by_recursion octets (rx_back line moment from octets (words_read (nat_lt line_limit (length line))
+    (not (list_all is_printable line)) (length line == 0 || slice_index line 0 == 35) (words_request (words_of line))
+    moment from octets e)).3.bytes
 
-line_heard : (decoding : Decoding) → HearsEach decoding → (line : List ℕ) (asked : Result Request (ℕ × Fault)) → request_of line ≡ asked → DecodesRequest decoding asked
+line_heard : (decoding : Decoding) → HearsEach decoding → (line : List ℕ) (asked : Result Request (ℕ × Fault))
+    → request_of line ≡ asked → DecodesRequest decoding asked
 line_heard decoding each line (Ok Nothing) e = tt
 line_heard decoding each line (Ok (Begin who renews)) e = tt
 line_heard decoding each line (Ok (Desk op call)) e = tt
@@ -89,7 +97,8 @@ line_heard decoding each line (Err fault) e = tt
 
 lines_heard : (decoding : Decoding) → HearsEach decoding → (lines : List (List ℕ)) → DecodesLines decoding lines
 lines_heard decoding each [] = tt
-lines_heard decoding each (line ∷ lines) = (line_heard decoding each line (request_of line) refl, lines_heard decoding each lines)
+lines_heard decoding each (line ∷ lines) =
+    (line_heard decoding each line (request_of line) refl, lines_heard decoding each lines)
 
 -- a decoding of every script
 abbrev pub HaveWire : Type 0
@@ -100,9 +109,12 @@ scripts_heard one = (one.0, lines_heard one.0 one.1)
 
 -- ---- what is so in each decoding is so in that one
 
-pub on_wires : HaveWire → (lines : List (List ℕ)) (IsSo : Decoding → Type 0) → ((decoding : Decoding) → DecodesLines decoding lines → IsSo decoding) → InEachDecoding lines IsSo
+pub on_wires : HaveWire → (lines : List (List ℕ)) (IsSo : Decoding → Type 0)
+    → ((decoding : Decoding) → DecodesLines decoding lines → IsSo decoding) → InEachDecoding lines IsSo
 on_wires one lines IsSo each = record { each = each; some = (one.0, one.1 lines, each one.0 (one.1 lines)) }
 
-pub input_on_wires : HaveWire → (left : Option (List ℕ)) (IsSo : List ℕ → Decoding → Type 0) → IfSome left (λ input. (decoding : Decoding) → DecodesLines decoding (lines_of input) → IsSo input decoding) → IfSome left (λ input. InEachDecoding (lines_of input) (IsSo input))
+pub input_on_wires : HaveWire → (left : Option (List ℕ)) (IsSo : List ℕ → Decoding → Type 0)
+    → IfSome left (λ input. (decoding : Decoding) → DecodesLines decoding (lines_of input) → IsSo input decoding)
+    → IfSome left (λ input. InEachDecoding (lines_of input) (IsSo input))
 input_on_wires one None IsSo each = tt
 input_on_wires one (Some input) IsSo each = on_wires one (lines_of input) (IsSo input) each

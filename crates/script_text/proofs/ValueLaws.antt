@@ -1,5 +1,6 @@
 -- A value's word is what is printed of the value.
-use Rattle.std.proofs.Common.{◌≡◌, ℕ, get_or, ◌+◌, ◌<◌, ◌≤◌, ◌^◌, List, [], ◌∷◌, ◌++◌, Option, Some, None, Result, Ok, Err, refl, ap, ◌∙◌, subst, arith, Bool, true, codes, map, inl, inr}
+use Rattle.std.proofs.Common.{◌≡◌, ℕ, get_or, ◌+◌, ◌<◌, ◌≤◌, ◌^◌, List, [], ◌∷◌, ◌++◌, Option, Some, None, Result, Ok}
+use Rattle.std.proofs.Common.{Err, refl, ap, ◌∙◌, subst, arith, Bool, true, codes, map, inl, inr}
 use Rattle.std.specs.Option.{option_map}
 use Rattle.std.specs.List.{find}
 use Rattle.std.specs.Str.{bytes_eq}
@@ -25,7 +26,8 @@ use Rattle.script_text.proofs.Joined.{Free, AllFree, free_test, free_append, fre
 some_of : {A : Type 0} (x y : A) → Some x ≡ Some y → x ≡ y
 some_of x y e = cc
 
-map_some : {A B : Type 0} (f : A → B) (o : Option A) (y : B) → option_map f o ≡ Some y → (x : A) × (o ≡ Some x) × (f x ≡ y)
+map_some : {A B : Type 0} (f : A → B) (o : Option A) (y : B) → option_map f o ≡ Some y
+    → (x : A) × (o ≡ Some x) × (f x ≡ y)
 map_some f None y e = absurd cc
 map_some f (Some x) y e = (x, refl, some_of _ _ e)
 
@@ -39,23 +41,29 @@ found {A} test (x ∷ xs) y e =
     ]
 
 -- what a table of texts finds is written so
-pub found_text : {A : Type 0} (text : A → List ℕ) (word : List ℕ) (xs : List A) (y : A) → find (λ x. bytes_eq word (text x)) xs ≡ Some y → word ≡ text y
+pub found_text : {A : Type 0} (text : A → List ℕ) (word : List ℕ) (xs : List A) (y : A)
+    → find (λ x. bytes_eq word (text x)) xs ≡ Some y → word ≡ text y
 found_text text word xs y e = (bytes_eq-Decides word (text y)).0 (found (λ x. bytes_eq word (text x)) xs y e)
 
 -- what a word that was read says of its value
 abbrev pub Back : Field → List ℕ → Value → Type 0
 Back f word v = (word ≡ value_text v) × (field_of v ≡ f) × Fits v
 
-by_number : (max : ℕ) → max < 2 ^ 64 → (make : ℕ → Value) (f : Field) (word : List ℕ) (v : Value) → ((n : ℕ) → (word ≡ decimal n) × (n ≤ max) → Back f word (make n)) → option_map make (decimal_of max word) ≡ Some v → Back f word v
+by_number : (max : ℕ) → max < 2 ^ 64 → (make : ℕ → Value) (f : Field) (word : List ℕ) (v : Value)
+    → ((n : ℕ) → (word ≡ decimal n) × (n ≤ max) → Back f word (make n)) → option_map make (decimal_of max word) ≡ Some v
+    → Back f word v
 by_number max small make f word v h e =
     let m = map_some make (decimal_of max word) v e in
     subst (λ (x : Value). Back f word x) m.2 (h m.0 (spelled max m.0 word small m.1))
 
 value_back : (f : Field) (word : List ℕ) (v : Value) → value_of f word ≡ Some v → Back f word v
 value_back fields.U16 word v e = by_number 65535 (omega arith) values.U16 fields.U16 word v (λ n s. (s.0, refl, s.1)) e
-value_back fields.U32 word v e = by_number 4294967295 (omega arith) values.U32 fields.U32 word v (λ n s. (s.0, refl, s.1)) e
-value_back fields.U64 word v e = by_number 18446744073709551615 (omega arith) values.U64 fields.U64 word v (λ n s. (s.0, refl, s.1)) e
-value_back fields.Operator word v e = by_number 15 (omega arith) values.Operator fields.Operator word v (λ n s. (s.0, refl, s.1)) e
+value_back fields.U32 word v e =
+    by_number 4294967295 (omega arith) values.U32 fields.U32 word v (λ n s. (s.0, refl, s.1)) e
+value_back fields.U64 word v e =
+    by_number 18446744073709551615 (omega arith) values.U64 fields.U64 word v (λ n s. (s.0, refl, s.1)) e
+value_back fields.Operator word v e =
+    by_number 15 (omega arith) values.Operator fields.Operator word v (λ n s. (s.0, refl, s.1)) e
 value_back fields.Address word v e =
     let m = map_some values.Address (address_of word) v e in
     let b = address_spelled word m.0 m.1 in
@@ -65,7 +73,8 @@ value_back fields.Codec word v e =
     subst (λ (x : Value). Back fields.Codec word x) m.2 (found_text codec_text word (Pcmu ∷ L16 ∷ []) m.0 m.1, refl, tt)
 value_back fields.Media word v e =
     let m = map_some values.Media (media_of word) v e in
-    subst (λ (x : Value). Back fields.Media word x) m.2 (found_text media_text word (Audio ∷ Video ∷ []) m.0 m.1, refl, tt)
+    subst (λ (x : Value). Back fields.Media word x) m.2
+    (found_text media_text word (Audio ∷ Video ∷ []) m.0 m.1, refl, tt)
 
 pub value_again : (v : Value) → Fits v → value_of (field_of v) (value_text v) ≡ Some v
 value_again (values.U16 n) h = ap (option_map values.U16) (read 65535 n (omega arith) h)
@@ -85,10 +94,15 @@ free_value (values.U32 n) h = free_number n (omega arith)
 free_value (values.U64 n) h = free_number n (omega arith)
 free_value (values.Operator n) h = free_number n (omega arith)
 free_value (values.Address a) h =
-    let part : (k : ℕ) → Free 32 (decimal (get_or a.ip k 0)) = λ k. free_number (get_or a.ip k 0) (omega (arith, h.octets k)) in
+    let part : (k : ℕ) → Free 32 (decimal (get_or a.ip k 0)) = λ k.
+    free_number (get_or a.ip k 0) (omega (arith, h.octets k)) in
     let dot : Free 32 (codes ".") = (refl, tt) in
     let join = free_append 32 in
-    join _ _ (join _ _ (join _ _ (join _ _ (join _ _ (join _ _ (join _ _ (join _ _ (part 0) dot) (part 1)) dot) (part 2)) dot) (part 3)) (refl, tt)) (free_number a.port (omega (arith, h.port)))
+    join _ _
+    (join _ _
+    (join _ _ (join _ _ (join _ _ (join _ _ (join _ _ (join _ _ (part 0) dot) (part 1)) dot) (part 2)) dot) (part 3))
+    (refl, tt))
+    (free_number a.port (omega (arith, h.port)))
 free_value (values.Codec Pcmu) h = free_test 32 (codes "pcmu") refl
 free_value (values.Codec L16) h = free_test 32 (codes "l16") refl
 free_value (values.Media Audio) h = free_test 32 (codes "audio") refl
@@ -100,15 +114,18 @@ free_values (v ∷ vs) h = (free_value v h.0, free_values vs h.1)
 
 -- ---- values one after another
 
-pub bind_ok : {A B : Type 0} (r : Result A (ℕ × Fault)) (f : A → Result B (ℕ × Fault)) (y : B) → (r >>= f) ≡ Ok y → (x : A) × (r ≡ Ok x) × (f x ≡ Ok y)
+pub bind_ok : {A B : Type 0} (r : Result A (ℕ × Fault)) (f : A → Result B (ℕ × Fault)) (y : B) → (r >>= f) ≡ Ok y
+    → (x : A) × (r ≡ Ok x) × (f x ≡ Ok y)
 bind_ok (Ok x) f y e = (x, refl, e)
 bind_ok (Err x) f y e = absurd cc
 
-pub word_back : (place : ℕ) (words : List (List ℕ)) (x : List ℕ × List (List ℕ)) → word_at place words ≡ Ok x → words ≡ x.0 ∷ x.1
+pub word_back : (place : ℕ) (words : List (List ℕ)) (x : List ℕ × List (List ℕ)) → word_at place words ≡ Ok x
+    → words ≡ x.0 ∷ x.1
 word_back place [] x e = absurd cc
 word_back place (w ∷ ws) x e = let is : (w, ws) ≡ x = cc in ap (λ (p : List ℕ × List (List ℕ)). p.0 ∷ p.1) is
 
-pub or_back : {A : Type 0} (place : ℕ) (fault : Fault) (o : Option A) (x : A) → value_or place fault o ≡ Ok x → o ≡ Some x
+pub or_back : {A : Type 0} (place : ℕ) (fault : Fault) (o : Option A) (x : A) → value_or place fault o ≡ Ok x
+    → o ≡ Some x
 or_back place fault None x e = absurd cc
 or_back place fault (Some y) x e = cc
 
@@ -116,9 +133,11 @@ or_back place fault (Some y) x e = cc
 abbrev pub AllBack : List Field → List (List ℕ) → List Value × List (List ℕ) → Type 0
 AllBack shape words x = (words ≡ map value_text x.0 ++ x.1) × (map field_of x.0 ≡ shape) × AllFit x.0
 
-pub values_back : (place : ℕ) (shape : List Field) (words : List (List ℕ)) (x : List Value × List (List ℕ)) → values_of place shape words ≡ Ok x → AllBack shape words x
+pub values_back : (place : ℕ) (shape : List Field) (words : List (List ℕ)) (x : List Value × List (List ℕ))
+    → values_of place shape words ≡ Ok x → AllBack shape words x
 unfolding values_of
-values_back place [] words x e = let is : ([], words) ≡ x = cc in subst (λ (y : List Value × List (List ℕ)). AllBack [] words y) is (refl, refl, tt)
+values_back place [] words x e =
+    let is : ([], words) ≡ x = cc in subst (λ (y : List Value × List (List ℕ)). AllBack [] words y) is (refl, refl, tt)
 values_back place (f ∷ shape) words x e =
     let w = bind_ok (word_at place words) _ x e in
     let v = bind_ok (value_or place _ (value_of f w.0.0)) _ x w.2 in
@@ -127,12 +146,14 @@ values_back place (f ∷ shape) words x e =
     let r = values_back (place + 1) shape w.0.1 o.0 o.1 in
     let is : (v.0 ∷ o.0.0, o.0.1) ≡ x = cc (o.2) in
     subst (λ (y : List Value × List (List ℕ)). AllBack (f ∷ shape) words y) is (
-      word_back place words w.0 w.1 ∙ (ap (λ (t : List ℕ). t ∷ w.0.1) b.0 ∙ ap (λ (t : List (List ℕ)). value_text v.0 ∷ t) r.0),
+      word_back place words w.0 w.1
+          ∙ (ap (λ (t : List ℕ). t ∷ w.0.1) b.0 ∙ ap (λ (t : List (List ℕ)). value_text v.0 ∷ t) r.0),
       ap (λ (t : Field). t ∷ map field_of o.0.0) b.1 ∙ ap (λ (t : List Field). f ∷ t) r.1,
       (b.2, r.2),
     )
 
-pub values_again : (place : ℕ) (vs : List Value) (words : List (List ℕ)) → AllFit vs → values_of place (map field_of vs) (map value_text vs ++ words) ≡ Ok (vs, words)
+pub values_again : (place : ℕ) (vs : List Value) (words : List (List ℕ)) → AllFit vs
+    → values_of place (map field_of vs) (map value_text vs ++ words) ≡ Ok (vs, words)
 unfolding values_of
 values_again place [] words h = refl
 values_again place (v ∷ vs) words h = rw (value_again v h.0, values_again (place + 1) vs words h.1) refl

@@ -26,8 +26,8 @@ use Rattle.script_text.specs.Datagrams.{outcome_text, up_text}
 use Rattle.script_text.specs.Decodings.{Decoding, script_asker, voice_of}
 use Rattle.script_text.specs.RowLines.{show_text}
 
--- the bridge between two lines: how it decodes datagrams, who it is, what its calls have led to, the accepted calls and the
--- items so far, and the sources that it knows
+-- the bridge between two lines: how it decodes datagrams, who it is, what its calls have led to, the accepted calls and
+-- the items so far, and the sources that it knows
 pub record Bridge : Type 0 where
   pub decoding : Decoding
   pub who : Asker
@@ -157,7 +157,8 @@ answer_report bridge moment up sources = (
   after_item (knowing sources bridge) (report moment),
 )
 
--- the answer of a bridge that has just begun_bridge: where its buffers are to begin anew, the lane is told so by an item
+-- the answer of a bridge that has just begun_bridge: where its buffers are to begin anew, the lane is told so by an
+-- item
 abbrev pub answer_begin : Bridge → (renews : Bool) → Answer × Bridge
 answer_begin bridge false = (silence, bridge)
 answer_begin bridge true = (sent (item_sent bridge renew), after_item bridge renew)
@@ -172,7 +173,8 @@ answer bridge (Item item) = (sent (item_sent bridge item), after_item bridge ite
 answer bridge (Rx moment from octets) =
     answer_datagram bridge (taken_at bridge moment from octets).0 (taken_at bridge moment from octets).1
 answer bridge (Wait moment from ssrc) =
-    answer_wait bridge (waited_at bridge moment (origin_at from ssrc)).0 (waited_at bridge moment (origin_at from ssrc)).1
+    answer_wait bridge (waited_at bridge moment (origin_at from ssrc)).0
+    (waited_at bridge moment (origin_at from ssrc)).1
 answer bridge (Report moment) = answer_report bridge moment (reported_at bridge moment).0 (reported_at bridge moment).1
 answer bridge Show = (shown (desk_now bridge.calls) bridge.calls.accepted, bridge)
 

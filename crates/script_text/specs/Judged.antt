@@ -28,8 +28,8 @@ told_as refusal cases = map (λ c. (c.0, refusal c.1)) cases
 abbrev pub size_cases : ℕ → List (Bool × Refusal)
 size_cases count = (nat_eq count 0, EmptyGroup) ∷ (nat_lt group_limit count, GroupTooLong group_limit) ∷ []
 
--- the reasons against commands, the first of which has this number in its group: all against one, and then those against
--- the next on the desk that it leaves
+-- the reasons against commands, the first of which has this number in its group: all against one, and then those
+-- against the next on the desk that it leaves
 abbrev pub part_cases : ℕ → Desk → List Command → List (Bool × Refusal)
 part_cases part d [] = []
 part_cases part d (command ∷ commands) =

@@ -55,7 +55,8 @@ abbrev pub IsCutOf : List ℕ → List ℕ → Type 0
 IsCutOf front all = (next : ℕ) × (rest : List ℕ) × (all ≡ front ++ next ∷ rest)
 
 -- what a run over this input leaves: what the reader still has, and what the writer held before and holds now
-abbrev pub RunEnds : Decoding → List ℕ → Option (List ℕ) → Option (List ℕ) → Option (List ℕ) → Result (Unit {0}) RunFault
+abbrev pub RunEnds : Decoding → List ℕ → Option (List ℕ) → Option (List ℕ) → Option (List ℕ)
+    → Result (Unit {0}) RunFault
     → Type 0
 RunEnds decoding input left before now (Ok u) =
     IsAtEnd left × ((output_of decoding input).fault ≡ None) × Appends before now (output_of decoding input).text

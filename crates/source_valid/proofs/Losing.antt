@@ -1,16 +1,19 @@
 -- What blocks tell of lost packets.
-use Rattle.std.proofs.Common.{◌≡◌, ℕ, zero, suc, ◌+◌, ◌-◌, ◌*◌, ◌/◌, ◌^◌, ◌<◌, ◌≤◌, false, cond, Bool, nat_eq, refl, sym, ap, ◌∙◌, subst, arith, min}
+use Rattle.std.proofs.Common.{◌≡◌, ℕ, zero, suc, ◌+◌, ◌-◌, ◌*◌, ◌/◌, ◌^◌, ◌<◌, ◌≤◌, false, cond, Bool, nat_eq, refl}
+use Rattle.std.proofs.Common.{sym, ap, ◌∙◌, subst, arith, min}
 use Rattle.std.specs.Prelude.{ℤ, pos, negsuc, ◌+ℤ◌, ◌-ℤ◌, neg_ℤ}
 use Rattle.std.specs.Int.{int_max, int_min}
 use Rattle.std.proofs.lemmas.Bool.Decides.{nat_tests}
-use Rattle.std.proofs.Math.Nat.{div-mul-le_self, lt-div-mul-add, mul-div_left, mul-le-mul_right, div-le_of_le-mul, le_trans}
+use Rattle.std.proofs.Math.Nat.{div-mul-le_self, lt-div-mul-add, mul-div_left, mul-le-mul_right, div-le_of_le-mul}
+use Rattle.std.proofs.Math.Nat.{le_trans}
 use Rattle.std.proofs.Math.IntN.{+ℤ_idl, +ℤ_assoc, +ℤ_invr, neg_ℤ-+ℤ, +ℤ-neg_ℤ_cancel}
 use Rattle.rtcp_codec.specs.Report.{least_lost, most_lost}
 use Rattle.source_valid.specs.Reports.{fraction_of}
 use Rattle.source_valid.specs.laws.Losses.{Losses}
 
 -- where some were expected
-by_shares : (expected received : ℕ) → 0 < expected → fraction_of expected received ≡ min (256 * (expected - received) / expected) 255
+by_shares : (expected received : ℕ) → 0 < expected
+    → fraction_of expected received ≡ min (256 * (expected - received) / expected) 255
 by_shares expected received some =
     let test : nat_eq expected 0 ≡ false = grind (arith, nat_tests) in
     ap (λ (b : Bool). cond b 0 (min (256 * (expected - received) / expected) 255)) test
@@ -19,7 +22,9 @@ none_lost : (expected received : ℕ) → expected ≤ received → fraction_of 
 none_lost zero received le = refl
 none_lost (suc e) received le =
     let none : suc e - received ≡ 0 = omega arith in
-    by_shares (suc e) received (omega arith) ∙ ap (λ (n : ℕ). min (256 * n / suc e) 255) none ∙ by (256 * 0 / suc e) (div-le_of_le-mul (suc e) {m = 256 * 0} {n = 0} (omega arith))
+    by_shares (suc e) received (omega arith)
+    ∙ ap (λ (n : ℕ). min (256 * n / suc e) 255) none
+    ∙ by (256 * 0 / suc e) (div-le_of_le-mul (suc e) {m = 256 * 0} {n = 0} (omega arith))
   where
     by : (q : ℕ) → q ≤ 0 → min q 255 ≡ 0
     by q le = omega (arith, le)
@@ -27,7 +32,9 @@ none_lost (suc e) received le =
 all_lost : (expected : ℕ) → 0 < expected → fraction_of expected 0 ≡ 255
 all_lost e some =
     let whole : e - 0 ≡ e = omega arith in
-    by_shares e 0 some ∙ ap (λ (n : ℕ). min (256 * n / e) 255) whole ∙ ap (λ (q : ℕ). min q 255) (mul-div_left 256 {n = e} some)
+    by_shares e 0 some
+    ∙ ap (λ (n : ℕ). min (256 * n / e) 255) whole
+    ∙ ap (λ (q : ℕ). min q 255) (mul-div_left 256 {n = e} some)
 
 at_most : (expected received : ℕ) → fraction_of expected received ≤ 255
 at_most zero received = omega arith
@@ -38,9 +45,11 @@ not_more zero received = omega arith
 not_more (suc e) received =
     let a : ℕ = 256 * (suc e - received) in
     let few : min (a / suc e) 255 ≤ a / suc e = omega arith in
-    subst (λ (f : ℕ). f * suc e ≤ a) (sym (by_shares (suc e) received (omega arith))) (le_trans (mul-le-mul_right (suc e) few) (div-mul-le_self a (suc e)))
+    subst (λ (f : ℕ). f * suc e ≤ a) (sym (by_shares (suc e) received (omega arith)))
+    (le_trans (mul-le-mul_right (suc e) few) (div-mul-le_self a (suc e)))
 
-not_less : (expected received : ℕ) → 0 < expected → fraction_of expected received < 255 → 256 * (expected - received) < fraction_of expected received * expected + expected
+not_less : (expected received : ℕ) → 0 < expected → fraction_of expected received < 255
+    → 256 * (expected - received) < fraction_of expected received * expected + expected
 not_less e received some lt =
     let a : ℕ = 256 * (e - received) in
     let shares : fraction_of e received ≡ min (a / e) 255 = by_shares e received some in

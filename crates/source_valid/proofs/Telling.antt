@@ -1,5 +1,6 @@
 -- What blocks tell.
-use Rattle.std.proofs.Common.{◌≡◌, ℕ, ◌+◌, ◌-◌, ◌*◌, ◌/◌, ◌^◌, ◌<◌, ◌≤◌, List, [], ◌∷◌, ◌++◌, Some, refl, sym, ap, ◌∙◌, subst, arith, min}
+use Rattle.std.proofs.Common.{◌≡◌, ℕ, ◌+◌, ◌-◌, ◌*◌, ◌/◌, ◌^◌, ◌<◌, ◌≤◌, List, [], ◌∷◌, ◌++◌, Some, refl, sym, ap, ◌∙◌}
+use Rattle.std.proofs.Common.{subst, arith, min}
 use Rattle.std.specs.Prelude.{fold, map, ℤ, pos, negsuc}
 use Rattle.std.proofs.lemmas.List.Sums.{fold-append}
 use Rattle.source_valid.specs.declared.timing.Timing.{Timing}
@@ -24,10 +25,13 @@ greatest-le base (e ∷ exts) =
 pub intervals : Intervals
 intervals base [] second = omega arith
 intervals base (e ∷ first) second =
-    let joined : greatest base ((e ∷ first) ++ second) ≡ greatest (greatest base (e ∷ first)) second = fold-append further base (e ∷ first) second in
-    let more : greatest base (e ∷ first) ≤ greatest (greatest base (e ∷ first)) second = greatest-le (greatest base (e ∷ first)) second in
+    let joined : greatest base ((e ∷ first) ++ second) ≡ greatest (greatest base (e ∷ first)) second =
+    fold-append further base (e ∷ first) second in
+    let more : greatest base (e ∷ first) ≤ greatest (greatest base (e ∷ first)) second =
+    greatest-le (greatest base (e ∷ first)) second in
     let some : base ≤ greatest base (e ∷ first) = greatest-le base (e ∷ first) in
-    by (greatest base (e ∷ first)) (greatest base ((e ∷ first) ++ second)) (subst (λ (g : ℕ). greatest base (e ∷ first) ≤ g) (sym joined) more) some
+    by (greatest base (e ∷ first)) (greatest base ((e ∷ first) ++ second))
+    (subst (λ (g : ℕ). greatest base (e ∷ first) ≤ g) (sym joined) more) some
   where
     by : (g h : ℕ) → g ≤ h → base ≤ g → (g + 1 - base) + ((h + 1 - base) - (g + 1 - base)) ≡ h + 1 - base
     by g h more some = omega arith
@@ -45,13 +49,15 @@ transit-fits transit ts units is = omega arith
 timed-even : (transit ts units : ℕ) → transit_of ts units ≡ transit → timed (even transit) ts units ≡ even transit
 timed-even transit ts units is =
     ap (λ (t : ℕ). record { transit = Some t; jitter = 0 + apart transit t - (0 + 8) / 16 }) is
-    ∙ ap (λ (d : ℕ). record { transit = Some transit; jitter = 0 + d - (0 + 8) / 16 }) (apart-same transit (transit-fits transit ts units is))
+    ∙ ap (λ (d : ℕ). record { transit = Some transit; jitter = 0 + d - (0 + 8) / 16 })
+    (apart-same transit (transit-fits transit ts units is))
 
 stays_even : (transit : ℕ) (arrived : List Arrived) → AreEven transit arrived
     → fold timing_after (even transit) (map (λ (a : Arrived). Arrival a.ts a.units) arrived) ≡ even transit
 stays_even transit [] h = refl
 stays_even transit (a ∷ arrived) (is, h) =
-    ap (λ (t : Timing). fold timing_after t (map (λ (b : Arrived). Arrival b.ts b.units) arrived)) (timed-even transit a.ts a.units is)
+    ap (λ (t : Timing). fold timing_after t (map (λ (b : Arrived). Arrival b.ts b.units) arrived))
+    (timed-even transit a.ts a.units is)
     ∙ stays_even transit arrived h
 
 pub steady : Steady

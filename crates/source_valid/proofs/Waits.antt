@@ -17,7 +17,8 @@ stays : (last n : ℕ) → ¬ (n ≡ following last) → after_number (Waiting l
 stays last n h = ap (λ (b : Bool). cond b (Valid (begun n)) (Waiting n)) (unequal n (following last) h)
 
 ends : (last : ℕ) → after_number (Waiting last) (following last) ≡ Valid (begun (following last))
-ends last = ap (λ (b : Bool). cond b (Valid (begun (following last))) (Waiting (following last))) (equal (following last))
+ends last =
+    ap (λ (b : Bool). cond b (Valid (begun (following last))) (Waiting (following last))) (equal (following last))
 
 waits : (last : ℕ) (ns : List ℕ) → NoneFollows last ns → fold after_number (Waiting last) ns ≡ Waiting (last_of last ns)
 waits last [] h = refl

@@ -27,7 +27,9 @@ dlsr_of (Some h) moment = min ((moment - h.moment) * 2 ^ 16 / 10 ^ 9) (2 ^ 32 - 
 
 -- of the packets since the last block, or the initialisation
 abbrev pub fraction_in : Stretch → ℕ
-fraction_in s = fraction_of (expected_of s.base s.accepted - expected_of s.base s.told) (received_of s.accepted - received_of s.told)
+fraction_in s =
+    fraction_of (expected_of s.base s.accepted - expected_of s.base s.told)
+    (received_of s.accepted - received_of s.told)
 
 -- the block of a source past probation
 abbrev pub block_of : Stretch → Timing → Option Heard → (ssrc moment : ℕ) → ReportBlock

@@ -1,7 +1,8 @@
 -- What a source answers.
 use Rattle.std.specs.Prelude.{◌≡◌, ℕ, List, [], ◌∷◌, ◌++◌, Option}
 use Rattle.source_valid.specs.declared.verdict.Verdict.{Verdict}
-use Rattle.source_valid.specs.Histories.{Step, Number, Standing, Unheard, Waiting, Valid, standing_of, timing_of, heard_of, verdict_of}
+use Rattle.source_valid.specs.Histories.{Step, Number, Standing, Unheard, Waiting, Valid, standing_of, timing_of}
+use Rattle.source_valid.specs.Histories.{heard_of, verdict_of}
 use Rattle.source_valid.specs.declared.timing.Timing.{Timing}
 use Rattle.source_valid.specs.declared.heard.Heard.{Heard}
 use Rattle.rtcp_codec.specs.declared.report.ReportBlock.{ReportBlock}
@@ -18,7 +19,8 @@ pub record Represents (k : Kept) (steps : List Step) : Type 0 where
 -- Whatever the old source was given, this is the verdict on one more number, and the new source was given it too.
 abbrev pub Judges : Kept → Kept → ℕ → Verdict → Type 0
 Judges old new n v =
-    (before : List Step) → Represents old before → (v ≡ verdict_of (standing_of before) n) × Represents new (before ++ Number n ∷ [])
+    (before : List Step) → Represents old before
+    → (v ≡ verdict_of (standing_of before) n) × Represents new (before ++ Number n ∷ [])
 
 -- Whatever the old source was given, the new one was given this step too.
 abbrev pub Adds : Kept → Kept → Step → Type 0
@@ -33,4 +35,5 @@ IsBlockOf (Valid s) timing heard ssrc moment b = b ≡ block_of s timing heard s
 -- Whatever the source was given, this is its block at the moment.
 abbrev pub Tells : Kept → (ssrc moment : ℕ) → ReportBlock → Type 0
 Tells k ssrc moment b =
-    (before : List Step) → Represents k before → IsBlockOf (standing_of before) (timing_of before) (heard_of before) ssrc moment b
+    (before : List Step) → Represents k before
+    → IsBlockOf (standing_of before) (timing_of before) (heard_of before) ssrc moment b

@@ -1,5 +1,6 @@
 -- A source past probation, since it was last initialised (RFC 3550 A.1; the extended number of a packet behind is own).
-use Rattle.std.specs.Prelude.{ℕ, ◌+◌, ◌-◌, ◌^◌, ◌%◌, Bool, false, if◌then◌else◌, nat_eq, nat_lt, nat_le, min, max, List, [], ◌∷◌, ◌++◌, Option, None, Some, fold, length, ℤ, pos, negsuc, ◌-ℤ◌}
+use Rattle.std.specs.Prelude.{ℕ, ◌+◌, ◌-◌, ◌^◌, ◌%◌, Bool, false, if◌then◌else◌, nat_eq, nat_lt, nat_le, min, max, List}
+use Rattle.std.specs.Prelude.{[], ◌∷◌, ◌++◌, Option, None, Some, fold, length, ℤ, pos, negsuc, ◌-ℤ◌}
 use Rattle.source_valid.specs.declared.verdict.Verdict.{Verdict}
 use Rattle.source_valid.specs.declared.verdict.Verdict.TheVariants.{Probation, Accepted, Jump, Restarted}
 

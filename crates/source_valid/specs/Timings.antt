@@ -16,7 +16,8 @@ apart t u = min ((u + (2 ^ 32 - t)) % 2 ^ 32) ((t + (2 ^ 32 - u)) % 2 ^ 32)
 
 -- the jitter (in sixteenths) after a transit time; the first one only is remembered (own)
 abbrev pub jitter_after : Timing → ℕ → ℕ
-jitter_after t transit = elim t.transit [ None ↦ t.jitter | Some before ↦ t.jitter + apart before transit - (t.jitter + 8) / 16 ]
+jitter_after t transit =
+    elim t.transit [ None ↦ t.jitter | Some before ↦ t.jitter + apart before transit - (t.jitter + 8) / 16 ]
 
 -- after an accepted packet's timestamp and arrival
 abbrev pub timed : Timing → ℕ → ℕ → Timing

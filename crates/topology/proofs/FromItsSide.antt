@@ -1,5 +1,6 @@
 -- The slots that chose a source, found from its side: by the subscriptions to it, and among those that are shown it.
-use Rattle.std.proofs.Common.{◌≡◌, ℕ, Bool, true, false, cond, not, ◌&&◌, ◌||◌, nat_eq, List, [], ◌∷◌, Option, None, Some, refl, sym, ap, ◌∙◌, arith, eqb-true}
+use Rattle.std.proofs.Common.{◌≡◌, ℕ, Bool, true, false, cond, not, ◌&&◌, ◌||◌, nat_eq, List, [], ◌∷◌, Option, None}
+use Rattle.std.proofs.Common.{Some, refl, sym, ap, ◌∙◌, arith, eqb-true}
 use Rattle.std.specs.Prelude.{filter, option_map, option_and_then}
 use Rattle.std.specs.Option.{is_some, is_none, option_or}
 use Rattle.std.specs.List.{AllByRecursion, filter_map, cons_option}
@@ -12,7 +13,8 @@ use Rattle.desk_rows.specs.declared.row.Sub.{Sub as SubRow}
 use Rattle.desk_rows.specs.laws.Equal.{number_itself}
 use Rattle.desk_rows.specs.Desk.{Desk, good}
 use Rattle.desk_rows.specs.Naming.{subs_naming}
-use Rattle.topology.specs.Looking.{member_at, slot_at, subscribed, is_muted, is_this, sender_of, room_of_member, has_address, comes_from}
+use Rattle.topology.specs.Looking.{member_at, slot_at, subscribed, is_muted, is_this, sender_of, room_of_member}
+use Rattle.topology.specs.Looking.{has_address, comes_from}
 use Rattle.topology.specs.Choice.{shown, shown_on, are_in_one_room, is_barred, unless_barred}
 use Rattle.topology.specs.Receivers.{slots_of, chooses}
 use Rattle.topology.specs.inner.Takers.{if_at, sender_from, unless_own, subscriber}
@@ -34,10 +36,13 @@ pub record IsHeardFrom (d : Desk) (source : ℕ) (address : Address) (sender : M
   pub there : member_at d sender.member ≡ Some sender
   pub comes : comes_from d source address ≡ true
 
-pub who_is_heard : (d : Desk) (source : ℕ) (address : Address) (sender : MemberRow) → sender_from d source address ≡ Some sender → IsHeardFrom d source address sender
+pub who_is_heard : (d : Desk) (source : ℕ) (address : Address) (sender : MemberRow)
+    → sender_from d source address ≡ Some sender → IsHeardFrom d source address sender
 who_is_heard d source address sender h = by (is_muted d source) (sender_of d source) refl refl h
   where
-    at_address : (n : ℕ) → is_muted d source ≡ false → sender_of d source ≡ Some n → (m : MemberRow) → member_at d n ≡ Some m → (b : Bool) → same_address m.address address ≡ b → cond b (Some m) None ≡ Some sender → IsHeardFrom d source address sender
+    at_address : (n : ℕ) → is_muted d source ≡ false → sender_of d source ≡ Some n → (m : MemberRow)
+        → member_at d n ≡ Some m → (b : Bool) → same_address m.address address ≡ b → cond b (Some m) None ≡ Some sender
+        → IsHeardFrom d source address sender
     at_address n quiet sends m there false e h = absurd (cc)
     at_address n quiet sends m there true e h =
         let is : m ≡ sender = cc in
@@ -46,22 +51,30 @@ who_is_heard d source address sender h = by (is_muted d source) (sender_of d sou
           quiet = quiet;
           sends = sends ∙ ap Some its;
           there = sym (ap (member_at d) its) ∙ there ∙ ap Some is;
-          comes = ap (λ o. has_address address (option_and_then (member_at d) o)) sends ∙ ap (has_address address) there ∙ e;
+          comes =
+              ap (λ o. has_address address (option_and_then (member_at d) o)) sends
+              ∙ ap (has_address address) there
+              ∙ e;
         }
 
-    found : (n : ℕ) → is_muted d source ≡ false → sender_of d source ≡ Some n → (o : Option MemberRow) → member_at d n ≡ o → option_and_then (if_at address) o ≡ Some sender → IsHeardFrom d source address sender
+    found : (n : ℕ) → is_muted d source ≡ false → sender_of d source ≡ Some n → (o : Option MemberRow)
+        → member_at d n ≡ o → option_and_then (if_at address) o ≡ Some sender → IsHeardFrom d source address sender
     found n quiet sends None there h = absurd (cc)
     found n quiet sends (Some m) there h = at_address n quiet sends m there (same_address m.address address) refl h
 
-    by : (b : Bool) (o : Option ℕ) → is_muted d source ≡ b → sender_of d source ≡ o → cond b None (option_and_then (if_at address) (option_and_then (member_at d) o)) ≡ Some sender → IsHeardFrom d source address sender
+    by : (b : Bool) (o : Option ℕ) → is_muted d source ≡ b → sender_of d source ≡ o
+        → cond b None (option_and_then (if_at address) (option_and_then (member_at d) o)) ≡ Some sender
+        → IsHeardFrom d source address sender
     by true o quiet sends h = absurd (cc)
     by false None quiet sends h = absurd (cc)
     by false (Some n) quiet sends h = found n quiet sends (member_at d n) refl h
 
 -- ---- what a slot chose
 
--- another source isn't chosen, nor is one of the slot's own member, where the slot is in one room with what it would get
-of_wanted : (d : Desk) (source : ℕ) (address : Address) (sender : MemberRow) → IsHeardFrom d source address sender → (x : SlotRow) (o : Option ℕ) → (o ≡ Some source → are_in_one_room d x source ≡ true)
+-- another source isn't chosen, nor is one of the slot's own member, where the slot is in one room with what it would
+-- get
+of_wanted : (d : Desk) (source : ℕ) (address : Address) (sender : MemberRow) → IsHeardFrom d source address sender
+    → (x : SlotRow) (o : Option ℕ) → (o ≡ Some source → are_in_one_room d x source ≡ true)
     → is_this source (option_and_then (unless_barred d x) o) ≡ (is_this source o && not (nat_eq x.member sender.member))
 of_wanted d source address sender h x None near = refl
 of_wanted d source address sender h x (Some n) near = by (nat_eq n source) refl
@@ -80,7 +93,8 @@ of_wanted d source address sender h x (Some n) near = by (nat_eq n source) refl
     same true = refl
     same false = number_itself source
 
-    by : (b : Bool) → nat_eq n source ≡ b → is_this source (cond (is_barred d x n) None (Some n)) ≡ (b && not (nat_eq x.member sender.member))
+    by : (b : Bool) → nat_eq n source ≡ b
+        → is_this source (cond (is_barred d x n) None (Some n)) ≡ (b && not (nat_eq x.member sender.member))
     by true e =
         ap (λ n. is_this source (cond (is_barred d x n) None (Some n))) (eqb-true n source e)
         ∙ ap (λ b. is_this source (cond b None (Some source))) (own (near (ap Some (eqb-true n source e))))
@@ -106,54 +120,87 @@ abbrev taking : ℕ → MemberRow → SubRow → SlotRow → Option SlotRow
 taking source sender y x = cond (nat_eq y.source source) (unless_own sender x) None
 
 -- what a function gives of what passes a test
-of_passing : {X Y : Type 0} (p : X → Bool) (f : X → Option Y) (xs : List X) → filter_map f (filter p xs) ≡ filter_map (λ x. cond (p x) (f x) None) xs
+of_passing : {X Y : Type 0} (p : X → Bool) (f : X → Option Y) (xs : List X)
+    → filter_map f (filter p xs) ≡ filter_map (λ x. cond (p x) (f x) None) xs
 of_passing p f [] = refl
-of_passing p f (x ∷ xs) = elim (p x) as (λ b. filter_map f (cond b (x ∷ filter p xs) (filter p xs)) ≡ cons_option (cond b (f x) None) (filter_map (λ x. cond (p x) (f x) None) xs)) [
-  | true ↦ ap (cons_option (f x)) (of_passing p f xs)
-  | false ↦ of_passing p f xs
-]
+of_passing p f (x ∷ xs) =
+    elim (p x) as (λ b.
+    filter_map f (cond b (x ∷ filter p xs) (filter p xs))
+    ≡ cons_option (cond b (f x) None) (filter_map (λ x. cond (p x) (f x) None) xs)) [
+      | true ↦ ap (cons_option (f x)) (of_passing p f xs)
+      | false ↦ of_passing p f xs
+    ]
 
-by_subs : (d : Desk) (source : ℕ) (sender : MemberRow) (ys : List SubRow) → filter_map (λ y. cond (nat_eq y.source source) (subscriber d sender y) None) ys ≡ joined slot_ssrc sub_ssrc (taking source sender) (slots_of d) ys
+by_subs : (d : Desk) (source : ℕ) (sender : MemberRow) (ys : List SubRow)
+    → filter_map (λ y. cond (nat_eq y.source source) (subscriber d sender y) None) ys
+    ≡ joined slot_ssrc sub_ssrc (taking source sender) (slots_of d) ys
 by_subs d source sender [] = refl
 by_subs d source sender (y ∷ ys) =
-    ap (λ o. cons_option (cond (nat_eq y.source source) (option_and_then (unless_own sender) o) None) (filter_map (λ y. cond (nat_eq y.source source) (subscriber d sender y) None) ys)) (slot_row d y.out_ssrc)
-    ∙ ap (λ o. cons_option o (filter_map (λ y. cond (nat_eq y.source source) (subscriber d sender y) None) ys)) (by (nat_eq y.source source) (at slot_ssrc y.out_ssrc (slots_of d)))
-    ∙ ap (cons_option (option_and_then (taking source sender y) (at slot_ssrc y.out_ssrc (slots_of d)))) (by_subs d source sender ys)
+    ap
+    (λ o.
+    cons_option (cond (nat_eq y.source source) (option_and_then (unless_own sender) o) None)
+    (filter_map (λ y. cond (nat_eq y.source source) (subscriber d sender y) None) ys))
+    (slot_row d y.out_ssrc)
+    ∙ ap (λ o. cons_option o (filter_map (λ y. cond (nat_eq y.source source) (subscriber d sender y) None) ys))
+    (by (nat_eq y.source source) (at slot_ssrc y.out_ssrc (slots_of d)))
+    ∙ ap (cons_option (option_and_then (taking source sender y) (at slot_ssrc y.out_ssrc (slots_of d))))
+    (by_subs d source sender ys)
   where
-    by : (b : Bool) (o : Option SlotRow) → cond b (option_and_then (unless_own sender) o) None ≡ option_and_then (λ x. cond b (unless_own sender x) None) o
+    by : (b : Bool) (o : Option SlotRow)
+        → cond b (option_and_then (unless_own sender) o) None
+        ≡ option_and_then (λ x. cond b (unless_own sender x) None) o
     by true None = refl
     by true (Some x) = refl
     by false None = refl
     by false (Some x) = refl
 
 -- a slot takes the source by its subscription where it has one and chose the source
-one_slot : (d : Desk) (source : ℕ) (address : Address) (sender : MemberRow) → good d ≡ true → IsHeardFrom d source address sender → (x : SlotRow) → slot_at d x.out_ssrc ≡ Some x
-    → option_and_then (λ y. taking source sender y x) (at sub_ssrc x.out_ssrc (subs_of d)) ≡ cond (has_sub d x && chooses d source x) (Some x) None
+one_slot : (d : Desk) (source : ℕ) (address : Address) (sender : MemberRow) → good d ≡ true
+    → IsHeardFrom d source address sender → (x : SlotRow) → slot_at d x.out_ssrc ≡ Some x
+    → option_and_then (λ y. taking source sender y x) (at sub_ssrc x.out_ssrc (subs_of d))
+    ≡ cond (has_sub d x && chooses d source x) (Some x) None
 one_slot d source address sender g h x found =
     by (at sub_ssrc x.out_ssrc (subs_of d)) refl
-    ∙ sym (ap (λ o. cond (is_some o && is_this source (option_and_then (unless_barred d x) (option_or o (shown_on d x)))) (Some x) None) (sub_row d x.out_ssrc))
+    ∙ sym (ap
+    (λ o.
+    cond (is_some o && is_this source (option_and_then (unless_barred d x) (option_or o (shown_on d x)))) (Some x) None)
+    (sub_row d x.out_ssrc))
   where
     tests : (b own : Bool) → cond b (cond own None (Some x)) None ≡ cond (b && not own) (Some x) None
     tests true true = refl
     tests true false = refl
     tests false own = refl
 
-    by : (o : Option SubRow) → at sub_ssrc x.out_ssrc (subs_of d) ≡ o → option_and_then (λ y. taking source sender y x) o
-        ≡ cond (is_some (option_map (λ (s : SubRow). s.source) o) && is_this source (option_and_then (unless_barred d x) (option_or (option_map (λ (s : SubRow). s.source) o) (shown_on d x)))) (Some x) None
+    by : (o : Option SubRow) → at sub_ssrc x.out_ssrc (subs_of d) ≡ o
+        → option_and_then (λ y. taking source sender y x) o
+        ≡ cond
+        (is_some (option_map (λ (s : SubRow). s.source) o)
+        && is_this source
+        (option_and_then (unless_barred d x) (option_or (option_map (λ (s : SubRow). s.source) o) (shown_on d x))))
+        (Some x) None
     by None is = refl
     by (Some y) is =
         tests (nat_eq y.source source) (nat_eq x.member sender.member)
-        ∙ sym (ap (λ b. cond b (Some x) None) (of_wanted d source address sender h x (Some y.source) (λ its. sub_in_one_room d source x g found (sub_row d x.out_ssrc ∙ ap (option_map (λ (s : SubRow). s.source)) is ∙ its))))
+        ∙ sym (ap (λ b. cond b (Some x) None) (of_wanted d source address sender h x (Some y.source)
+        (λ its.
+        sub_in_one_room d source x g found
+        (sub_row d x.out_ssrc ∙ ap (option_map (λ (s : SubRow). s.source)) is ∙ its))))
 
-by_slots : (d : Desk) (source : ℕ) (address : Address) (sender : MemberRow) → good d ≡ true → IsHeardFrom d source address sender → (xs : List SlotRow) → AllByRecursion (Found slot_ssrc (slots_of d)) xs
-    → joined sub_ssrc slot_ssrc (λ x y. taking source sender y x) (subs_of d) xs ≡ filter_map (λ x. cond (has_sub d x && chooses d source x) (Some x) None) xs
+by_slots : (d : Desk) (source : ℕ) (address : Address) (sender : MemberRow) → good d ≡ true
+    → IsHeardFrom d source address sender → (xs : List SlotRow) → AllByRecursion (Found slot_ssrc (slots_of d)) xs
+    → joined sub_ssrc slot_ssrc (λ x y. taking source sender y x) (subs_of d) xs
+    ≡ filter_map (λ x. cond (has_sub d x && chooses d source x) (Some x) None) xs
 by_slots d source address sender g h [] each = refl
 by_slots d source address sender g h (x ∷ xs) each =
-    ap (λ o. cons_option o (joined sub_ssrc slot_ssrc (λ x y. taking source sender y x) (subs_of d) xs)) (one_slot d source address sender g h x (slot_row d x.out_ssrc ∙ each.0))
-    ∙ ap (cons_option (cond (has_sub d x && chooses d source x) (Some x) None)) (by_slots d source address sender g h xs each.1)
+    ap (λ o. cons_option o (joined sub_ssrc slot_ssrc (λ x y. taking source sender y x) (subs_of d) xs))
+    (one_slot d source address sender g h x (slot_row d x.out_ssrc ∙ each.0))
+    ∙ ap (cons_option (cond (has_sub d x && chooses d source x) (Some x) None))
+    (by_slots d source address sender g h xs each.1)
 
-pub subscribers : (d : Desk) (source : ℕ) (address : Address) (sender : MemberRow) → good d ≡ true → IsHeardFrom d source address sender
-    → filter_map (subscriber d sender) (subs_naming d source) ≡ filter (has_sub d) (filter (chooses d source) (slots_of d))
+pub subscribers : (d : Desk) (source : ℕ) (address : Address) (sender : MemberRow) → good d ≡ true
+    → IsHeardFrom d source address sender
+    → filter_map (subscriber d sender) (subs_naming d source)
+    ≡ filter (has_sub d) (filter (chooses d source) (slots_of d))
 subscribers d source address sender g h =
     of_passing (λ y. nat_eq y.source source) (subscriber d sender) (subs_of d)
     ∙ by_subs d source sender (subs_of d)
@@ -171,7 +218,8 @@ is_viewer d sender s =
     && (is_this sender.room (room_of_member d s.member) && is_none (subscribed d s.out_ssrc))
 
 -- a slot is shown the source where it has no subscription and chose the source
-one_viewer : (d : Desk) (source : ℕ) (address : Address) (sender : MemberRow) → good d ≡ true → IsHeardFrom d source address sender → (x : SlotRow)
+one_viewer : (d : Desk) (source : ℕ) (address : Address) (sender : MemberRow) → good d ≡ true
+    → IsHeardFrom d source address sender → (x : SlotRow)
     → (is_this source (shown d sender.room) && is_viewer d sender x) ≡ (not (has_sub d x) && chooses d source x)
 one_viewer d source address sender g h x =
     by (subscribed d x.out_ssrc)
@@ -189,7 +237,9 @@ one_viewer d source address sender g h x =
     last_true a b true = refl
     last_true a b false = refl
 
-    in_room : (o : Option ℕ) → (is_this source (shown d sender.room) && (not (nat_eq x.member sender.member) && is_this sender.room o)) ≡ (is_this source (option_and_then (shown d) o) && not (nat_eq x.member sender.member))
+    in_room : (o : Option ℕ)
+        → (is_this source (shown d sender.room) && (not (nat_eq x.member sender.member) && is_this sender.room o))
+        ≡ (is_this source (option_and_then (shown d) o) && not (nat_eq x.member sender.member))
     in_room None = none (is_this source (shown d sender.room)) (not (nat_eq x.member sender.member))
     in_room (Some room) = told (nat_eq room sender.room) refl
       where
@@ -210,14 +260,23 @@ one_viewer d source address sender g h x =
             number_there None e = absurd (cc)
             number_there (Some n) e = ap Some (eqb-true n source e)
 
-        told : (b : Bool) → nat_eq room sender.room ≡ b → (is_this source (shown d sender.room) && (not (nat_eq x.member sender.member) && b)) ≡ (is_this source (shown d room) && not (nat_eq x.member sender.member))
-        told true e = swapped (is_this source (shown d sender.room)) (not (nat_eq x.member sender.member)) ∙ sym (ap (λ r. is_this source (shown d r) && not (nat_eq x.member sender.member)) (eqb-true room sender.room e))
+        told : (b : Bool) → nat_eq room sender.room ≡ b
+            → (is_this source (shown d sender.room) && (not (nat_eq x.member sender.member) && b))
+            ≡ (is_this source (shown d room) && not (nat_eq x.member sender.member))
+        told true e =
+            swapped (is_this source (shown d sender.room)) (not (nat_eq x.member sender.member))
+            ∙ sym
+            (ap (λ r. is_this source (shown d r) && not (nat_eq x.member sender.member)) (eqb-true room sender.room e))
         told false e =
             none (is_this source (shown d sender.room)) (not (nat_eq x.member sender.member))
-            ∙ sym (ap (λ b. b && not (nat_eq x.member sender.member)) (elsewhere e (is_this source (shown d room)) refl))
+            ∙ sym
+            (ap (λ b. b && not (nat_eq x.member sender.member)) (elsewhere e (is_this source (shown d room)) refl))
 
-    at_index : (b : Bool) → (is_this source (shown d sender.room) && ((b && not (nat_eq x.member sender.member)) && is_this sender.room (room_of_member d x.member)))
-        ≡ (is_this source (cond b (option_and_then (shown d) (room_of_member d x.member)) None) && not (nat_eq x.member sender.member))
+    at_index : (b : Bool)
+        → (is_this source (shown d sender.room)
+        && ((b && not (nat_eq x.member sender.member)) && is_this sender.room (room_of_member d x.member)))
+        ≡ (is_this source (cond b (option_and_then (shown d) (room_of_member d x.member)) None)
+        && not (nat_eq x.member sender.member))
     at_index true = in_room (room_of_member d x.member)
     at_index false = never (is_this source (shown d sender.room))
       where
@@ -225,16 +284,26 @@ one_viewer d source address sender g h x =
         never true = refl
         never false = refl
 
-    by : (o : Option ℕ) → (is_this source (shown d sender.room) && ((nat_eq x.index 0 && not (nat_eq x.member sender.member)) && (is_this sender.room (room_of_member d x.member) && is_none o)))
+    by : (o : Option ℕ)
+        → (is_this source (shown d sender.room)
+        && ((nat_eq x.index 0 && not (nat_eq x.member sender.member))
+        && (is_this sender.room (room_of_member d x.member) && is_none o)))
         ≡ (not (is_some o) && is_this source (option_and_then (unless_barred d x) (option_or o (shown_on d x))))
-    by (Some n) = last_none (is_this source (shown d sender.room)) (nat_eq x.index 0 && not (nat_eq x.member sender.member)) (is_this sender.room (room_of_member d x.member))
+    by (Some n) =
+        last_none (is_this source (shown d sender.room)) (nat_eq x.index 0 && not (nat_eq x.member sender.member))
+        (is_this sender.room (room_of_member d x.member))
     by None =
-        last_true (is_this source (shown d sender.room)) (nat_eq x.index 0 && not (nat_eq x.member sender.member)) (is_this sender.room (room_of_member d x.member))
-        ∙ at_index (nat_eq x.index 0) ∙ sym (of_wanted d source address sender h x (shown_on d x) (shown_in_one_room d source x g))
+        last_true (is_this source (shown d sender.room)) (nat_eq x.index 0 && not (nat_eq x.member sender.member))
+        (is_this sender.room (room_of_member d x.member))
+        ∙ at_index (nat_eq x.index 0)
+        ∙ sym (of_wanted d source address sender h x (shown_on d x) (shown_in_one_room d source x g))
 
 -- the slots that are shown the source
-pub shown_slots : (d : Desk) (source : ℕ) (address : Address) (sender : MemberRow) → good d ≡ true → IsHeardFrom d source address sender
-    → filter (λ x. is_this source (shown d sender.room) && is_viewer d sender x) (slots_of d) ≡ filter (λ s. not (has_sub d s)) (filter (chooses d source) (slots_of d))
+pub shown_slots : (d : Desk) (source : ℕ) (address : Address) (sender : MemberRow) → good d ≡ true
+    → IsHeardFrom d source address sender
+    → filter (λ x. is_this source (shown d sender.room) && is_viewer d sender x) (slots_of d)
+    ≡ filter (λ s. not (has_sub d s)) (filter (chooses d source) (slots_of d))
 shown_slots d source address sender g h =
-    filter-same (λ x. is_this source (shown d sender.room) && is_viewer d sender x) (λ x. not (has_sub d x) && chooses d source x) (one_viewer d source address sender g h) (slots_of d)
+    filter-same (λ x. is_this source (shown d sender.room) && is_viewer d sender x)
+    (λ x. not (has_sub d x) && chooses d source x) (one_viewer d source address sender g h) (slots_of d)
     ∙ filter-and (λ s. not (has_sub d s)) (chooses d source) (slots_of d)

@@ -1,5 +1,6 @@
 -- The sources that may be heard, seated at their members' places, are those of the members in their order.
-use Rattle.std.proofs.Common.{◌≡◌, ℕ, ◌<◌, Bool, true, false, cond, not, ◌&&◌, nat_eq, List, [], ◌∷◌, ◌++◌, map, length, Option, None, Some, refl, sym, ap, subst, ◌∙◌}
+use Rattle.std.proofs.Common.{◌≡◌, ℕ, ◌<◌, Bool, true, false, cond, not, ◌&&◌, nat_eq, List, [], ◌∷◌, ◌++◌, map, length}
+use Rattle.std.proofs.Common.{Option, None, Some, refl, sym, ap, subst, ◌∙◌}
 use Rattle.std.specs.Prelude.{filter, option_and_then}
 use Rattle.std.specs.Option.{is_some}
 use Rattle.std.specs.List.{All, find, filter_map, cons_option, flat_map}
@@ -28,11 +29,13 @@ use Rattle.topology.proofs.Parted.{filter-and}
 use Rattle.topology.proofs.Seats.{seats_within, seated_in_order}
 
 -- what is found among those that pass another test too
-pub found_among : (p q : Row → Bool) → ((r : Row) → p r ≡ true → q r ≡ true) → (rs : List Row) → find p (filter q rs) ≡ find p rs
+pub found_among : (p q : Row → Bool) → ((r : Row) → p r ≡ true → q r ≡ true) → (rs : List Row)
+    → find p (filter q rs) ≡ find p rs
 found_among p q passes [] = refl
 found_among p q passes (r ∷ rs) = by (p r) refl (q r) refl (found_among p q passes rs)
   where
-    by : (a : Bool) → p r ≡ a → (b : Bool) → q r ≡ b → find p (filter q rs) ≡ find p rs → find p (cond b (r ∷ filter q rs) (filter q rs)) ≡ cond a (Some r) (find p rs)
+    by : (a : Bool) → p r ≡ a → (b : Bool) → q r ≡ b → find p (filter q rs) ≡ find p rs
+        → find p (cond b (r ∷ filter q rs) (filter q rs)) ≡ cond a (Some r) (find p rs)
     by true e true f rest = ap (λ a. cond a (Some r) (find p (filter q rs))) e
     by true e false f rest = absurd (let bad : true ≡ false = sym (passes r e) ∙ f in cc)
     by false e true f rest = ap (λ a. cond a (Some r) (find p (filter q rs))) e ∙ rest
@@ -63,7 +66,9 @@ abbrev pub mutes_of : Desk → List Row
 mutes_of d = filter (is_of kinds.Mute) d.others
 
 told_by_mutes : (d : Desk) (k : ℕ) → is_muted_in (mutes_of d) k ≡ is_muted d k
-told_by_mutes d k = ap is_some (found_among (has_key (keys.Mute k)) (is_of kinds.Mute) (mute_kind k) d.others ∙ sym (behind_members (has_key (keys.Mute k)) (λ m. refl) d.members d.others))
+told_by_mutes d k =
+    ap is_some (found_among (has_key (keys.Mute k)) (is_of kinds.Mute) (mute_kind k) d.others
+    ∙ sym (behind_members (has_key (keys.Mute k)) (λ m. refl) d.members d.others))
 
 -- the seat of a source that may be heard
 abbrev heard_seat : Desk → SourceRow → Option (Seated AudioSource)
@@ -71,20 +76,28 @@ heard_seat d s = cond (same_media s.media Audio) (unmuted_seat d (mutes_of d) s)
 
 seat_heard : (d : Desk) (s : SourceRow) → heard_seat d s ≡ cond (is_heard d s) (seat sender audio_source d s) None
 seat_heard d s =
-    ap (λ b. cond (same_media s.media Audio) (cond b None (seat sender audio_source d s)) None) (told_by_mutes d s.ssrc) ∙ by (same_media s.media Audio) (is_muted d s.ssrc)
+    ap (λ b. cond (same_media s.media Audio) (cond b None (seat sender audio_source d s)) None) (told_by_mutes d s.ssrc)
+    ∙ by (same_media s.media Audio) (is_muted d s.ssrc)
   where
-    by : (a b : Bool) → cond a (cond b None (seat sender audio_source d s)) None ≡ cond (a && not b) (seat sender audio_source d s) None
+    by : (a b : Bool)
+        → cond a (cond b None (seat sender audio_source d s)) None
+        ≡ cond (a && not b) (seat sender audio_source d s) None
     by true true = refl
     by true false = refl
     by false b = refl
 
 -- what f gives of those that pass
-passing : {X Y : Type 0} (p : X → Bool) (f g : X → Option Y) → ((x : X) → g x ≡ cond (p x) (f x) None) → (xs : List X) → filter_map g xs ≡ filter_map f (filter p xs)
+passing : {X Y : Type 0} (p : X → Bool) (f g : X → Option Y) → ((x : X) → g x ≡ cond (p x) (f x) None) → (xs : List X)
+    → filter_map g xs ≡ filter_map f (filter p xs)
 passing p f g same [] = refl
 passing p f g same (x ∷ xs) =
-    ap (λ o. cons_option o (filter_map g xs)) (same x) ∙ ap (cons_option (cond (p x) (f x) None)) (passing p f g same xs) ∙ by (p x)
+    ap (λ o. cons_option o (filter_map g xs)) (same x)
+    ∙ ap (cons_option (cond (p x) (f x) None)) (passing p f g same xs)
+    ∙ by (p x)
   where
-    by : (b : Bool) → cons_option (cond b (f x) None) (filter_map f (filter p xs)) ≡ filter_map f (cond b (x ∷ filter p xs) (filter p xs))
+    by : (b : Bool)
+        → cons_option (cond b (f x) None) (filter_map f (filter p xs))
+        ≡ filter_map f (cond b (x ∷ filter p xs) (filter p xs))
     by true = refl
     by false = refl
 
@@ -92,27 +105,43 @@ passing p f g same (x ∷ xs) =
 of_row : (d : Desk) (r : Row) (s : SourceRow) → source_in r ≡ Some s → audible_seat d (mutes_of d) r ≡ heard_seat d s
 of_row d r s e = ap (audible_seat d (mutes_of d)) (its_source r s e) ∙ by (same_media s.media Audio)
   where
-    by : (b : Bool) → option_and_then (unmuted_seat d (mutes_of d)) (cond b (Some s) None) ≡ cond b (unmuted_seat d (mutes_of d) s) None
+    by : (b : Bool)
+        → option_and_then (unmuted_seat d (mutes_of d)) (cond b (Some s) None)
+        ≡ cond b (unmuted_seat d (mutes_of d) s) None
     by true = refl
     by false = refl
 
-seats_heard : (d : Desk) → filter_map (audible_seat d (mutes_of d)) (filter (is_of kinds.Source) d.others) ≡ filter_map (seat sender audio_source d) (filter (is_heard d) (sources_of d))
+seats_heard : (d : Desk)
+    → filter_map (audible_seat d (mutes_of d)) (filter (is_of kinds.Source) d.others)
+    ≡ filter_map (seat sender audio_source d) (filter (is_heard d) (sources_of d))
 seats_heard d =
     of_kind source_in (is_of kinds.Source) (audible_seat d (mutes_of d)) (heard_seat d) is_source (of_row d) d.others
     ∙ passing (is_heard d) (seat sender audio_source d) (heard_seat d) (seat_heard d) (sources_of d)
 
 -- member by member
-of_members : (d : Desk) (ms : List MemberRow) → by_members sender audio_source ms (filter (is_heard d) (sources_of d)) ≡ flat_map (λ m. map (audio_source m) (filter (is_audible d m) (sources_of d))) ms
+of_members : (d : Desk) (ms : List MemberRow)
+    → by_members sender audio_source ms (filter (is_heard d) (sources_of d))
+    ≡ flat_map (λ m. map (audio_source m) (filter (is_audible d m) (sources_of d))) ms
 of_members d [] = refl
 of_members d (m ∷ ms) =
-    ap (λ ss. map (audio_source m) ss ++ by_members sender audio_source ms (filter (is_heard d) (sources_of d))) (sym (filter-and (λ (s : SourceRow). nat_eq s.member m.member) (is_heard d) (sources_of d)))
+    ap (λ ss. map (audio_source m) ss ++ by_members sender audio_source ms (filter (is_heard d) (sources_of d)))
+    (sym (filter-and (λ (s : SourceRow). nat_eq s.member m.member) (is_heard d) (sources_of d)))
     ∙ ap (λ zs. map (audio_source m) (filter (is_audible d m) (sources_of d)) ++ zs) (of_members d ms)
 
-pub all_heard : (d : Desk) → good d ≡ true → by_places (length d.members) (filter_map (audible_seat d (mutes_of d)) (filter (is_of kinds.Source) d.others)) ≡ audio_sources d
-all_heard d g = ap (by_places (length d.members)) (seats_heard d) ∙ seated_in_order sender audio_source d (filter (is_heard d) (sources_of d)) g ∙ of_members d d.members
+pub all_heard : (d : Desk) → good d ≡ true
+    → by_places (length d.members) (filter_map (audible_seat d (mutes_of d)) (filter (is_of kinds.Source) d.others))
+    ≡ audio_sources d
+all_heard d g =
+    ap (by_places (length d.members)) (seats_heard d)
+    ∙ seated_in_order sender audio_source d (filter (is_heard d) (sources_of d)) g
+    ∙ of_members d d.members
 
-pub heard_within : (d : Desk) → All (λ t. t.place < length d.members) (filter_map (audible_seat d (mutes_of d)) (filter (is_of kinds.Source) d.others))
-heard_within d = subst (All (λ (t : Seated AudioSource). t.place < length d.members)) (sym (seats_heard d)) (seats_within sender audio_source d (filter (is_heard d) (sources_of d)))
+pub heard_within : (d : Desk)
+    → All (λ t. t.place < length d.members)
+    (filter_map (audible_seat d (mutes_of d)) (filter (is_of kinds.Source) d.others))
+heard_within d =
+    subst (All (λ (t : Seated AudioSource). t.place < length d.members)) (sym (seats_heard d))
+    (seats_within sender audio_source d (filter (is_heard d) (sources_of d)))
 
 pub mutes_order : (d : Desk) → good d ≡ true → in_order (mutes_of d) ≡ true
 mutes_order d g = in_order-filter (is_of kinds.Mute) d.others (good_order d g)

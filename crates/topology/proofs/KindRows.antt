@@ -1,5 +1,6 @@
 -- What is in the rows of one kind, found and listed.
-use Rattle.std.proofs.Common.{◌≡◌, ℕ, Bool, true, false, cond, not, nat_eq, List, [], ◌∷◌, ◌++◌, map, Option, None, Some, refl, sym, ap, ◌∙◌}
+use Rattle.std.proofs.Common.{◌≡◌, ℕ, Bool, true, false, cond, not, nat_eq, List, [], ◌∷◌, ◌++◌, map, Option, None}
+use Rattle.std.proofs.Common.{Some, refl, sym, ap, ◌∙◌}
 use Rattle.std.specs.Prelude.{filter, option_map, option_and_then}
 use Rattle.std.specs.Option.{is_some}
 use Rattle.std.specs.List.{find, filter_map, cons_option, list_all}
@@ -45,7 +46,9 @@ passes q None = false
 passes q (Some x) = q x
 
 -- the part of the row that is found is the part that is found
-found_part : {X : Type 0} (part : Row → Option X) (p : Row → Bool) (q : X → Bool) → ((r : Row) → p r ≡ passes q (part r)) → (rs : List Row) → option_and_then part (find p rs) ≡ find q (filter_map part rs)
+found_part : {X : Type 0} (part : Row → Option X) (p : Row → Bool) (q : X → Bool)
+    → ((r : Row) → p r ≡ passes q (part r)) → (rs : List Row)
+    → option_and_then part (find p rs) ≡ find q (filter_map part rs)
 found_part part p q same [] = refl
 found_part part p q same (r ∷ rs) = by (part r) refl (found_part part p q same rs)
   where
@@ -54,31 +57,41 @@ found_part part p q same (r ∷ rs) = by (part r) refl (found_part part p q same
     by None e rest = ap (λ b. option_and_then part (cond b (Some r) (find p rs))) (same r ∙ ap (passes q) e) ∙ rest
     by (Some x) e rest =
         ap (λ b. option_and_then part (cond b (Some r) (find p rs))) (same r ∙ ap (passes q) e)
-        ∙ elim (q x) as (λ b. option_and_then part (cond b (Some r) (find p rs)) ≡ cond b (Some x) (find q (filter_map part rs))) [ true ↦ e | false ↦ rest ]
+        ∙ elim (q x)
+        as (λ b. option_and_then part (cond b (Some r) (find p rs)) ≡ cond b (Some x) (find q (filter_map part rs)))
+        [ true ↦ e | false ↦ rest ]
 
 -- a row that is no member's is found behind them
-pub behind_members : (p : Row → Bool) → ((m : MemberRow) → p (Member m) ≡ false) → (ms : List MemberRow) (rs : List Row) → find p (map Member ms ++ rs) ≡ find p rs
+pub behind_members : (p : Row → Bool) → ((m : MemberRow) → p (Member m) ≡ false) → (ms : List MemberRow) (rs : List Row)
+    → find p (map Member ms ++ rs) ≡ find p rs
 behind_members p none [] rs = refl
-behind_members p none (m ∷ ms) rs = ap (λ b. cond b (Some (Member m)) (find p (map Member ms ++ rs))) (none m) ∙ behind_members p none ms rs
+behind_members p none (m ∷ ms) rs =
+    ap (λ b. cond b (Some (Member m)) (find p (map Member ms ++ rs))) (none m) ∙ behind_members p none ms rs
 
 -- what f gives of the rows of a kind is what g gives of their parts
-pub of_kind : {X Y : Type 0} (part : Row → Option X) (keep : Row → Bool) (f : Row → Option Y) (g : X → Option Y) → ((r : Row) → keep r ≡ is_some (part r)) → ((r : Row) (x : X) → part r ≡ Some x → f r ≡ g x) → (rs : List Row)
+pub of_kind : {X Y : Type 0} (part : Row → Option X) (keep : Row → Bool) (f : Row → Option Y) (g : X → Option Y)
+    → ((r : Row) → keep r ≡ is_some (part r)) → ((r : Row) (x : X) → part r ≡ Some x → f r ≡ g x) → (rs : List Row)
     → filter_map f (filter keep rs) ≡ filter_map g (filter_map part rs)
 of_kind part keep f g kept same [] = refl
 of_kind part keep f g kept same (r ∷ rs) = by (part r) refl (of_kind part keep f g kept same rs)
   where
-    by : (o : Option _) → part r ≡ o → filter_map f (filter keep rs) ≡ filter_map g (filter_map part rs) → filter_map f (cond (keep r) (r ∷ filter keep rs) (filter keep rs)) ≡ filter_map g (cons_option o (filter_map part rs))
-    by None e rest = ap (λ b. filter_map f (cond b (r ∷ filter keep rs) (filter keep rs))) (kept r ∙ ap is_some e) ∙ rest
+    by : (o : Option _) → part r ≡ o → filter_map f (filter keep rs) ≡ filter_map g (filter_map part rs)
+        → filter_map f (cond (keep r) (r ∷ filter keep rs) (filter keep rs))
+        ≡ filter_map g (cons_option o (filter_map part rs))
+    by None e rest =
+        ap (λ b. filter_map f (cond b (r ∷ filter keep rs) (filter keep rs))) (kept r ∙ ap is_some e) ∙ rest
     by (Some x) e rest =
         ap (λ b. filter_map f (cond b (r ∷ filter keep rs) (filter keep rs))) (kept r ∙ ap is_some e)
         ∙ ap (λ o. cons_option o (filter_map f (filter keep rs))) (same r x e)
         ∙ ap (cons_option (g x)) rest
 
 -- rows without a part
-no_parts : {X : Type 0} (part : Row → Option X) (p : Row → Bool) → ((r : Row) → p r ≡ is_some (part r)) → (rs : List Row) → list_all (λ r. not (p r)) rs ≡ true → filter_map part rs ≡ []
+no_parts : {X : Type 0} (part : Row → Option X) (p : Row → Bool) → ((r : Row) → p r ≡ is_some (part r))
+    → (rs : List Row) → list_all (λ r. not (p r)) rs ≡ true → filter_map part rs ≡ []
 no_parts part p same [] h = refl
 no_parts part p same (r ∷ rs) h =
-    let both = and_parts (not (p r)) (list_all (λ r. not (p r)) rs) h in by (part r) refl both.0 ∙ no_parts part p same rs both.1
+    let both = and_parts (not (p r)) (list_all (λ r. not (p r)) rs) h in
+    by (part r) refl both.0 ∙ no_parts part p same rs both.1
   where
     by : (o : Option _) → part r ≡ o → not (p r) ≡ true → cons_option o (filter_map part rs) ≡ filter_map part rs
     by None e n = refl
@@ -178,27 +191,33 @@ slot_row d k =
 
 pub sub_row : (d : Desk) (k : ℕ) → subscribed d k ≡ option_map (λ (s : SubRow). s.source) (at sub_ssrc k (subs_of d))
 sub_row d k =
-    ap (λ o. option_map (λ (s : SubRow). s.source) (option_and_then sub_in o)) (behind_members (has_key (keys.Sub k)) (λ m. refl) d.members d.others)
-    ∙ ap (option_map (λ (s : SubRow). s.source)) (found_part sub_in (has_key (keys.Sub k)) (λ (s : SubRow). nat_eq s.out_ssrc k) (sub_key k) d.others)
+    ap (λ o. option_map (λ (s : SubRow). s.source) (option_and_then sub_in o))
+    (behind_members (has_key (keys.Sub k)) (λ m. refl) d.members d.others)
+    ∙ ap (option_map (λ (s : SubRow). s.source))
+    (found_part sub_in (has_key (keys.Sub k)) (λ (s : SubRow). nat_eq s.out_ssrc k) (sub_key k) d.others)
 
 -- members in the list of them, where no other row is a member's
-found_member : (k : ℕ) (ms : List MemberRow) (rs : List Row) → list_all (λ r. not (is_of kinds.Member r)) rs ≡ true → option_and_then member_in (find (has_key (keys.Member k)) (map Member ms ++ rs)) ≡ at number k ms
+found_member : (k : ℕ) (ms : List MemberRow) (rs : List Row) → list_all (λ r. not (is_of kinds.Member r)) rs ≡ true
+    → option_and_then member_in (find (has_key (keys.Member k)) (map Member ms ++ rs)) ≡ at number k ms
 found_member k [] rs h =
     found_part member_in (has_key (keys.Member k)) (λ (m : MemberRow). nat_eq m.member k) (member_key k) rs
     ∙ ap (find (λ (m : MemberRow). nat_eq m.member k)) (no_parts member_in (is_of kinds.Member) is_member rs h)
 found_member k (m ∷ ms) rs h = by (nat_eq m.member k) (found_member k ms rs h)
   where
     by : (b : Bool) → option_and_then member_in (find (has_key (keys.Member k)) (map Member ms ++ rs)) ≡ at number k ms
-        → option_and_then member_in (cond b (Some (Member m)) (find (has_key (keys.Member k)) (map Member ms ++ rs))) ≡ cond b (Some m) (at number k ms)
+        → option_and_then member_in (cond b (Some (Member m)) (find (has_key (keys.Member k)) (map Member ms ++ rs)))
+        ≡ cond b (Some m) (at number k ms)
     by true later = refl
     by false later = later
 
-pub member_row : (d : Desk) (k : ℕ) → list_all (λ r. not (is_of kinds.Member r)) d.others ≡ true → member_at d k ≡ at number k d.members
+pub member_row : (d : Desk) (k : ℕ) → list_all (λ r. not (is_of kinds.Member r)) d.others ≡ true
+    → member_at d k ≡ at number k d.members
 member_row d k h = found_member k d.members d.others h
 
 -- sources are listed from their rows
 pub source_rows : (d : Desk) → filter_map source_in (filter (is_of kinds.Source) d.others) ≡ sources_of d
-source_rows d = of_kind source_in (is_of kinds.Source) source_in Some is_source (λ r x e. e) d.others ∙ all_some (sources_of d)
+source_rows d =
+    of_kind source_in (is_of kinds.Source) source_in Some is_source (λ r x e. e) d.others ∙ all_some (sources_of d)
   where
     all_some : {X : Type 0} (xs : List X) → filter_map Some xs ≡ xs
     all_some [] = refl

@@ -32,21 +32,28 @@ own_gain member source (Floor r) e = absurd (cc)
 pub own_order : (d : Desk) (member : ℕ) → good d ≡ true → in_order (gains_naming d member) ≡ true
 own_order d member g = in_order-filter (is_gain_of member) d.others (good_order d g)
 
-pub told_by_own : (d : Desk) (member source : ℕ) → gain_among (gains_naming d member) member source ≡ gain_of d member source
+pub told_by_own : (d : Desk) (member source : ℕ)
+    → gain_among (gains_naming d member) member source ≡ gain_of d member source
 told_by_own d member source =
-    ap gain_in (found_among (has_key (keys.Gain member source)) (is_gain_of member) (own_gain member source) d.others ∙ sym (behind_members (has_key (keys.Gain member source)) (λ m. refl) d.members d.others))
+    ap gain_in (found_among (has_key (keys.Gain member source)) (is_gain_of member) (own_gain member source) d.others
+    ∙ sym (behind_members (has_key (keys.Gain member source)) (λ m. refl) d.members d.others))
 
-pub each_by_own : (d : Desk) (member : ℕ) (own : List Row) → own ≡ gains_naming d member → (ss : List AudioSource) → map (λ s. gain_among own member s.ssrc) ss ≡ map (λ s. gain_of d member s.ssrc) ss
+pub each_by_own : (d : Desk) (member : ℕ) (own : List Row) → own ≡ gains_naming d member → (ss : List AudioSource)
+    → map (λ s. gain_among own member s.ssrc) ss ≡ map (λ s. gain_of d member s.ssrc) ss
 each_by_own d member own e [] = refl
-each_by_own d member own e (s ∷ ss) = λ i. (ap (λ rs. gain_among rs member s.ssrc) e ∙ told_by_own d member s.ssrc) i ∷ each_by_own d member own e ss i
+each_by_own d member own e (s ∷ ss) = λ i.
+    (ap (λ rs. gain_among rs member s.ssrc) e ∙ told_by_own d member s.ssrc) i ∷ each_by_own d member own e ss i
 
 pub is_nothing : {X : Type 0} (xs : List X) → nat_eq (length xs) 0 ≡ true → xs ≡ []
 is_nothing [] h = refl
 is_nothing (x ∷ xs) h = absurd (grind (arith, nat_tests, h))
 
 -- without rows all are full
-pub all_full : (d : Desk) (member : ℕ) (own : List Row) → own ≡ gains_naming d member → own ≡ [] → (n : ℕ) (ss : List AudioSource) → n ≡ length ss → replicate n full_gain ≡ map (λ s. gain_of d member s.ssrc) ss
+pub all_full : (d : Desk) (member : ℕ) (own : List Row) → own ≡ gains_naming d member → own ≡ []
+    → (n : ℕ) (ss : List AudioSource) → n ≡ length ss → replicate n full_gain ≡ map (λ s. gain_of d member s.ssrc) ss
 all_full d member own e none n [] h = ap (λ n. replicate n full_gain) h
 all_full d member own e none n (s ∷ ss) h =
     ap (λ n. replicate n full_gain) h
-    ∙ (λ i. (ap (λ rs. gain_among rs member s.ssrc) (sym none ∙ e) ∙ told_by_own d member s.ssrc) i ∷ all_full d member own e none (length ss) ss refl i)
+    ∙ (λ i.
+    (ap (λ rs. gain_among rs member s.ssrc) (sym none ∙ e) ∙ told_by_own d member s.ssrc) i
+    ∷ all_full d member own e none (length ss) ss refl i)

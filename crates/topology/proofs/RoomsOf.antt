@@ -1,5 +1,6 @@
 -- The rooms of rows that are found.
-use Rattle.std.proofs.Common.{◌≡◌, ℕ, Bool, true, false, cond, List, [], ◌∷◌, Option, None, Some, refl, sym, ap, ◌∙◌, eqb-true}
+use Rattle.std.proofs.Common.{◌≡◌, ℕ, Bool, true, false, cond, List, [], ◌∷◌, Option, None, Some, refl, sym, ap, ◌∙◌}
+use Rattle.std.proofs.Common.{eqb-true}
 use Rattle.std.specs.Prelude.{option_map, option_and_then}
 use Rattle.std.specs.List.{find}
 use Rattle.desk_rows.specs.declared.row.Row.{Row}
@@ -40,10 +41,13 @@ room_inside (Some (Pin r)) = refl
 room_inside (Some (Floor r)) = refl
 
 -- a source's room is its member's
-pub room_at_source : (d : Desk) (n : ℕ) → room_at d (keys.Source n) ≡ option_and_then (λ (s : SourceRow). room_of_member d s.member) (source_at d n)
+pub room_at_source : (d : Desk) (n : ℕ)
+    → room_at d (keys.Source n) ≡ option_and_then (λ (s : SourceRow). room_of_member d s.member) (source_at d n)
 room_at_source d n = by (row_at d (keys.Source n)) (its_key d (keys.Source n))
   where
-    by : (o : Option Row) → ((r : Row) → o ≡ Some r → has_key (keys.Source n) r ≡ true) → room_of_found d o ≡ option_and_then (λ (s : SourceRow). room_of_member d s.member) (option_and_then source_in o)
+    by : (o : Option Row) → ((r : Row) → o ≡ Some r → has_key (keys.Source n) r ≡ true)
+        → room_of_found d o
+        ≡ option_and_then (λ (s : SourceRow). room_of_member d s.member) (option_and_then source_in o)
     by None key = refl
     by (Some (Source s)) key = room_inside (row_at d (keys.Member s.member))
     by (Some (Room r)) key = absurd (let e = key (Room r) refl in cc)
@@ -56,10 +60,12 @@ room_at_source d n = by (row_at d (keys.Source n)) (its_key d (keys.Source n))
     by (Some (Floor r)) key = absurd (let e = key (Floor r) refl in cc)
 
 -- a slot's room is its member's
-pub room_at_slot : (d : Desk) (n : ℕ) → room_at d (keys.Slot n) ≡ option_and_then (λ (s : SlotRow). room_of_member d s.member) (slot_at d n)
+pub room_at_slot : (d : Desk) (n : ℕ)
+    → room_at d (keys.Slot n) ≡ option_and_then (λ (s : SlotRow). room_of_member d s.member) (slot_at d n)
 room_at_slot d n = by (row_at d (keys.Slot n)) (its_key d (keys.Slot n))
   where
-    by : (o : Option Row) → ((r : Row) → o ≡ Some r → has_key (keys.Slot n) r ≡ true) → room_of_found d o ≡ option_and_then (λ (s : SlotRow). room_of_member d s.member) (option_and_then slot_in o)
+    by : (o : Option Row) → ((r : Row) → o ≡ Some r → has_key (keys.Slot n) r ≡ true)
+        → room_of_found d o ≡ option_and_then (λ (s : SlotRow). room_of_member d s.member) (option_and_then slot_in o)
     by None key = refl
     by (Some (Slot s)) key = room_inside (row_at d (keys.Member s.member))
     by (Some (Room r)) key = absurd (let e = key (Room r) refl in cc)
@@ -74,7 +80,8 @@ room_at_slot d n = by (row_at d (keys.Slot n)) (its_key d (keys.Slot n))
 pub room_at_member : (d : Desk) (n : ℕ) → room_at d (keys.Member n) ≡ room_of_member d n
 room_at_member d n = by (row_at d (keys.Member n)) (its_key d (keys.Member n))
   where
-    by : (o : Option Row) → ((r : Row) → o ≡ Some r → has_key (keys.Member n) r ≡ true) → room_of_found d o ≡ option_map (λ m. m.room) (option_and_then member_in o)
+    by : (o : Option Row) → ((r : Row) → o ≡ Some r → has_key (keys.Member n) r ≡ true)
+        → room_of_found d o ≡ option_map (λ m. m.room) (option_and_then member_in o)
     by None key = refl
     by (Some (Member m)) key = refl
     by (Some (Room r)) key = absurd (let e = key (Room r) refl in cc)
@@ -90,7 +97,8 @@ room_at_member d n = by (row_at d (keys.Member n)) (its_key d (keys.Member n))
 pub with_room : (d : Desk) (n : ℕ) (o : Option ℕ) → same_room (room_at d (keys.Room n)) o ≡ true → o ≡ Some n
 with_room d n o h = by (row_at d (keys.Room n)) o (its_key d (keys.Room n)) h
   where
-    by : (f : Option Row) (o : Option ℕ) → ((r : Row) → f ≡ Some r → has_key (keys.Room n) r ≡ true) → same_room (room_of_found d f) o ≡ true → o ≡ Some n
+    by : (f : Option Row) (o : Option ℕ) → ((r : Row) → f ≡ Some r → has_key (keys.Room n) r ≡ true)
+        → same_room (room_of_found d f) o ≡ true → o ≡ Some n
     by None o key h = absurd (cc)
     by (Some (Room r)) None key h = absurd (cc)
     by (Some (Room r)) (Some q) key h = ap Some (sym (eqb-true r.room q h) ∙ eqb-true r.room n (key (Room r) refl))
@@ -107,9 +115,12 @@ with_room d n o h = by (row_at d (keys.Room n)) o (its_key d (keys.Room n)) h
 pub number_of_found : (d : Desk) (n : ℕ) (m : MemberRow) → member_at d n ≡ Some m → m.member ≡ n
 number_of_found d n m h = by (row_at d (keys.Member n)) (its_key d (keys.Member n)) h
   where
-    by : (o : Option Row) → ((r : Row) → o ≡ Some r → has_key (keys.Member n) r ≡ true) → option_and_then member_in o ≡ Some m → m.member ≡ n
+    by : (o : Option Row) → ((r : Row) → o ≡ Some r → has_key (keys.Member n) r ≡ true)
+        → option_and_then member_in o ≡ Some m → m.member ≡ n
     by None key h = absurd (cc)
-    by (Some (Member r)) key h = (let same : r ≡ m = cc in sym (ap (λ (m : MemberRow). m.member) same) ∙ eqb-true r.member n (key (Member r) refl))
+    by (Some (Member r)) key h =
+        (let same : r ≡ m = cc in
+        sym (ap (λ (m : MemberRow). m.member) same) ∙ eqb-true r.member n (key (Member r) refl))
     by (Some (Room r)) key h = absurd (cc)
     by (Some (Source r)) key h = absurd (cc)
     by (Some (Slot r)) key h = absurd (cc)

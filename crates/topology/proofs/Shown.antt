@@ -1,5 +1,6 @@
 -- On a good desk what a room shows is a video source of a member in it.
-use Rattle.std.proofs.Common.{◌≡◌, ℕ, true, ◌&&◌, nat_eq, [], ◌∷◌, Option, None, Some, refl, sym, ap, subst, ◌∙◌, eqb-true}
+use Rattle.std.proofs.Common.{◌≡◌, ℕ, true, ◌&&◌, nat_eq, [], ◌∷◌, Option, None, Some, refl, sym, ap, subst, ◌∙◌}
+use Rattle.std.proofs.Common.{eqb-true}
 use Rattle.std.specs.Prelude.{option_map, option_and_then}
 use Rattle.std.specs.Option.{option_or}
 use Rattle.std.specs.List.{find, list_all}
@@ -34,7 +35,8 @@ pub record IsVideoSource (d : Desk) (source : ℕ) (s : SourceRow) : Type 0 wher
   pub sends : s.media ≡ Video
 
 -- so it sends video
-pub its_media : (d : Desk) (source : ℕ) (s : SourceRow) → IsVideoSource d source s → option_map (λ (s : SourceRow). s.media) (source_at d source) ≡ Some Video
+pub its_media : (d : Desk) (source : ℕ) (s : SourceRow) → IsVideoSource d source s
+    → option_map (λ (s : SourceRow). s.media) (source_at d source) ≡ Some Video
 its_media d source s is = ap (option_map (λ (s : SourceRow). s.media)) is.found ∙ ap Some is.sends
 
 -- the source's row, and its member's room
@@ -43,16 +45,23 @@ pub record ShownIn (d : Desk) (room source : ℕ) (s : SourceRow) : Type 0 where
   pub room_is : room_of_member d s.member ≡ Some room
 
 -- so the source is in the room
-pub its_room : (d : Desk) (room source : ℕ) (s : SourceRow) → ShownIn d room source s → room_at d (keys.Source source) ≡ Some room
-its_room d room source s in_room = room_at_source d source ∙ ap (option_and_then (λ (s : SourceRow). room_of_member d s.member)) in_room.is.found ∙ in_room.room_is
+pub its_room : (d : Desk) (room source : ℕ) (s : SourceRow) → ShownIn d room source s
+    → room_at d (keys.Source source) ≡ Some room
+its_room d room source s in_room =
+    room_at_source d source
+    ∙ ap (option_and_then (λ (s : SourceRow). room_of_member d s.member)) in_room.is.found
+    ∙ in_room.room_is
 
 -- a source that is wanted to send video, and is in a room
-pub suiting : (d : Desk) (source room : ℕ) → suits (Sends Video) (row_at d (keys.Source source)) ≡ true → room_at d (keys.Source source) ≡ Some room → (s : SourceRow) × ShownIn d room source s
+pub suiting : (d : Desk) (source room : ℕ) → suits (Sends Video) (row_at d (keys.Source source)) ≡ true
+    → room_at d (keys.Source source) ≡ Some room → (s : SourceRow) × ShownIn d room source s
 suiting d source room suit in_room = by (source_at d source) refl (sym (room_at_source d source) ∙ in_room)
   where
-    from_row : (o : Option Row) (s : SourceRow) → option_and_then source_in o ≡ Some s → suits (Sends Video) o ≡ true → s.media ≡ Video
+    from_row : (o : Option Row) (s : SourceRow) → option_and_then source_in o ≡ Some s → suits (Sends Video) o ≡ true
+        → s.media ≡ Video
     from_row None s e h = absurd (cc)
-    from_row (Some (Source r)) s e h = (let same : r ≡ s = cc in subst (λ (t : SourceRow). t.media ≡ Video) same (is_video r.media h))
+    from_row (Some (Source r)) s e h =
+        (let same : r ≡ s = cc in subst (λ (t : SourceRow). t.media ≡ Video) same (is_video r.media h))
     from_row (Some (Room r)) s e h = absurd (cc)
     from_row (Some (Member r)) s e h = absurd (cc)
     from_row (Some (Slot r)) s e h = absurd (cc)
@@ -62,13 +71,22 @@ suiting d source room suit in_room = by (source_at d source) refl (sym (room_at_
     from_row (Some (Pin r)) s e h = absurd (cc)
     from_row (Some (Floor r)) s e h = absurd (cc)
 
-    by : (o : Option SourceRow) → source_at d source ≡ o → option_and_then (λ (s : SourceRow). room_of_member d s.member) o ≡ Some room → (s : SourceRow) × ShownIn d room source s
+    by : (o : Option SourceRow) → source_at d source ≡ o
+        → option_and_then (λ (s : SourceRow). room_of_member d s.member) o ≡ Some room
+        → (s : SourceRow) × ShownIn d room source s
     by None found h = absurd (cc)
-    by (Some s) found h = (s, record { is = record { found = found; sends = from_row (row_at d (keys.Source source)) s found suit }; room_is = h })
+    by (Some s) found h = (
+      s,
+      record {
+        is = record { found = found; sends = from_row (row_at d (keys.Source source)) s found suit };
+        room_is = h;
+      },
+    )
 
 -- ---- pins
 
-pin_found : (o : Option Row) (source : ℕ) → option_map (λ p. p.source) (option_and_then pin_in o) ≡ Some source → (p : PinRow) × (o ≡ Some (Pin p)) × (p.source ≡ source)
+pin_found : (o : Option Row) (source : ℕ) → option_map (λ p. p.source) (option_and_then pin_in o) ≡ Some source
+    → (p : PinRow) × (o ≡ Some (Pin p)) × (p.source ≡ source)
 pin_found None source h = absurd (cc)
 pin_found (Some (Pin p)) source h = (p, refl, cc)
 pin_found (Some (Room r)) source h = absurd (cc)
@@ -80,21 +98,29 @@ pin_found (Some (Mute r)) source h = absurd (cc)
 pin_found (Some (Gain r)) source h = absurd (cc)
 pin_found (Some (Floor r)) source h = absurd (cc)
 
-by_pin : (d : Desk) (room source : ℕ) → good d ≡ true → pinned d room ≡ Some source → (s : SourceRow) × ShownIn d room source s
+by_pin : (d : Desk) (room source : ℕ) → good d ≡ true → pinned d room ≡ Some source
+    → (s : SourceRow) × ShownIn d room source s
 by_pin d room source h e =
     let pin = pin_found (row_at d (keys.Pin room)) source e in
     let p = pin.0 in
     let told = of_found (obeys d) (keys.Pin room) (Pin p) (rows_of d) (good_parts d h).obey pin.1 in
-    let both = and_parts (is_in_range (Pin p) && has_few_audio d (Pin p)) (all_suit d (Pin p) && are_together d (names (Pin p))) told.0 in
+    let both =
+    and_parts (is_in_range (Pin p) && has_few_audio d (Pin p)) (all_suit d (Pin p) && are_together d (names (Pin p)))
+    told.0 in
     let parts = and_parts (all_suit d (Pin p)) (are_together d (names (Pin p))) both.1 in
-    let suit = and_parts (suits (Sends Video) (row_at d (keys.Room p.room))) (list_all (λ key. suits (wants (Pin p)) (row_at d key)) (keys.Source p.source ∷ [])) parts.0 in
+    let suit =
+    and_parts (suits (Sends Video) (row_at d (keys.Room p.room)))
+    (list_all (λ key. suits (wants (Pin p)) (row_at d key)) (keys.Source p.source ∷ [])) parts.0 in
     let video = and_parts (suits (Sends Video) (row_at d (keys.Source p.source))) true suit.1 in
-    let in_room : room_at d (keys.Source p.source) ≡ Some room = with_room d p.room (room_at d (keys.Source p.source)) parts.1 ∙ ap Some (eqb-true p.room room told.1) in
-    suiting d source room (subst (λ (n : ℕ). suits (Sends Video) (row_at d (keys.Source n)) ≡ true) pin.2 video.0) (subst (λ (n : ℕ). room_at d (keys.Source n) ≡ Some room) pin.2 in_room)
+    let in_room : room_at d (keys.Source p.source) ≡ Some room =
+    with_room d p.room (room_at d (keys.Source p.source)) parts.1 ∙ ap Some (eqb-true p.room room told.1) in
+    suiting d source room (subst (λ (n : ℕ). suits (Sends Video) (row_at d (keys.Source n)) ≡ true) pin.2 video.0)
+    (subst (λ (n : ℕ). room_at d (keys.Source n) ≡ Some room) pin.2 in_room)
 
 -- ---- floors
 
-floor_found : (o : Option Row) (member : ℕ) → option_map (λ f. f.member) (option_and_then floor_in o) ≡ Some member → (f : FloorRow) × (o ≡ Some (Floor f)) × (f.member ≡ member)
+floor_found : (o : Option Row) (member : ℕ) → option_map (λ f. f.member) (option_and_then floor_in o) ≡ Some member
+    → (f : FloorRow) × (o ≡ Some (Floor f)) × (f.member ≡ member)
 floor_found None member h = absurd (cc)
 floor_found (Some (Floor f)) member h = (f, refl, cc)
 floor_found (Some (Room r)) member h = absurd (cc)
@@ -107,32 +133,50 @@ floor_found (Some (Gain r)) member h = absurd (cc)
 floor_found (Some (Pin r)) member h = absurd (cc)
 
 -- a floor's holder is in the room
-holder_in : (d : Desk) (room member : ℕ) → good d ≡ true → holder d room ≡ Some member → room_of_member d member ≡ Some room
+holder_in : (d : Desk) (room member : ℕ) → good d ≡ true → holder d room ≡ Some member
+    → room_of_member d member ≡ Some room
 holder_in d room member h e =
     let floor = floor_found (row_at d (keys.Floor room)) member e in
     let f = floor.0 in
     let told = of_found (obeys d) (keys.Floor room) (Floor f) (rows_of d) (good_parts d h).obey floor.1 in
-    let both = and_parts (is_in_range (Floor f) && has_few_audio d (Floor f)) (all_suit d (Floor f) && are_together d (names (Floor f))) told.0 in
+    let both =
+    and_parts (is_in_range (Floor f) && has_few_audio d (Floor f))
+    (all_suit d (Floor f) && are_together d (names (Floor f))) told.0 in
     let parts = and_parts (all_suit d (Floor f)) (are_together d (names (Floor f))) both.1 in
     subst (λ (n : ℕ). room_of_member d n ≡ Some room) floor.2
-    (sym (room_at_member d f.member) ∙ with_room d f.room (room_at d (keys.Member f.member)) parts.1 ∙ ap Some (eqb-true f.room room told.1))
+    (sym (room_at_member d f.member)
+    ∙ with_room d f.room (room_at d (keys.Member f.member)) parts.1
+    ∙ ap Some (eqb-true f.room room told.1))
 
 -- the first video source of a member is one
-first_video_is : (d : Desk) (member source : ℕ) → good d ≡ true → first_video d member ≡ Some source → (s : SourceRow) × IsVideoSource d source s × (s.member ≡ member)
+first_video_is : (d : Desk) (member source : ℕ) → good d ≡ true → first_video d member ≡ Some source
+    → (s : SourceRow) × IsVideoSource d source s × (s.member ≡ member)
 first_video_is d member source h e = by (find (is_video_of member) (sources_of d)) refl e
   where
-    by : (o : Option SourceRow) → find (is_video_of member) (sources_of d) ≡ o → option_map (λ (s : SourceRow). s.ssrc) o ≡ Some source → (s : SourceRow) × IsVideoSource d source s × (s.member ≡ member)
+    by : (o : Option SourceRow) → find (is_video_of member) (sources_of d) ≡ o
+        → option_map (λ (s : SourceRow). s.ssrc) o ≡ Some source
+        → (s : SourceRow) × IsVideoSource d source s × (s.member ≡ member)
     by None found e = absurd (cc)
     by (Some s) found e =
-        let told = of_found_one (Found source_ssrc (sources_of d)) (is_video_of member) s (sources_of d) (all_found source_ssrc (sources_of d) (sources_rise d h)) found in
+        let told =
+        of_found_one (Found source_ssrc (sources_of d)) (is_video_of member) s (sources_of d)
+        (all_found source_ssrc (sources_of d) (sources_rise d h)) found in
         let is : s.ssrc ≡ source = cc in
-        let both = and_parts (nat_eq s.member member) (same_media s.media Video) told.1 in
-        (s, record { found = subst (λ (n : ℕ). source_at d n ≡ Some s) is (source_row d s.ssrc ∙ told.0); sends = is_video s.media both.1 }, eqb-true s.member member both.0)
+        let both = and_parts (nat_eq s.member member) (same_media s.media Video) told.1 in (
+          s,
+          record {
+            found = subst (λ (n : ℕ). source_at d n ≡ Some s) is (source_row d s.ssrc ∙ told.0);
+            sends = is_video s.media both.1;
+          },
+          eqb-true s.member member both.0,
+        )
 
-by_floor : (d : Desk) (room source : ℕ) → good d ≡ true → option_and_then (first_video d) (holder d room) ≡ Some source → (s : SourceRow) × ShownIn d room source s
+by_floor : (d : Desk) (room source : ℕ) → good d ≡ true → option_and_then (first_video d) (holder d room) ≡ Some source
+    → (s : SourceRow) × ShownIn d room source s
 by_floor d room source h e = by (holder d room) refl e
   where
-    by : (o : Option ℕ) → holder d room ≡ o → option_and_then (first_video d) o ≡ Some source → (s : SourceRow) × ShownIn d room source s
+    by : (o : Option ℕ) → holder d room ≡ o → option_and_then (first_video d) o ≡ Some source
+        → (s : SourceRow) × ShownIn d room source s
     by None held e = absurd (cc)
     by (Some member) held e =
         let first = first_video_is d member source h e in
@@ -140,17 +184,22 @@ by_floor d room source h e = by (holder d room) refl e
 
 -- ---- both
 
-pub shown_in : (d : Desk) (room source : ℕ) → good d ≡ true → shown d room ≡ Some source → (s : SourceRow) × ShownIn d room source s
+pub shown_in : (d : Desk) (room source : ℕ) → good d ≡ true → shown d room ≡ Some source
+    → (s : SourceRow) × ShownIn d room source s
 shown_in d room source h e = by (pinned d room) refl e
   where
-    by : (o : Option ℕ) → pinned d room ≡ o → option_or o (option_and_then (first_video d) (holder d room)) ≡ Some source → (s : SourceRow) × ShownIn d room source s
+    by : (o : Option ℕ) → pinned d room ≡ o
+        → option_or o (option_and_then (first_video d) (holder d room)) ≡ Some source
+        → (s : SourceRow) × ShownIn d room source s
     by None none e = by_floor d room source h e
     by (Some n) pin e = by_pin d room source h (pin ∙ e)
 
 -- so its sender is in the room
-pub shown_sender : (d : Desk) (room source member : ℕ) → good d ≡ true → shown d room ≡ Some source → sender_of d source ≡ Some member → room_of_member d member ≡ Some room
+pub shown_sender : (d : Desk) (room source member : ℕ) → good d ≡ true → shown d room ≡ Some source
+    → sender_of d source ≡ Some member → room_of_member d member ≡ Some room
 shown_sender d room source member h e sent =
     let by = shown_in d room source h e in
-    let same : Some by.0.member ≡ Some member = sym (ap (option_map (λ (s : SourceRow). s.member)) by.1.is.found) ∙ sent in
+    let same : Some by.0.member ≡ Some member =
+    sym (ap (option_map (λ (s : SourceRow). s.member)) by.1.is.found) ∙ sent in
     let is : by.0.member ≡ member = cc in
     sym (ap (room_of_member d) is) ∙ by.1.room_is

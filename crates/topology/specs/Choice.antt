@@ -7,7 +7,8 @@ use Rattle.desk_rows.specs.declared.row.Slot.{Slot as SlotRow}
 use Rattle.desk_rows.specs.declared.row.Media.TheVariants.{Video}
 use Rattle.desk_rows.specs.Row.{same_media}
 use Rattle.desk_rows.specs.Desk.{Desk, same_room}
-use Rattle.topology.specs.Looking.{source_in, slot_at, subscribed, pinned, holder, is_muted, is_this, sender_of, room_of_member, room_of_source}
+use Rattle.topology.specs.Looking.{source_in, slot_at, subscribed, pinned, holder, is_muted, is_this, sender_of}
+use Rattle.topology.specs.Looking.{room_of_member, room_of_source}
 
 -- ---- what a room shows
 
@@ -43,7 +44,8 @@ are_in_one_room d slot source = same_room (room_of_source d source) (room_of_mem
 
 -- the slot does not get the source: it is muted, the slot's own member sends it, or it is in another room
 abbrev pub is_barred : Desk → SlotRow → ℕ → Bool
-is_barred d slot source = is_muted d source || (is_this slot.member (sender_of d source) || not (are_in_one_room d slot source))
+is_barred d slot source =
+    is_muted d source || (is_this slot.member (sender_of d source) || not (are_in_one_room d slot source))
 
 -- the source, if the slot may get it
 abbrev pub unless_barred : Desk → SlotRow → ℕ → Option ℕ

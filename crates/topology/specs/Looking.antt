@@ -77,12 +77,14 @@ sender_of d source = option_map (λ s. s.member) (source_at d source)
 abbrev pub room_of_member : Desk → ℕ → Option ℕ
 room_of_member d member = option_map (λ m. m.room) (member_at d member)
 
--- the row is of a room for music: its audio is at 44100 Hz, the one rate at which L16 has payload types of its own (RFC 3551 section 6)
+-- the row is of a room for music: its audio is at 44100 Hz, the one rate at which L16 has payload types of its own (RFC
+-- 3551 section 6)
 abbrev pub is_music : Option Row → Bool
 is_music (Some (Room r)) = nat_eq r.rate 44100
 is_music _ = false
 
--- the clock rate of a room's audio, in Hz: 44100 where its row says so, else that of PCMU, 8000 (RFC 3551 section 4.5.14)
+-- the clock rate of a room's audio, in Hz: 44100 where its row says so, else that of PCMU, 8000 (RFC 3551 section
+-- 4.5.14)
 abbrev pub room_rate : Desk → ℕ → ℕ
 room_rate d room = if is_music (row_at d (keys.Room room)) then 44100 else 8000
 

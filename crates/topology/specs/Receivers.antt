@@ -37,7 +37,8 @@ receiver m slot = record { slot = slot; address = m.address }
 abbrev pub by_place : List MemberRow → List SlotRow → List Receiver
 by_place members slots = flat_map (λ m. map (receiver m) (filter (λ s. nat_eq s.member m.member) slots)) members
 
--- the receivers of what a source sends from an address: the slots that chose it, by place of the member and then by index; none where the source's member has another address
+-- the receivers of what a source sends from an address: the slots that chose it, by place of the member and then by
+-- index; none where the source's member has another address
 unfoldable pub receivers : Desk → ℕ → Address → List Receiver
 receivers d source address =
     if comes_from d source address then by_place d.members (by_index (filter (chooses d source) (slots_of d))) else []
@@ -50,9 +51,11 @@ receiver_at out_ssrc rs = find (λ r. nat_eq r.slot.out_ssrc out_ssrc) rs
 
 -- a slot as a receiver at the address of its member, if it chose the source
 abbrev pub receiving : Desk → ℕ → SlotRow → Option Receiver
-receiving d source slot = if chooses d source slot then option_map (λ m. receiver m slot) (member_at d slot.member) else None
+receiving d source slot =
+    if chooses d source slot then option_map (λ m. receiver m slot) (member_at d slot.member) else None
 
--- who gets on a stream what a source sends from an address: the stream's slot, at its member's address, where it chose the source and the source's member has the address; else nobody
+-- who gets on a stream what a source sends from an address: the stream's slot, at its member's address, where it chose
+-- the source and the source's member has the address; else nobody
 abbrev pub receiver_on : Desk → ℕ → Address → ℕ → Option Receiver
 receiver_on d source address out_ssrc =
     if comes_from d source address then option_and_then (receiving d source) (slot_at d out_ssrc) else None

@@ -1,5 +1,6 @@
 -- A list of edits turned in its own memory.
-use Rattle.std.proofs.Common.{◌≡◌, ℕ, ◌+◌, ◌-◌, ◌<◌, List, [], ◌∷◌, ◌++◌, map, reverse, take, drop, length, refl, sym, ap, ◌∙◌, get_or, arith, append_assoc, length-append, length-drop, drop-cons, add-one}
+use Rattle.std.proofs.Common.{◌≡◌, ℕ, ◌+◌, ◌-◌, ◌<◌, List, [], ◌∷◌, ◌++◌, map, reverse, take, drop, length, refl, sym}
+use Rattle.std.proofs.Common.{ap, ◌∙◌, get_or, arith, append_assoc, length-append, length-drop, drop-cons, add-one}
 use Rattle.std.specs.List.{insert}
 use Rattle.std.proofs.lemmas.List.{take_more, reverse-reverse}
 use Rattle.undo_log.specs.Lists.{inverses}
@@ -25,16 +26,22 @@ insert_after (x ∷ xs) ys y =
 
 -- the last of what is left is popped, inverted and put behind those that were
 pub turn_more : {E : Type 0} (inverse : E → E) (es items rest : List E) (k m : ℕ) (e : E) →
-    m + 1 ≡ length es - k → k < length es → items ≡ inverses inverse (drop (m + 1) es) ++ take (m + 1) es → items ≡ rest ++ e ∷ [] →
+    m + 1 ≡ length es - k → k < length es → items ≡ inverses inverse (drop (m + 1) es) ++ take (m + 1) es
+    → items ≡ rest ++ e ∷ [] →
     insert rest k (inverse e) ≡ inverses inverse (drop m es) ++ take m es
 turn_more inverse es items rest k m e is l so_far popped =
     let a = inverses inverse (drop (m + 1) es) in
     let inside : m < length es = omega arith in
     let last : take (m + 1) es ≡ take m es ++ get_or es m e ∷ [] = take_more es m e inside in
-    let whole : rest ++ e ∷ [] ≡ (a ++ take m es) ++ get_or es m e ∷ [] = sym popped ∙ so_far ∙ ap (λ xs. a ++ xs) last ∙ sym (append_assoc a (take m es) (get_or es m e ∷ [])) in
+    let whole : rest ++ e ∷ [] ≡ (a ++ take m es) ++ get_or es m e ∷ [] =
+    sym popped ∙ so_far ∙ ap (λ xs. a ++ xs) last ∙ sym (append_assoc a (take m es) (get_or es m e ∷ [])) in
     let ends = same_ends rest (a ++ take m es) e (get_or es m e) whole in
     let count : k ≡ length a = omega (arith, length_inverses inverse (drop (m + 1) es), length-drop (m + 1) es) in
-    let next : drop m es ≡ get_or es m e ∷ drop (m + 1) es = drop-cons es m e inside ∙ ap (λ n. get_or es m e ∷ drop n es) (sym (add-one m)) in
-    let more : inverses inverse (drop m es) ≡ a ++ inverse e ∷ [] = ap (inverses inverse) next ∙ reverse_front (inverse (get_or es m e)) (map inverse (drop (m + 1) es)) ∙ ap (λ d. a ++ inverse d ∷ []) (sym ends.1) in
+    let next : drop m es ≡ get_or es m e ∷ drop (m + 1) es =
+    drop-cons es m e inside ∙ ap (λ n. get_or es m e ∷ drop n es) (sym (add-one m)) in
+    let more : inverses inverse (drop m es) ≡ a ++ inverse e ∷ [] =
+    ap (inverses inverse) next
+    ∙ reverse_front (inverse (get_or es m e)) (map inverse (drop (m + 1) es))
+    ∙ ap (λ d. a ++ inverse d ∷ []) (sym ends.1) in
     (λ i. insert (ends.0 i) (count i) (inverse e)) ∙ insert_after a (take m es) (inverse e)
     ∙ sym (append_assoc a (inverse e ∷ []) (take m es)) ∙ ap (λ xs. xs ++ take m es) (sym more)

@@ -1,5 +1,6 @@
 -- Receiver reports tell each block once.
-use Rattle.std.proofs.Common.{◌≡◌, ℕ, zero, suc, ◌+◌, ◌*◌, List, [], ◌∷◌, ◌++◌, length, take, drop, map, refl, ap, sym, subst, ◌∙◌, arith, add-one}
+use Rattle.std.proofs.Common.{◌≡◌, ℕ, zero, suc, ◌+◌, ◌*◌, List, [], ◌∷◌, ◌++◌, length, take, drop, map, refl, ap, sym}
+use Rattle.std.proofs.Common.{subst, ◌∙◌, arith, add-one}
 use Rattle.std.specs.List.{flat_map, range_with_len}
 use Rattle.std.proofs.lemmas.List.{take_all, take-take, drop-take, take-append-drop, append-nil}
 use Rattle.std.proofs.lemmas.List.Concat.{flat_map-append}
@@ -11,7 +12,8 @@ use Rattle.upward.specs.ReceiverReports.{blocks_at, count_of_reports, receiver_r
 -- the first of a list, and the first of what is left
 more_taken : (xs : List ReportBlock) (n m : ℕ) → take (n + m) xs ≡ take n xs ++ take m (drop n xs)
 more_taken xs n m =
-    sym (take-append-drop n (take (n + m) xs)) ∙ ap (λ (ys : List ReportBlock). ys ++ drop n (take (n + m) xs)) (take-take n (n + m) xs (omega arith))
+    sym (take-append-drop n (take (n + m) xs))
+    ∙ ap (λ (ys : List ReportBlock). ys ++ drop n (take (n + m) xs)) (take-take n (n + m) xs (omega arith))
     ∙ ap (λ (ys : List ReportBlock). take n xs ++ ys) (drop-take n m xs)
 
 abbrev report_at : ℕ → List ReportBlock → ℕ → Packet
@@ -21,7 +23,8 @@ report_at ssrc blocks place = Receiver ssrc (blocks_at blocks place)
 abbrev told : ℕ → List ReportBlock → ℕ → List ReportBlock
 told ssrc blocks n = flat_map blocks_in (map (report_at ssrc blocks) (range_with_len 0 n))
 
-one_more : (ssrc : ℕ) (blocks : List ReportBlock) (n : ℕ) → told ssrc blocks n ≡ take (most_count * n) blocks → told ssrc blocks (n + 1) ≡ take (most_count * (n + 1)) blocks
+one_more : (ssrc : ℕ) (blocks : List ReportBlock) (n : ℕ) → told ssrc blocks n ≡ take (most_count * n) blocks
+    → told ssrc blocks (n + 1) ≡ take (most_count * (n + 1)) blocks
 one_more ssrc blocks n before =
     let reports = map (report_at ssrc blocks) (range_with_len 0 n) in
     ap (flat_map blocks_in) (map-range_with_len_more (report_at ssrc blocks) 0 n n (omega arith))
@@ -33,7 +36,9 @@ one_more ssrc blocks n before =
 
 first_reports : (ssrc : ℕ) (blocks : List ReportBlock) (n : ℕ) → told ssrc blocks n ≡ take (most_count * n) blocks
 first_reports ssrc blocks zero = refl
-first_reports ssrc blocks (suc n) = subst (λ k. told ssrc blocks k ≡ take (most_count * k) blocks) (add-one n) (one_more ssrc blocks n (first_reports ssrc blocks n))
+first_reports ssrc blocks (suc n) =
+    subst (λ k. told ssrc blocks k ≡ take (most_count * k) blocks) (add-one n)
+    (one_more ssrc blocks n (first_reports ssrc blocks n))
 
 pub told_once : (ssrc : ℕ) (blocks : List ReportBlock) → flat_map blocks_in (receiver_reports ssrc blocks) ≡ blocks
 told_once ssrc blocks =

@@ -3,7 +3,8 @@ use Rattle.std.specs.Prelude.{ℕ, List, []}
 use Rattle.rtcp_codec.specs.Nack.{numbers_named}
 use Rattle.rtcp_codec.specs.Packet.{Packet, Sender, Receiver, Sdes, Bye, App, Nack, Pli, Other}
 
--- the numbers that a packet asks for: those that the words of a NACK name, in order, repeats included; no other packet asks
+-- the numbers that a packet asks for: those that the words of a NACK name, in order, repeats included; no other packet
+-- asks
 abbrev pub asked_in : Packet → List ℕ
 asked_in (Nack sender media words) = numbers_named words
 asked_in (Sender ssrc ntp ts packets octets blocks) = []

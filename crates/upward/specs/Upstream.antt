@@ -1,5 +1,6 @@
 -- What is sent to a source: a compound (RFC 3550 section 6.1, RFC 4585 section 3.1; which packets it has is own).
-use Rattle.std.specs.Prelude.{◌≡◌, ℕ, ℤ, pos, ◌^◌, ◌-◌, ◌/◌, unsigned_abs, Bool, if◌then◌else◌, List, [], ◌∷◌, ◌++◌, map}
+use Rattle.std.specs.Prelude.{◌≡◌, ℕ, ℤ, pos, ◌^◌, ◌-◌, ◌/◌, unsigned_abs, Bool, if◌then◌else◌, List, [], ◌∷◌, ◌++◌}
+use Rattle.std.specs.Prelude.{map}
 use Rattle.std.specs.Int.{int_rem_euclid}
 use Rattle.rtcp_codec.specs.declared.nack.NackWord.{NackWord}
 use Rattle.rtcp_codec.specs.Packet.{Packet, Receiver, Nack, Pli}
@@ -33,10 +34,13 @@ pli_of asker source pli = if pli then Pli asker source ∷ [] else []
 -- what is sent to a source: a receiver report without blocks, the name of who asks, then a NACK, then a PLI
 abbrev pub upstream_packets : Asker → (source : ℕ) → List NackWord → Bool → List Packet
 upstream_packets asker source words pli =
-    Receiver asker.ssrc [] ∷ named asker.ssrc asker.cname ∷ nack_of asker.ssrc source words ++ pli_of asker.ssrc source pli
+    Receiver asker.ssrc [] ∷ named asker.ssrc asker.cname ∷ nack_of asker.ssrc source words
+    ++ pli_of asker.ssrc source pli
 
--- These octets are sent to a source: words that name the sequence numbers of these extended numbers, and the PLI if one is due.
-pub record IsUpstream (asker : Asker) (source : ℕ) (exts : List ℤ) (pli : Bool) (words : List NackWord) (octets : List ℕ) : Type 0 where
+-- These octets are sent to a source: words that name the sequence numbers of these extended numbers, and the PLI if one
+-- is due.
+pub record IsUpstream (asker : Asker) (source : ℕ) (exts : List ℤ) (pli : Bool) (words : List NackWord)
+    (octets : List ℕ) : Type 0 where
   pub packing : IsPacking (map seq_of exts) words
   pub octets_are : octets ≡ written (upstream_packets asker source words pli)
   pub compound : IsCompound (upstream_packets asker source words pli) octets

@@ -23,7 +23,8 @@ pub record NoticeOf : Type 0 where
   pub publisher : Book
   pub lists : List (List EditOf)
 
--- a reader or an entry: the name of its publisher, the first desk, and the lists that the reader knows or that lead to the entry
+-- a reader or an entry: the name of its publisher, the first desk, and the lists that the reader knows or that lead to
+-- the entry
 pub record ReaderOf : Type 0 where
   pub publisher : Book
   pub start : Desk

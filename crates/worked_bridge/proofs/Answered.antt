@@ -10,5 +10,7 @@ first_or a (b ∷ bs) = b
 pub only : {A : Type 0} (a b : A) → a ∷ [] ≡ b ∷ [] → a ≡ b
 only a b same = ap (first_or a) same
 
-pub of_each : (P : Sent → Type 0) (sent : List Sent) (all : List (List Sent)) → sent ∷ [] ≡ all → AllByRecursion (AllByRecursion P) all → AllByRecursion P sent
-of_each P sent all is each = (subst (λ (lists : List (List Sent)). AllByRecursion (AllByRecursion P) lists) (sym is) each).0
+pub of_each : (P : Sent → Type 0) (sent : List Sent) (all : List (List Sent)) → sent ∷ [] ≡ all
+    → AllByRecursion (AllByRecursion P) all → AllByRecursion P sent
+of_each P sent all is each =
+    (subst (λ (lists : List (List Sent)). AllByRecursion (AllByRecursion P) lists) (sym is) each).0

@@ -29,8 +29,11 @@ only_command command (calls.Undo last) is = absurd cc
 only_command command (calls.Redo last) is = absurd cc
 
 -- a text whose first word is another than `group` wants no memory
-pub needs_none : {A : Type 0} (r : Result (Call A) ParseFault) (text is_text : List ℕ) → (r ≡ Err OutOfMemory → take 1 (spoken_words text) ≡ codes "group" ∷ []) → text ≡ is_text → take 1 (spoken_words is_text) ≢ codes "group" ∷ [] → r ≢ Err OutOfMemory
-needs_none r text is_text memory is other out = other (subst (λ (t : List ℕ). take 1 (spoken_words t) ≡ codes "group" ∷ []) is (memory out))
+pub needs_none : {A : Type 0} (r : Result (Call A) ParseFault) (text is_text : List ℕ)
+    → (r ≡ Err OutOfMemory → take 1 (spoken_words text) ≡ codes "group" ∷ []) → text ≡ is_text
+    → take 1 (spoken_words is_text) ≢ codes "group" ∷ [] → r ≢ Err OutOfMemory
+needs_none r text is_text memory is other out =
+    other (subst (λ (t : List ℕ). take 1 (spoken_words t) ≡ codes "group" ∷ []) is (memory out))
 
 pub undo_is_other : codes "undo" ∷ [] ≢ codes "group" ∷ []
 undo_is_other same = absurd cc
@@ -45,7 +48,9 @@ pub none_is_other : {X : Type 0} (x : X) → [] ≢ x ∷ []
 none_is_other x same = absurd cc
 
 -- the call that is read, where memory doesn't run out
-pub given : {A : Type 0} (r : Result (Call A) ParseFault) (read : Result CallOf (ℕ × Fault)) (call : Call A) (asked : CallOf) → Only call asked → r ≢ Err OutOfMemory → read ≡ Ok asked → Gives asked_by r read → r ≡ Ok call
+pub given : {A : Type 0} (r : Result (Call A) ParseFault) (read : Result CallOf (ℕ × Fault)) (call : Call A)
+    (asked : CallOf)
+    → Only call asked → r ≢ Err OutOfMemory → read ≡ Ok asked → Gives asked_by r read → r ≡ Ok call
 given (Ok x) read call asked only has is gives = ap Ok (only x cc)
 given (Err OutOfMemory) read call asked only has is gives = absurd (has refl)
 given (Err (Line word fault)) read call asked only has is gives = absurd cc
@@ -56,7 +61,9 @@ fault_in (Ok x) other = other
 fault_in (Err e) other = e
 
 -- the fault that is read, where memory doesn't run out
-pub refused : {A : Type 0} (r : Result (Call A) ParseFault) (read : Result CallOf (ℕ × Fault)) (word : ℕ) (fault : Fault) → r ≢ Err OutOfMemory → read ≡ Err (word, fault) → Gives asked_by r read → r ≡ Err (Line word fault)
+pub refused : {A : Type 0} (r : Result (Call A) ParseFault) (read : Result CallOf (ℕ × Fault)) (word : ℕ)
+    (fault : Fault)
+    → r ≢ Err OutOfMemory → read ≡ Err (word, fault) → Gives asked_by r read → r ≡ Err (Line word fault)
 refused (Ok x) read word fault has is gives = absurd cc
 refused (Err OutOfMemory) read word fault has is gives = absurd (has refl)
 refused {A} (Err (Line w f)) read word fault has is gives =
@@ -64,18 +71,22 @@ refused {A} (Err (Line w f)) read word fault has is gives =
     ap (λ (p : ℕ × Fault). Err (Line p.0 p.1)) read_is
 
 -- what is read, where something is returned
-pub asks : {A : Type 0} (r : Result (Call A) ParseFault) (read : Result CallOf (ℕ × Fault)) (asked : CallOf) → read ≡ Ok asked → Gives asked_by r read → IfOk r (λ call. asked_by call ≡ asked)
+pub asks : {A : Type 0} (r : Result (Call A) ParseFault) (read : Result CallOf (ℕ × Fault)) (asked : CallOf)
+    → read ≡ Ok asked → Gives asked_by r read → IfOk r (λ call. asked_by call ≡ asked)
 asks (Ok x) read asked is gives = cc
 asks (Err why) read asked is gives = tt
 
 -- no fault is told where a call is read
-pub faultless : {A : Type 0} (r : Result (Call A) ParseFault) (read : Result CallOf (ℕ × Fault)) (asked : CallOf) → read ≡ Ok asked → Gives asked_by r read → (word : ℕ) (fault : Fault) → r ≢ Err (Line word fault)
+pub faultless : {A : Type 0} (r : Result (Call A) ParseFault) (read : Result CallOf (ℕ × Fault)) (asked : CallOf)
+    → read ≡ Ok asked → Gives asked_by r read → (word : ℕ) (fault : Fault) → r ≢ Err (Line word fault)
 faultless (Ok x) read asked is gives word fault same = absurd cc
 faultless (Err OutOfMemory) read asked is gives word fault same = absurd cc
 faultless (Err (Line w f)) read asked is gives word fault same = absurd cc
 
 -- no call is returned where a fault is read, and it is the one that is told
-pub callless : {A : Type 0} (r : Result (Call A) ParseFault) (read : Result CallOf (ℕ × Fault)) (word : ℕ) (fault : Fault) → read ≡ Err (word, fault) → Gives asked_by r read → IfOk r (λ call. ⊥)
+pub callless : {A : Type 0} (r : Result (Call A) ParseFault) (read : Result CallOf (ℕ × Fault)) (word : ℕ)
+    (fault : Fault)
+    → read ≡ Err (word, fault) → Gives asked_by r read → IfOk r (λ call. ⊥)
 callless (Ok x) read word fault is gives = absurd cc
 callless (Err why) read word fault is gives = tt
 
@@ -86,7 +97,9 @@ line_in (Err OutOfMemory) other = other
 line_in (Err (Line word fault)) other = (word, fault)
 
 -- the fault that is told is the one that is read
-pub told : {A : Type 0} (r : Result (Call A) ParseFault) (read : Result CallOf (ℕ × Fault)) (word : ℕ) (fault : Fault) → read ≡ Err (word, fault) → Gives asked_by r read → (w : ℕ) (f : Fault) → r ≡ Err (Line w f) → (w ≡ word) × (f ≡ fault)
+pub told : {A : Type 0} (r : Result (Call A) ParseFault) (read : Result CallOf (ℕ × Fault)) (word : ℕ) (fault : Fault)
+    → read ≡ Err (word, fault) → Gives asked_by r read → (w : ℕ) (f : Fault) → r ≡ Err (Line w f)
+    → (w ≡ word) × (f ≡ fault)
 told (Ok x) read word fault is gives w f same = absurd cc
 told (Err OutOfMemory) read word fault is gives w f same = absurd cc
 told {A} (Err (Line v e)) read word fault is gives w f same =

@@ -8,5 +8,6 @@ pub no_wire : Decoding
 no_wire = record { reading = λ octets. too_long; words = λ numbers. [] }
 
 -- what follows in each decoding follows in this one
-pub on_no_wire : {P : Type 0} {lines : List (List ℕ)} {IsSo : Decoding → Type 0} → (P → InEachDecoding lines IsSo) → DecodesLines no_wire lines → P → IsSo no_wire
+pub on_no_wire : {P : Type 0} {lines : List (List ℕ)} {IsSo : Decoding → Type 0} → (P → InEachDecoding lines IsSo)
+    → DecodesLines no_wire lines → P → IsSo no_wire
 on_no_wire follows heard p = (follows p).each no_wire heard

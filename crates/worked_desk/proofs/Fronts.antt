@@ -5,7 +5,8 @@ use mathlib.Core.List.{IsPrefix}
 use Rattle.operator_desk.specs.Entry.{EntryOf}
 use Rattle.worked_desk.specs.Has.{Has}
 
-prefix_get : (xs ys : List EntryOf) (k : ℕ) (x : EntryOf) → IsPrefix xs ys → slice_get xs k ≡ Some x → slice_get ys k ≡ Some x
+prefix_get : (xs ys : List EntryOf) (k : ℕ) (x : EntryOf) → IsPrefix xs ys → slice_get xs k ≡ Some x
+    → slice_get ys k ≡ Some x
 prefix_get [] ys k x p h = absurd cc
 prefix_get (y ∷ xs) [] k x p h = absurd (cc (p.1))
 prefix_get (y ∷ xs) (z ∷ ys) zero x p h = cc (p.1, h)

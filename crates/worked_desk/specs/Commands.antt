@@ -27,7 +27,9 @@ add_audio ssrc member = commands.AddSource (record { ssrc = ssrc; member = membe
 
 -- by SSRC, member and index
 abbrev pub add_slot : ℕ → ℕ → ℕ → Command
-add_slot out_ssrc member index = commands.AddSlot (record { out_ssrc = out_ssrc; member = member; index = index; first_seq = 65535; first_ts = 1000 })
+add_slot out_ssrc member index =
+    commands.AddSlot
+    (record { out_ssrc = out_ssrc; member = member; index = index; first_seq = 65535; first_ts = 1000 })
 
 abbrev pub remove_slot : ℕ → Command
 remove_slot out_ssrc = commands.RemoveSlot out_ssrc

@@ -24,7 +24,9 @@ with_slots rest = with_others (room 1 ∷ room 2 ∷ video 101 10 ∷ audio 102 
 
 -- with room 3 too
 abbrev pub three_rooms : Desk
-three_rooms = with_others (room 1 ∷ room 2 ∷ room 3 ∷ video 101 10 ∷ audio 102 10 ∷ video 103 12 ∷ slot 501 11 0 ∷ slot 502 12 0 ∷ sub 501 101 ∷ [])
+three_rooms =
+    with_others (room 1 ∷ room 2 ∷ room 3 ∷ video 101 10 ∷ audio 102 10 ∷ video 103 12 ∷ slot 501 11 0 ∷ slot 502 12 0
+    ∷ sub 501 101 ∷ [])
 
 -- ---- edits
 
@@ -56,9 +58,15 @@ exchanging_members =
     -- the first and the last go
     ∷ (first_and_last_go, record two_rooms { members = eleven ∷ []; others = room 1 ∷ room 2 ∷ slot 501 11 0 ∷ [] })
     -- a row that changes keeps its place
-    ∷ (changes (at 1 eleven) (at 1 (record eleven { codec = L16 })), with_members (ten ∷ record eleven { codec = L16 } ∷ twelve ∷ []))
+    ∷ (
+      changes (at 1 eleven) (at 1 (record eleven { codec = L16 })),
+      with_members (ten ∷ record eleven { codec = L16 } ∷ twelve ∷ []),
+    )
     -- a member moves from the last place to the first, and to the other room
-    ∷ (changes (at 2 twelve) (at 0 (record twelve { room = 1 })), with_members (record twelve { room = 1 } ∷ ten ∷ eleven ∷ []))
+    ∷ (
+      changes (at 2 twelve) (at 0 (record twelve { room = 1 })),
+      with_members (record twelve { room = 1 } ∷ ten ∷ eleven ∷ []),
+    )
     ∷ []
 
 -- other rows come in the order of kinds and keys
@@ -71,7 +79,10 @@ exchanging_others =
     -- a slot goes with its sub
     ∷ (takes [] (slot 501 11 0 ∷ sub 501 101 ∷ []), with_slots (slot 502 12 0 ∷ []))
     -- a slot is replaced, and its sub stays
-    ∷ (replaces (slot 501 11 0 ∷ []) (slot 501 11 3 ∷ []), with_slots (slot 501 11 3 ∷ slot 502 12 0 ∷ sub 501 101 ∷ []))
+    ∷ (
+      replaces (slot 501 11 0 ∷ []) (slot 501 11 3 ∷ []),
+      with_slots (slot 501 11 3 ∷ slot 502 12 0 ∷ sub 501 101 ∷ []),
+    )
     -- all at once
     ∷ (
       six_lists,

@@ -17,10 +17,12 @@ abbrev pub none_replaced : ReplacedOf
 none_replaced = record { old = []; new = [] }
 
 abbrev pub takes : List Placed → List Row → EditOf
-takes members others = record { taken = record { members = members; others = others }; put = no_part; replaced = none_replaced }
+takes members others =
+    record { taken = record { members = members; others = others }; put = no_part; replaced = none_replaced }
 
 abbrev pub puts : List Placed → List Row → EditOf
-puts members others = record { taken = no_part; put = record { members = members; others = others }; replaced = none_replaced }
+puts members others =
+    record { taken = no_part; put = record { members = members; others = others }; replaced = none_replaced }
 
 abbrev pub replaces : List Row → List Row → EditOf
 replaces old new = record { taken = no_part; put = no_part; replaced = record { old = old; new = new } }

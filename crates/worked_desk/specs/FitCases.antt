@@ -56,7 +56,8 @@ taking_members =
     ∷ (takes (at 2 twelve ∷ at 1 eleven ∷ []) (video 103 12 ∷ slot 501 11 0 ∷ slot 502 12 0 ∷ sub 501 101 ∷ []), false)
     ∷ []
 
--- a member comes to a place in the list, with a number, an address and an SSRC of its own, a port and a room that is there
+-- a member comes to a place in the list, with a number, an address and an SSRC of its own, a port and a room that is
+-- there
 abbrev pub putting_members : List (EditOf × Bool)
 putting_members =
     -- last

@@ -2,7 +2,8 @@
 use Rattle.std.specs.Prelude.{List, [], ◌∷◌, Option, None, Some}
 use Rattle.desk_edit.specs.declared.command.Command.{Command}
 use Rattle.desk_edit.specs.declared.refusal.Refusal.{Refusal}
-use Rattle.desk_edit.specs.declared.refusal.Refusal.TheVariants.{Exists, NoRoom, NoMember, NoSource, NoSlot, WrongKind, OtherRoom, SsrcTaken, BadValue, Already, Full}
+use Rattle.desk_edit.specs.declared.refusal.Refusal.TheVariants.{Exists, NoRoom, NoMember, NoSource, NoSlot, WrongKind}
+use Rattle.desk_edit.specs.declared.refusal.Refusal.TheVariants.{OtherRoom, SsrcTaken, BadValue, Already, Full}
 use Rattle.desk_edit.specs.declared.refusal.Table.TheVariants.{Rooms, Members, Sources, Slots, RoomAudio}
 use Rattle.worked_desk.specs.Commands.{add_room, add_member, add_video, add_audio, add_slot, remove_slot, subscribe}
 

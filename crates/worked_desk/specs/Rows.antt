@@ -30,7 +30,8 @@ audio ssrc member = rows.Source (record { ssrc = ssrc; member = member; media = 
 
 -- a slot of a member, by its SSRC, at this index
 abbrev pub slot : ℕ → ℕ → ℕ → Row
-slot out_ssrc member index = rows.Slot (record { out_ssrc = out_ssrc; member = member; index = index; first_seq = 65535; first_ts = 1000 })
+slot out_ssrc member index =
+    rows.Slot (record { out_ssrc = out_ssrc; member = member; index = index; first_seq = 65535; first_ts = 1000 })
 
 -- the slot has the source
 abbrev pub sub : ℕ → ℕ → Row

@@ -5,8 +5,9 @@ use Rattle.desk_rows.specs.Desk.{Desk}
 use Rattle.topology.specs.declared.receivers.Receiver.{Receiver}
 use Rattle.worked_desk.specs.Rows.{member, room, video, audio, slot, sub, mute, pin, floor}
 
--- Room 1 has a pin, source 103 of member 11, and a floor, which member 10 has. Room 2 has a floor alone, which member 20
--- has. In room 3 member 30 has the floor, and the first of its two video sources is muted, as is source 104 in room 1.
+-- Room 1 has a pin, source 103 of member 11, and a floor, which member 10 has. Room 2 has a floor alone, which member
+-- 20 has. In room 3 member 30 has the floor, and the first of its two video sources is muted, as is source 104 in room
+-- 1.
 -- Members of room 1 joined in the order 12, 10, 11, 13.
 abbrev pub shown_rooms : Desk
 shown_rooms = record {
@@ -112,7 +113,10 @@ at_port port = record { ip = 10 ∷ 0 ∷ 0 ∷ 1 ∷ []; port = port }
 -- the receiver at a port: a slot by SSRC, member and index
 abbrev pub getting : ℕ → ℕ → ℕ → ℕ → Receiver
 getting port out_ssrc member index =
-    record { slot = record { out_ssrc = out_ssrc; member = member; index = index; first_seq = 65535; first_ts = 1000 }; address = at_port port }
+    record {
+      slot = record { out_ssrc = out_ssrc; member = member; index = index; first_seq = 65535; first_ts = 1000 };
+      address = at_port port;
+    }
 
 -- what a source sends from an address, and the receivers, by place of the member and then by index
 abbrev pub who_gets : List ((ℕ × Address) × List Receiver)

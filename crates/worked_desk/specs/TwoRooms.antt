@@ -24,7 +24,8 @@ fourteen = member 14 2 5004 9005
 
 -- video and audio of member 10, video of 12; a slot of 11, which has source 101, and one of 12, which has none
 abbrev pub eight_rows : List Row
-eight_rows = room 1 ∷ room 2 ∷ video 101 10 ∷ audio 102 10 ∷ video 103 12 ∷ slot 501 11 0 ∷ slot 502 12 0 ∷ sub 501 101 ∷ []
+eight_rows =
+    room 1 ∷ room 2 ∷ video 101 10 ∷ audio 102 10 ∷ video 103 12 ∷ slot 501 11 0 ∷ slot 502 12 0 ∷ sub 501 101 ∷ []
 
 -- the desk of a bridge that speaks under SSRC 1
 abbrev pub two_rooms : Desk

@@ -1,5 +1,6 @@
 -- The buckets of others.
-use Rattle.std.proofs.Common.{◌≡◌, ◌∙◌, ◌≤◌, ℕ, true, false, List, [], ◌∷◌, Option, None, Result, Ok, Err, IfOk, OnOk, length, take, refl, ap}
+use Rattle.std.proofs.Common.{◌≡◌, ◌∙◌, ◌≤◌, ℕ, true, false, List, [], ◌∷◌, Option, None, Result, Ok, Err, IfOk, OnOk}
+use Rattle.std.proofs.Common.{length, take, refl, ap}
 use Rattle.std.proofs.lemmas.List.{take_all}
 use Rattle.rtp_codec.specs.declared.address.Address.{Address}
 use Rattle.rtp_codec.specs.Address.{same_address}
@@ -10,16 +11,22 @@ use Rattle.rate_limiter.proofs.KeyedLemmas.{same_itself}
 use Rattle.worked_front.specs.Refilled.{with_406}
 
 -- all buckets, where the address has none
-others_stay : (address : Address) (buckets : List Bucket) → bucket_at address buckets ≡ None → other_buckets address buckets ≡ buckets
+others_stay : (address : Address) (buckets : List Bucket) → bucket_at address buckets ≡ None
+    → other_buckets address buckets ≡ buckets
 others_stay address [] h = refl
-others_stay address (a ∷ rest) h = (elim (same_address a.address address) as (λ y. same_address a.address address ≡ y → other_buckets address (a ∷ rest) ≡ a ∷ rest) [
-  | true ↦ λ t. let h' = rw t at h in cc
-  | false ↦ λ t. let h' : bucket_at address rest ≡ None = rw t at h in rw t (ap (λ (l : List Bucket). a ∷ l) (others_stay address rest h'))
-]) refl
+others_stay address (a ∷ rest) h =
+    (elim (same_address a.address address)
+    as (λ y. same_address a.address address ≡ y → other_buckets address (a ∷ rest) ≡ a ∷ rest) [
+      | true ↦ λ t. let h' = rw t at h in cc
+      | false ↦ λ t.
+          let h' : bucket_at address rest ≡ None = rw t at h in
+          rw t (ap (λ (l : List Bucket). a ∷ l) (others_stay address rest h'))
+    ]) refl
 
 -- an address without a bucket refills: its new bucket stands before the others
 pub entered : (octets : ℕ) (address : Address) (buckets : List Bucket) → bucket_at address buckets ≡ None
-    → used (refilled octets (or_opened address (bucket_at address buckets))) buckets ≡ refilled octets (opened address) ∷ take 1023 buckets
+    → used (refilled octets (or_opened address (bucket_at address buckets))) buckets
+    ≡ refilled octets (opened address) ∷ take 1023 buckets
 entered octets address buckets h =
     ap (λ (o : Option Bucket). used (refilled octets (or_opened address o)) buckets) h
     ∙ ap (λ (l : List Bucket). refilled octets (opened address) ∷ take 1023 l) (others_stay address buckets h)

@@ -6,8 +6,10 @@ use Rattle.media_workers.specs.Ports.{PortOf}
 use Rattle.media_workers.specs.Bridges.{Taker, AllFeed}
 
 -- its last end's sink feeds whom the lane's fed
-pub last_feeds : {N P S : Type 0} (feeds : S → Taker → Type 0) (ports : List (PortOf P S)) (ends rest : List (LaneEnd N S)) (end : LaneEnd N S) (c : Taker)
-    → length ports ≡ 1 → AllFeed feeds ports ends → AllByRecursion (λ (p : PortOf P S). feeds p.sink c) ports → ends ≡ rest ++ end ∷ [] → feeds end.sink c
+pub last_feeds : {N P S : Type 0} (feeds : S → Taker → Type 0) (ports : List (PortOf P S))
+    (ends rest : List (LaneEnd N S)) (end : LaneEnd N S) (c : Taker)
+    → length ports ≡ 1 → AllFeed feeds ports ends → AllByRecursion (λ (p : PortOf P S). feeds p.sink c) ports
+    → ends ≡ rest ++ end ∷ [] → feeds end.sink c
 last_feeds feeds [] ends rest end c one fed all is = absurd (omega (arith, one))
 last_feeds feeds (p ∷ q ∷ ports) ends rest end c one fed all is = absurd (omega (arith, one))
 last_feeds feeds (p ∷ []) [] rest end c one fed all is = absurd fed

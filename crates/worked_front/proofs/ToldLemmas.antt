@@ -1,5 +1,6 @@
 -- Lanes that are given ticks.
-use Rattle.std.proofs.Common.{Bool, false, ◌≡◌, ◌<◌, ◌+◌, ℕ, zero, suc, List, [], ◌∷◌, length, Some, Result, Ok, Err, OnOk, IfErr, refl, ap, sym, ◌∙◌, arith}
+use Rattle.std.proofs.Common.{Bool, false, ◌≡◌, ◌<◌, ◌+◌, ℕ, zero, suc, List, [], ◌∷◌, length, Some, Result, Ok, Err}
+use Rattle.std.proofs.Common.{OnOk, IfErr, refl, ap, sym, ◌∙◌, arith}
 use Rattle.std.proofs.lemmas.List.{length-map}
 use Rattle.std.specs.Prelude.{slice_get, slice_set}
 use Rattle.versions.specs.Published.{NoticeOf}
@@ -16,13 +17,16 @@ abbrev pub given : {P S : Type 0} → NoticeOf → ℕ → PortOf P S → PortOf
 given notice moment port = accept (Work (Own (Tick moment)) (Some notice)) port
 
 -- a lane that is given a tick stays the same lane
-pub lanes_kept : {P S : Type 0} (ports : List (PortOf P S)) (lane : ℕ) (port : PortOf P S) (notice : NoticeOf) (moment : ℕ) → slice_get ports lane ≡ Some port
+pub lanes_kept : {P S : Type 0} (ports : List (PortOf P S)) (lane : ℕ) (port : PortOf P S) (notice : NoticeOf)
+    (moment : ℕ)
+    → slice_get ports lane ≡ Some port
     → lanes_of (slice_set ports lane (given notice moment port)) ≡ lanes_of ports
 lanes_kept [] lane port notice moment at = refl
 lanes_kept {P} {S} (p ∷ ps) zero port notice moment at =
     let same : p ≡ port = cc (at) in
     ap (λ (x : PortOf P S). x.lane ∷ lanes_of ps) (sym same)
-lanes_kept (p ∷ ps) (suc lane) port notice moment at = ap (λ (ls : List LaneNow). p.lane ∷ ls) (lanes_kept ps lane port notice moment at)
+lanes_kept (p ∷ ps) (suc lane) port notice moment at =
+    ap (λ (ls : List LaneNow). p.lane ∷ ls) (lanes_kept ps lane port notice moment at)
 
 -- there is a lane at each place
 found : {X : Type 0} (xs : List X) (k : ℕ) → k < length xs → (x : X) × (slice_get xs k ≡ Some x)
@@ -31,8 +35,11 @@ found (x ∷ xs) zero low = (x, refl)
 found (x ∷ xs) (suc k) low = found xs k (omega (arith, low))
 
 -- whether the tick is accepted or not
-pub lanes_still : {P S A : Type 0} (result : Result A Parcel) (old new : List (PortOf P S)) (lane : ℕ) (notice : NoticeOf) (moment : ℕ) → lane < length old
-    → OnOk result ((port : PortOf P S) → slice_get old lane ≡ Some port → (port.closed ≡ false) × (new ≡ slice_set old lane (given notice moment port)))
+pub lanes_still : {P S A : Type 0} (result : Result A Parcel) (old new : List (PortOf P S)) (lane : ℕ)
+    (notice : NoticeOf) (moment : ℕ)
+    → lane < length old
+    → OnOk result ((port : PortOf P S) → slice_get old lane ≡ Some port
+    → (port.closed ≡ false) × (new ≡ slice_set old lane (given notice moment port)))
     → IfErr result (λ (back : Parcel). (back ≡ Work (Own (Tick moment)) (Some notice)) × (new ≡ old))
     → lanes_of new ≡ lanes_of old
 lanes_still (Ok x) old new lane notice moment low ok err =

@@ -1,5 +1,6 @@
 -- One packet more.
-use Rattle.std.proofs.Common.{◌≡◌, ℕ, ◌+◌, ◌%◌, ◌^◌, zero, suc, [], ◌∷◌, ◌++◌, Option, None, Some, ap, ◌∙◌, add-one, arith, sym, subst}
+use Rattle.std.proofs.Common.{◌≡◌, ℕ, ◌+◌, ◌%◌, ◌^◌, zero, suc, [], ◌∷◌, ◌++◌, Option, None, Some, ap, ◌∙◌, add-one}
+use Rattle.std.proofs.Common.{arith, sym, subst}
 use Rattle.std.specs.List.{last_or}
 use Rattle.std.specs.Option.{IfSome}
 use Rattle.rtp_codec.specs.Sequence.{next}
@@ -16,11 +17,14 @@ packets-suc first (suc n) =
 pub packets-more : (first n : ℕ) → packets first (n + 1) ≡ packets first n ++ packet ((first + n) % 2 ^ 16) ∷ []
 packets-more first n = ap (packets first) (add-one n) ∙ packets-suc first n
 
-last_or-packets : (first n : ℕ) (o : Option SentPacket) → last_or o (packets first (suc n)) ≡ Some (packet ((first + n) % 2 ^ 16))
+last_or-packets : (first n : ℕ) (o : Option SentPacket)
+    → last_or o (packets first (suc n)) ≡ Some (packet ((first + n) % 2 ^ 16))
 last_or-packets first zero o = ap (λ m. Some (packet (m % 2 ^ 16))) (omega arith)
-last_or-packets first (suc n) o = last_or-packets (first + 1) n (Some (packet (first % 2 ^ 16))) ∙ ap (λ m. Some (packet (m % 2 ^ 16))) (omega arith)
+last_or-packets first (suc n) o =
+    last_or-packets (first + 1) n (Some (packet (first % 2 ^ 16))) ∙ ap (λ m. Some (packet (m % 2 ^ 16))) (omega arith)
 
 pub packets-follow : (first n : ℕ) → MayFollow (packets first n) (packet ((first + n) % 2 ^ 16))
 packets-follow first zero = tt
 packets-follow first (suc n) =
-    subst (λ (o : Option SentPacket). IfSome o (λ last. (first + suc n) % 2 ^ 16 ≡ next last.number)) (sym (last_or-packets first n None)) (omega arith)
+    subst (λ (o : Option SentPacket). IfSome o (λ last. (first + suc n) % 2 ^ 16 ≡ next last.number))
+    (sym (last_or-packets first n None)) (omega arith)

@@ -11,4 +11,5 @@ member = record { ip = 127 ∷ 0 ∷ 0 ∷ 1 ∷ []; port = 7 }
 abbrev pub long_ago : (rate : ℕ) → List AudioEvent
 long_ago rate =
     PutOf 21 member rate 1000 (pos 5 ∷ [])
-    ∷ TakeAll ∷ TakeAll ∷ TakeAll ∷ TakeAll ∷ TakeAll ∷ TakeAll ∷ TakeAll ∷ TakeAll ∷ TakeAll ∷ TakeAll ∷ TakeAll ∷ TakeAll ∷ TakeAll ∷ []
+    ∷ TakeAll ∷ TakeAll ∷ TakeAll ∷ TakeAll ∷ TakeAll ∷ TakeAll ∷ TakeAll ∷ TakeAll ∷ TakeAll ∷ TakeAll ∷ TakeAll
+    ∷ TakeAll ∷ TakeAll ∷ []

@@ -12,7 +12,8 @@ first_block = record { ssrc = 101; fraction = 64; lost = neg_ℤ (pos 1); highes
 
 -- a block about source 102: nothing was lost, and a sender report had come
 abbrev pub second_block : ReportBlock
-second_block = record { ssrc = 102; fraction = 0; lost = pos 0; highest = 65537; jitter = 0; lsr = 0x7e800000; dlsr = 65536 }
+second_block =
+    record { ssrc = 102; fraction = 0; lost = pos 0; highest = 65537; jitter = 0; lsr = 0x7e800000; dlsr = 65536 }
 
 -- the octets of the name
 abbrev pub bridge : List ℕ

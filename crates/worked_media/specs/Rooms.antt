@@ -55,7 +55,9 @@ three_with more = record {
 
 -- one sample of each source
 abbrev pub said : List Given
-said = put 21 first.address 8000 0 (pos 1000 ∷ []) ∷ put 22 second.address 8000 0 (pos 2000 ∷ []) ∷ put 23 third.address 8000 0 (pos 4000 ∷ []) ∷ []
+said =
+    put 21 first.address 8000 0 (pos 1000 ∷ []) ∷ put 22 second.address 8000 0 (pos 2000 ∷ [])
+    ∷ put 23 third.address 8000 0 (pos 4000 ∷ []) ∷ []
 
 -- the samples came in, and then there were two ticks
 abbrev pub two_ticks_later : Desk → List Given
@@ -78,12 +80,15 @@ sixteen_sources = record {
 
 -- each of them came in with one sample of 100, and then there were three ticks
 abbrev pub all_sixteen_said : Desk → List Given
-all_sixteen_said d = map (λ ssrc. put ssrc second.address 8000 0 (pos 100 ∷ [])) (range_with_len 101 16) ++ tick d 0 ∷ tick d 20000000 ∷ tick d 40000000 ∷ []
+all_sixteen_said d =
+    map (λ ssrc. put ssrc second.address 8000 0 (pos 100 ∷ [])) (range_with_len 101 16)
+    ++ tick d 0 ∷ tick d 20000000 ∷ tick d 40000000 ∷ []
 
 -- the first packet of a member's mix, by these contributing sources: this sample, and then 159 of 0
 abbrev pub mix_to : Member → List ℕ → ℤ → MixSent
 mix_to m csrcs sample = record {
   to = m.address;
   ssrc = m.out_audio;
-  packet = mix_packet m.out_audio m.first_seq m.first_ts true (sound_of L16At8000 csrcs (sample ∷ replicate 159 (pos 0)));
+  packet =
+      mix_packet m.out_audio m.first_seq m.first_ts true (sound_of L16At8000 csrcs (sample ∷ replicate 159 (pos 0)));
 }

@@ -17,7 +17,8 @@ frame source moment ts payload = record {
 
 -- it is sent
 abbrev pub sending : ℕ → ℕ → ℕ → List ℕ → Sending
-sending source moment ts payload = record { frame = frame source moment ts payload; version = 3; item = 1; owner = owner 1 7 }
+sending source moment ts payload =
+    record { frame = frame source moment ts payload; version = 3; item = 1; owner = owner 1 7 }
 
 -- the frame of source 5
 abbrev pub camera : Sending

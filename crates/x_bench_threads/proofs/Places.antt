@@ -1,5 +1,6 @@
 -- Lists by their places.
-use Rattle.std.proofs.Common.{◌≡◌, ◌<◌, ℕ, zero, suc, List, [], ◌∷◌, ◌++◌, length, Some, Result, Ok, Err, OnOk, IfErr, refl, ap, subst, ◌∙◌, arith}
+use Rattle.std.proofs.Common.{◌≡◌, ◌<◌, ℕ, zero, suc, List, [], ◌∷◌, ◌++◌, length, Some, Result, Ok, Err, OnOk, IfErr}
+use Rattle.std.proofs.Common.{refl, ap, subst, ◌∙◌, arith}
 use Rattle.std.specs.Prelude.{slice_get, slice_set}
 use Rattle.std.proofs.lemmas.List.{length-set}
 
@@ -12,7 +13,8 @@ one_more Q [] x all last zero y at =
     subst (Q 0) same last
 one_more Q [] x all last (suc place) y at = absurd (cc (at))
 one_more Q (z ∷ xs) x all last zero y at = all zero y at
-one_more Q (z ∷ xs) x all last (suc place) y at = one_more (λ n. Q (suc n)) xs x (λ k w e. all (suc k) w e) last place y at
+one_more Q (z ∷ xs) x all last (suc place) y at =
+    one_more (λ n. Q (suc n)) xs x (λ k w e. all (suc k) w e) last place y at
 
 -- there is one at each place
 found : {X : Type 0} (xs : List X) (k : ℕ) → k < length xs → (x : X) × (slice_get xs k ≡ Some x)
@@ -21,7 +23,9 @@ found (x ∷ xs) zero low = (x, refl)
 found (x ∷ xs) (suc k) low = found xs k (omega (arith, low))
 
 -- a list in which one may have changed is as long as before
-pub long_if_ok : {X A B : Type 0} (result : Result A B) (old new : List X) (at : ℕ) (C : X → Type 0) (f : X → X) (D : B → Type 0) → at < length old
+pub long_if_ok : {X A B : Type 0} (result : Result A B) (old new : List X) (at : ℕ) (C : X → Type 0) (f : X → X)
+    (D : B → Type 0)
+    → at < length old
     → OnOk result ((x : X) → slice_get old at ≡ Some x → C x × (new ≡ slice_set old at (f x)))
     → IfErr result (λ e. D e × (new ≡ old))
     → length new ≡ length old

@@ -1,5 +1,6 @@
 -- Lanes that are made one after another.
-use Rattle.std.proofs.Common.{◌≡◌, ◌+◌, ◌∙◌, ℕ, List, [], ◌∷◌, ◌++◌, All, length, Some, slice_get, codes, ap, subst, sym}
+use Rattle.std.proofs.Common.{◌≡◌, ◌+◌, ◌∙◌, ℕ, List, [], ◌∷◌, ◌++◌, All, length, Some, slice_get, codes, ap, subst}
+use Rattle.std.proofs.Common.{sym}
 use Rattle.std.proofs.lemmas.List.{length_push}
 use Rattle.std.proofs.lemmas.List.Elements.{All-push}
 use Rattle.logbook.specs.Pages.{Book}
@@ -23,26 +24,34 @@ AreBegun many lanes = (place : ℕ) (lane : LaneNow) → slice_get lanes place �
 abbrev pub AreReadBy : Book → List LaneNow → Type 0
 AreReadBy publisher lanes = All (λ (lane : LaneNow). lane.reader.publisher ≡ publisher) lanes
 
-pub is_new : (lane : LaneNow) (state : LaneOf) (reader : ReaderOf) (many place : ℕ) → lane ≡ record { state = state; reader = reader } → HasHandled state [] → (state.lane ≡ place) × (state.lanes ≡ many)
+pub is_new : (lane : LaneNow) (state : LaneOf) (reader : ReaderOf) (many place : ℕ)
+    → lane ≡ record { state = state; reader = reader } → HasHandled state []
+    → (state.lane ≡ place) × (state.lanes ≡ many)
     → state.who ≡ the_name → IsNew the_name many place lane
 is_new lane state reader many place is none at who =
     let new : LaneNow = record { state = state; reader = reader } in
     let here : IsNew the_name many place new = record { number = at.0; lanes = at.1; who = who; none = none } in
     subst (IsNew the_name many place) (sym is) here
 
-pub is_read : (lane : LaneNow) (state : LaneOf) (reader : ReaderOf) (publisher : Book) (start : Desk) → lane ≡ record { state = state; reader = reader } → reader ≡ new_reader publisher start
+pub is_read : (lane : LaneNow) (state : LaneOf) (reader : ReaderOf) (publisher : Book) (start : Desk)
+    → lane ≡ record { state = state; reader = reader } → reader ≡ new_reader publisher start
     → lane.reader.publisher ≡ publisher
-is_read lane state reader publisher start is same = ap (λ (l : LaneNow). l.reader.publisher) is ∙ ap (λ (r : ReaderOf). r.publisher) same
+is_read lane state reader publisher start is same =
+    ap (λ (l : LaneNow). l.reader.publisher) is ∙ ap (λ (r : ReaderOf). r.publisher) same
 
-pub begun_more : (many place : ℕ) (old new : List LaneNow) (lane : LaneNow) → new ≡ old ++ lane ∷ [] → AreBegun many old → length old ≡ place → IsNew the_name many place lane → AreBegun many new
+pub begun_more : (many place : ℕ) (old new : List LaneNow) (lane : LaneNow) → new ≡ old ++ lane ∷ [] → AreBegun many old
+    → length old ≡ place → IsNew the_name many place lane → AreBegun many new
 begun_more many place old new lane is begun count one =
     let last : IsNew the_name many (length old) lane = subst (λ (n : ℕ). IsNew the_name many n lane) (sym count) one in
     subst (AreBegun many) (sym is) (each_more (λ n l. IsNew the_name many n l) old lane begun last)
 
-pub read_more : (publisher : Book) (old new : List LaneNow) (lane : LaneNow) → new ≡ old ++ lane ∷ [] → AreReadBy publisher old → lane.reader.publisher ≡ publisher → AreReadBy publisher new
-read_more publisher old new lane is all one = subst (AreReadBy publisher) (sym is) (All-push (λ (l : LaneNow). l.reader.publisher ≡ publisher) old lane all one)
+pub read_more : (publisher : Book) (old new : List LaneNow) (lane : LaneNow) → new ≡ old ++ lane ∷ []
+    → AreReadBy publisher old → lane.reader.publisher ≡ publisher → AreReadBy publisher new
+read_more publisher old new lane is all one =
+    subst (AreReadBy publisher) (sym is) (All-push (λ (l : LaneNow). l.reader.publisher ≡ publisher) old lane all one)
 
-pub count_more : (place : ℕ) (old new : List LaneNow) (lane : LaneNow) → new ≡ old ++ lane ∷ [] → length old ≡ place → length new ≡ place + 1
+pub count_more : (place : ℕ) (old new : List LaneNow) (lane : LaneNow) → new ≡ old ++ lane ∷ [] → length old ≡ place
+    → length new ≡ place + 1
 count_more place old new lane is count = ap length is ∙ length_push old lane ∙ ap (λ (n : ℕ). n + 1) count
 
 pub are_new : (many : ℕ) (lanes : List LaneNow) → AreBegun many lanes → length lanes ≡ many → AreNew lanes

@@ -37,7 +37,8 @@ report_visit due = visit_on due.visit (Input.report due.moment)
 -- the sender report of a stream of the lane, to a member
 abbrev pub own_report : {A : Type 0} → Reporting A → MemberRow → (ssrc : ℕ) → Option Counts → List Sent
 own_report due m ssrc counts =
-    own_tells (asker_of due.visit) due.visit.place.lane due.visit.place.lanes (report_visit due) due.moment m ssrc counts
+    own_tells (asker_of due.visit) due.visit.place.lane due.visit.place.lanes (report_visit due) due.moment m ssrc
+    counts
 
 -- that of a member's mix, after these items
 abbrev pub mix_report : {A : Type 0} → Reporting A → List Visit → MemberRow → List Sent

@@ -12,7 +12,8 @@ pub undoes : (d : Desk) (es : List EditOf) → fits d es ≡ true → after (aft
 undoes d es fit = all_undone one_fits one_after one_inverse inverse_fits one_undoes d es fit
 
 -- one more edit is taken back
-pub rewound_one_more : (d : Desk) (es : List (List EditOf)) (e : List EditOf) → rewound after inverse d (es ++ e ∷ []) ≡ after (rewound after inverse d es) (inverse e)
+pub rewound_one_more : (d : Desk) (es : List (List EditOf)) (e : List EditOf)
+    → rewound after inverse d (es ++ e ∷ []) ≡ after (rewound after inverse d es) (inverse e)
 rewound_one_more d [] e = refl
 rewound_one_more d (x ∷ es) e = rewound_one_more (after d (inverse x)) es e
 

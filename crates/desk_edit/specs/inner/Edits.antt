@@ -1,5 +1,6 @@
 -- The edits that carry commands out. No public clause cites them.
-use Rattle.std.specs.Prelude.{ℕ, ◌+◌, Bool, not, List, [], ◌∷◌, map, filter, length, nat_eq, Option, Some, None, if◌then◌else◌}
+use Rattle.std.specs.Prelude.{ℕ, ◌+◌, Bool, not, List, [], ◌∷◌, map, filter, length, nat_eq, Option, Some, None}
+use Rattle.std.specs.Prelude.{if◌then◌else◌}
 use Rattle.desk_rows.specs.declared.row.Row.{Row}
 use Rattle.desk_rows.specs.declared.row.Member.{Member}
 use Rattle.desk_rows.specs.declared.row.Row.TheVariants as rows
@@ -26,7 +27,12 @@ puts_other r = record { taken = no_part; put = record { members = []; others = r
 
 -- puts a member at this place, and nothing else
 abbrev pub puts_member : ℕ → Member → EditOf
-puts_member place m = record { taken = no_part; put = record { members = record { place = place; row = m } ∷ []; others = [] }; replaced = none_replaced }
+puts_member place m =
+    record {
+      taken = no_part;
+      put = record { members = record { place = place; row = m } ∷ []; others = [] };
+      replaced = none_replaced;
+    }
 
 -- puts the second row in place of the first, and nothing else
 abbrev pub replaces : Row → Row → EditOf
@@ -45,11 +51,17 @@ puts d r = puts_in_place (row_at d (key_of r)) r
 -- the members that pass, with their places, which count from n
 abbrev pub placed_from : ℕ → (Member → Bool) → List Member → List Placed
 placed_from n p [] = []
-placed_from n p (m ∷ ms) = if p m then record { place = n; row = m } ∷ placed_from (n + 1) p ms else placed_from (n + 1) p ms
+placed_from n p (m ∷ ms) =
+    if p m then record { place = n; row = m } ∷ placed_from (n + 1) p ms else placed_from (n + 1) p ms
 
 -- takes the rows that pass
 abbrev pub takes_all : Desk → (Row → Bool) → EditOf
-takes_all d goes = record { taken = record { members = placed_from 0 (λ m. goes (rows.Member m)) d.members; others = filter goes d.others }; put = no_part; replaced = none_replaced }
+takes_all d goes =
+    record {
+      taken = record { members = placed_from 0 (λ m. goes (rows.Member m)) d.members; others = filter goes d.others };
+      put = no_part;
+      replaced = none_replaced;
+    }
 
 -- a member with its place, in this room
 abbrev pub placed_in : ℕ → Placed → Placed
@@ -58,7 +70,11 @@ placed_in room p = record { place = p.place; row = record p.row { room = room } 
 -- puts the member into the room, and takes the rows whose two sides are then in different rooms
 abbrev pub moves_member : Desk → ℕ → ℕ → EditOf
 moves_member d member room = record {
-  taken = record { members = placed_from 0 (λ m. nat_eq m.member member) d.members; others = filter (λ r. not (are_together (with_member_in d member room) (names r))) d.others };
+  taken =
+      record {
+        members = placed_from 0 (λ m. nat_eq m.member member) d.members;
+        others = filter (λ r. not (are_together (with_member_in d member room) (names r))) d.others;
+      };
   put = record { members = map (placed_in room) (placed_from 0 (λ m. nat_eq m.member member) d.members); others = [] };
   replaced = none_replaced;
 }

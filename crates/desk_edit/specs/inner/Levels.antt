@@ -24,7 +24,8 @@ level kinds.Floor = 3
 abbrev pub is_above : Key → Key → Bool
 is_above name key = nat_lt (level (kind_of key)) (level (kind_of name))
 
--- whether rows of a kind can go with a row of another: the one stands on the other, directly or through others, or is it
+-- whether rows of a kind can go with a row of another: the one stands on the other, directly or through others, or is
+-- it
 abbrev pub can_go : Kind → Kind → Bool
 can_go kind kinds.Room = true
 can_go kinds.Room kinds.Member = false

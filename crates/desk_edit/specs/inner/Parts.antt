@@ -7,7 +7,8 @@ use Rattle.desk_rows.specs.Exchange.{fits, after}
 use Rattle.desk_edit.specs.declared.command.Command.{Command}
 use Rattle.desk_edit.specs.Groups.{desk_after_all}
 
--- behind the edits that were there stand those of the commands, one for each, which lead from the desk to the one after them
+-- behind the edits that were there stand those of the commands, one for each, which lead from the desk to the one after
+-- them
 pub record Carries (d : Desk) (commands : List Command) (before edits : List EditOf) : Type 0 where
   pub more : List EditOf
   pub all : edits ≡ before ++ more

@@ -1,5 +1,6 @@
 -- Rows of one kind, listed once more in groups. No public clause cites it.
-use Rattle.std.specs.Prelude.{◌≡◌, ℕ, Bool, true, false, ◌&&◌, ◌||◌, List, [], ◌∷◌, count_by, nat_eq, nat_lt, nat_le, Option, None, Some}
+use Rattle.std.specs.Prelude.{◌≡◌, ℕ, Bool, true, false, ◌&&◌, ◌||◌, List, [], ◌∷◌, count_by, nat_eq, nat_lt, nat_le}
+use Rattle.std.specs.Prelude.{Option, None, Some}
 use Rattle.std.specs.List.{list_all}
 use Rattle.desk_rows.specs.declared.row.Row.{Row}
 
@@ -22,6 +23,7 @@ abbrev pub passes_in : {X : Type 0} → (Row → Option X) → (X → Bool) → 
 passes_in in_row p r = passes_if p (in_row r)
 
 -- a table of what is in these rows: in order, and each test is passed by as many
-pub record IsTableOf {X : Type 0} (in_row : Row → Option X) (group turn : X → ℕ) (rows : List Row) (table : List X) : Type 0 where
+pub record IsTableOf {X : Type 0} (in_row : Row → Option X) (group turn : X → ℕ) (rows : List Row)
+    (table : List X) : Type 0 where
   pub order : stand_by (in_turn group turn) table ≡ true
   pub same : (p : X → Bool) → count_by p table ≡ count_by (passes_in in_row p) rows

@@ -1,6 +1,7 @@
 -- How the desk after an edit is judged by the rows that come and by those that the edit touches, given that the desk
 -- before it is good. No public clause cites this.
-use Rattle.std.specs.Prelude.{◌≡◌, true, ℕ, Bool, false, ◌&&◌, ◌||◌, not, List, [], ◌∷◌, ◌++◌, map, nat_eq, count_by, Option}
+use Rattle.std.specs.Prelude.{◌≡◌, true, ℕ, Bool, false, ◌&&◌, ◌||◌, not, List, [], ◌∷◌, ◌++◌, map, nat_eq, count_by}
+use Rattle.std.specs.Prelude.{Option}
 use Rattle.std.specs.List.{find, list_any, list_all}
 use Rattle.desk_rows.specs.declared.row.Row.{Row}
 use Rattle.desk_rows.specs.declared.row.Row.TheVariants.{Room, Member}
@@ -12,7 +13,8 @@ use Rattle.desk_rows.specs.declared.edit.Placed.{Placed}
 use Rattle.desk_rows.specs.Order.{in_order, with_rows, without_rows}
 use Rattle.desk_rows.specs.Places.{take_at}
 use Rattle.desk_rows.specs.Edit.{EditOf, outs, ins}
-use Rattle.desk_rows.specs.Desk.{Desk, row_at, is_within_limits, is_named_there, is_made_once, is_alone, is_audio_in, obeys}
+use Rattle.desk_rows.specs.Desk.{Desk, row_at, is_within_limits, is_named_there, is_made_once, is_alone, is_audio_in}
+use Rattle.desk_rows.specs.Desk.{obeys}
 use Rattle.desk_rows.specs.Kinds.{is_of}
 use Rattle.desk_rows.specs.Exchange.{exchanged}
 use Rattle.desk_rows.specs.inner.Found.{finds, is_elsewhere}
@@ -111,7 +113,8 @@ abbrev pub is_pair : List Key → Bool
 is_pair (a ∷ b ∷ []) = true
 is_pair _ = false
 
--- what the rule of a row that stays looks at may have changed: a member moves, audio comes into a room, or a row that it names is taken
+-- what the rule of a row that stays looks at may have changed: a member moves, audio comes into a room, or a row that
+-- it names is taken
 abbrev pub is_shaken : Bool → Desk → EditOf → Row → Bool
 is_shaken moved d e r = (moved && (is_room r || is_pair (names r))) || (gains_audio d e r || takes_any e (names r))
 

@@ -5,7 +5,9 @@ use Rattle.desk_rows.specs.Row.{same_row}
 
 -- elements before the place pass and the others fail
 abbrev pub Parts : {A : Type 0} (p : A → Bool) (xs : List A) (i : ℕ) → Type 0
-Parts {A} p xs i = ((k : ℕ) (d : A) → 0 ≤ k → k < i → p (get_or xs k d) ≡ true) × ((k : ℕ) (d : A) → i ≤ k → k < length xs → p (get_or xs k d) ≡ false)
+Parts {A} p xs i =
+    ((k : ℕ) (d : A) → 0 ≤ k → k < i → p (get_or xs k d) ≡ true)
+    × ((k : ℕ) (d : A) → i ≤ k → k < length xs → p (get_or xs k d) ≡ false)
 
 -- what was found is this row
 abbrev pub is_found_as : Row → Option Row → Bool

@@ -1,13 +1,19 @@
 -- The tests of equality say what they mean.
 use Rattle.std.specs.Prelude.{◌≡◌, ◌||◌, ◌∷◌, ◌++◌, if◌then◌else◌}
-use Rattle.desk_rows.specs.laws.Words.{ℕ, zero, suc, true, false, List, [], length, refl, sym, ap, ◌∙◌, arith, nat_eq, eq-eqb, eqb-true, and_parts, and_from, bytes_eq, bytes_eq-Decides, Address, same_address, Claim, Codec, Key, Kind, Media, Row, Room, precedes, key_precedes, same_row, has_key, rank, kind_of, own_numbers, key_numbers, key_of, same_key, same_claim, claim_numbers, row_values, row_with, codec_number, media_number, same_value, same_values}
+use Rattle.desk_rows.specs.laws.Words.{ℕ, zero, suc, true, false, List, [], length, refl, sym, ap, ◌∙◌, arith, nat_eq}
+use Rattle.desk_rows.specs.laws.Words.{eq-eqb, eqb-true, and_parts, and_from, bytes_eq, bytes_eq-Decides, Address}
+use Rattle.desk_rows.specs.laws.Words.{same_address, Claim, Codec, Key, Kind, Media, Row, Room, precedes, key_precedes}
+use Rattle.desk_rows.specs.laws.Words.{same_row, has_key, rank, kind_of, own_numbers, key_numbers, key_of, same_key}
+use Rattle.desk_rows.specs.laws.Words.{same_claim, claim_numbers, row_values, row_with, codec_number, media_number}
+use Rattle.desk_rows.specs.laws.Words.{same_value, same_values}
 use Rattle.desk_rows.specs.declared.values.RowValue.{RowValue}
 use Rattle.desk_rows.specs.declared.values.RowValue.TheVariants as values
 use Rattle.desk_rows.specs.declared.key.Kind.TheVariants as kinds
 use Rattle.desk_rows.specs.declared.key.Key.TheVariants as keys
 use Rattle.desk_rows.specs.declared.claim.Claim.TheVariants as claims
 use Rattle.desk_rows.specs.laws.ListLaws.{true_false, or_turned}
-use Rattle.desk_rows.specs.laws.NumberLaws.{same_numbers_is, numbers_themselves, numbers_not_before, numbers_precede_on, one_list_precedes}
+use Rattle.desk_rows.specs.laws.NumberLaws.{same_numbers_is, numbers_themselves, numbers_not_before, numbers_precede_on}
+use Rattle.desk_rows.specs.laws.NumberLaws.{one_list_precedes}
 
 pub number_itself : (n : ℕ) → nat_eq n n ≡ true
 number_itself n = eq-eqb n n refl
@@ -58,7 +64,10 @@ three_numbers _ = refl
 
 -- of two keys that differ one stands before the other
 pub one_precedes : (a b : Row) → has_key (key_of a) b ≡ false → (precedes a b || precedes b a) ≡ true
-one_precedes a b e = or_turned (precedes a b) (precedes b a) ∙ one_list_precedes (key_numbers (key_of b)) (key_numbers (key_of a)) (three_numbers (key_of b) ∙ sym (three_numbers (key_of a))) e
+one_precedes a b e =
+    or_turned (precedes a b) (precedes b a)
+    ∙ one_list_precedes (key_numbers (key_of b)) (key_numbers (key_of a))
+    (three_numbers (key_of b) ∙ sym (three_numbers (key_of a))) e
 
 -- ---- values
 
@@ -86,7 +95,8 @@ same_value_is _ _ e = absurd (true_false (sym e))
 value_itself : (x : RowValue) → same_value x x ≡ true
 value_itself (values.U16 n) = number_itself n
 value_itself (values.U32 n) = number_itself n
-value_itself (values.Address a) = and_from (bytes_eq a.ip a.ip) (nat_eq a.port a.port) ((bytes_eq-Decides a.ip a.ip).1 refl) (number_itself a.port)
+value_itself (values.Address a) =
+    and_from (bytes_eq a.ip a.ip) (nat_eq a.port a.port) ((bytes_eq-Decides a.ip a.ip).1 refl) (number_itself a.port)
 value_itself (values.Codec c) = number_itself (codec_number c)
 value_itself (values.Media m) = number_itself (media_number m)
 
@@ -94,7 +104,8 @@ same_values_is : (xs ys : List RowValue) → same_values xs ys ≡ true → xs �
 same_values_is [] [] e = refl
 same_values_is (x ∷ xs) (y ∷ ys) e =
     let both = and_parts (same_value x y) (same_values xs ys) e in
-    ap (λ (z : RowValue). z ∷ xs) (same_value_is x y both.0) ∙ ap (λ (zs : List RowValue). y ∷ zs) (same_values_is xs ys both.1)
+    ap (λ (z : RowValue). z ∷ xs) (same_value_is x y both.0)
+    ∙ ap (λ (zs : List RowValue). y ∷ zs) (same_values_is xs ys both.1)
 same_values_is _ _ e = absurd (true_false (sym e))
 
 values_themselves : (xs : List RowValue) → same_values xs xs ≡ true
@@ -130,10 +141,15 @@ same_row_is a b e =
     let kind : Row → Kind = λ (r : Row). kind_of (key_of r) in
     let both = and_parts (nat_eq (rank (kind a)) (rank (kind b))) (same_values (row_values a) (row_values b)) e in
     let same : kind a ≡ kind b = sym (kind_back (kind a)) ∙ (ap kind_by (eqb-true _ _ both.0) ∙ kind_back (kind b)) in
-    sym (row_back a) ∙ (ap (λ (k : Kind). row_with k (row_values a)) same ∙ (ap (row_with (kind b)) (same_values_is (row_values a) (row_values b) both.1) ∙ row_back b))
+    sym (row_back a)
+    ∙ (ap (λ (k : Kind). row_with k (row_values a)) same
+    ∙ (ap (row_with (kind b)) (same_values_is (row_values a) (row_values b) both.1) ∙ row_back b))
 
 pub row_itself : (r : Row) → same_row r r ≡ true
-row_itself r = and_from (nat_eq (rank (kind_of (key_of r))) (rank (kind_of (key_of r)))) (same_values (row_values r) (row_values r)) (number_itself (rank (kind_of (key_of r)))) (values_themselves (row_values r))
+row_itself r =
+    and_from (nat_eq (rank (kind_of (key_of r))) (rank (kind_of (key_of r))))
+    (same_values (row_values r) (row_values r)) (number_itself (rank (kind_of (key_of r))))
+    (values_themselves (row_values r))
 
 -- ---- claims
 
@@ -158,7 +174,8 @@ claim_back (claims.Key k) = ap claims.Key (padded k) where
 claim_back _ = refl
 
 pub same_claim_is : (a b : Claim) → same_claim a b ≡ true → a ≡ b
-same_claim_is a b e = sym (claim_back a) ∙ ap claim_from (same_numbers_is (claim_numbers a) (claim_numbers b) e) ∙ claim_back b
+same_claim_is a b e =
+    sym (claim_back a) ∙ ap claim_from (same_numbers_is (claim_numbers a) (claim_numbers b) e) ∙ claim_back b
 
 pub claim_itself : (c : Claim) → same_claim c c ≡ true
 claim_itself c = numbers_themselves (claim_numbers c)

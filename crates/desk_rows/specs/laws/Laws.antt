@@ -1,10 +1,17 @@
 -- An edit that fits can be taken back.
 pub use Rattle.desk_rows.specs.laws.ListLaws.{count_by-append}
 use Rattle.std.specs.Prelude.{◌≡◌, ◌≤◌, ◌||◌, ◌++◌, ◌&&◌}
-use Rattle.desk_rows.specs.laws.Words.{Bool, true, false, List, sym, ap, ◌∙◌, arith, map, nat_eq, not, inl, inr, eqb-true, or_left, or_right, and_parts, and_from, cases_Bool, cond-true, cond-false, true_from_ne_false, not-true, list_any-append, list_all, count_by, Row, Member, Desk, rows_of, is_named_there, is_alone, is_within_limits, obeys, is_listed, good, EditOf, outs, ins, inverse, exchanged, is_apt, fits, after, is_in, with_rows, in_order, without_rows, are_apart, have_same_keys, take_at, can_take, can_put, places_rise, put_at, same_row, has_key, key_of}
+use Rattle.desk_rows.specs.laws.Words.{Bool, true, false, List, sym, ap, ◌∙◌, arith, map, nat_eq, not, inl, inr}
+use Rattle.desk_rows.specs.laws.Words.{eqb-true, or_left, or_right, and_parts, and_from, cases_Bool, cond-true}
+use Rattle.desk_rows.specs.laws.Words.{cond-false, true_from_ne_false, not-true, list_any-append, list_all, count_by}
+use Rattle.desk_rows.specs.laws.Words.{Row, Member, Desk, rows_of, is_named_there, is_alone, is_within_limits, obeys}
+use Rattle.desk_rows.specs.laws.Words.{is_listed, good, EditOf, outs, ins, inverse, exchanged, is_apt, fits, after}
+use Rattle.desk_rows.specs.laws.Words.{is_in, with_rows, in_order, without_rows, are_apart, have_same_keys, take_at}
+use Rattle.desk_rows.specs.laws.Words.{can_take, can_put, places_rise, put_at, same_row, has_key, key_of}
 use Rattle.desk_rows.specs.laws.Equal.{key_itself}
 use Rattle.desk_rows.specs.laws.ListLaws.{true_false, some_count, none_pass}
-use Rattle.desk_rows.specs.laws.OrderLaws.{at_each, from_each, apart_in_order, same_keys_turned, count_by-with_rows, is_in-with_rows, without_rows-with_rows, with_rows-without_rows}
+use Rattle.desk_rows.specs.laws.OrderLaws.{at_each, from_each, apart_in_order, same_keys_turned, count_by-with_rows}
+use Rattle.desk_rows.specs.laws.OrderLaws.{is_in-with_rows, without_rows-with_rows, with_rows-without_rows}
 use Rattle.desk_rows.specs.laws.PlaceLaws.{put_at-take_at, take_at-put_at, can_take-put_at, can_put-take_at}
 
 -- ---- the parts of the tests
@@ -35,11 +42,22 @@ apt_parts d e h =
     let both = and_parts (takes && puts) (goes && comes) h in
     let lists = and_parts takes puts both.0 in
     let one = and_parts (places_rise e.taken.members) (can_take e.taken.members d.members) lists.0 in
-    let two = and_parts (places_rise e.put.members) (can_put e.put.members (take_at e.taken.members d.members)) lists.1 in
+    let two =
+    and_parts (places_rise e.put.members) (can_put e.put.members (take_at e.taken.members d.members)) lists.1 in
     let rows = and_parts goes comes both.1 in
     let three = and_parts (are_apart e.taken.others e.replaced.old) (list_all (is_in d.others) (outs e)) rows.0 in
-    let four = and_parts (are_apart e.put.others e.replaced.new) (have_same_keys e.replaced.old e.replaced.new) rows.1 in
-    record { take_rise = one.0; take = one.1; put_rise = two.0; put = two.1; outs_apart = three.0; outs_there = three.1; ins_apart = four.0; paired = four.1 }
+    let four =
+    and_parts (are_apart e.put.others e.replaced.new) (have_same_keys e.replaced.old e.replaced.new) rows.1 in
+    record {
+      take_rise = one.0;
+      take = one.1;
+      put_rise = two.0;
+      put = two.1;
+      outs_apart = three.0;
+      outs_there = three.1;
+      ins_apart = four.0;
+      paired = four.1;
+    }
 
 pub apt_from : (d : Desk) (e : EditOf) → Apt d e → is_apt d e ≡ true
 unfolding is_apt
@@ -57,9 +75,14 @@ pub record Good (d : Desk) : Type 0 where
 pub good_parts : (d : Desk) → good d ≡ true → Good d
 unfolding good
 good_parts d h =
-    let both = and_parts (is_listed d && is_within_limits d) (list_all (is_named_there d) (rows_of d) && (list_all (is_alone d) (rows_of d) && list_all (obeys d) (rows_of d))) h in
+    let both =
+    and_parts (is_listed d && is_within_limits d)
+    (list_all (is_named_there d) (rows_of d) && (list_all (is_alone d) (rows_of d) && list_all (obeys d) (rows_of d)))
+    h in
     let front = and_parts (is_listed d) (is_within_limits d) both.0 in
-    let back = and_parts (list_all (is_named_there d) (rows_of d)) (list_all (is_alone d) (rows_of d) && list_all (obeys d) (rows_of d)) both.1 in
+    let back =
+    and_parts (list_all (is_named_there d) (rows_of d))
+    (list_all (is_alone d) (rows_of d) && list_all (obeys d) (rows_of d)) both.1 in
     let last = and_parts (list_all (is_alone d) (rows_of d)) (list_all (obeys d) (rows_of d)) back.1 in
     record { listed = front.0; within = front.1; named = back.0; alone = last.0; obey = last.1 }
 
@@ -89,20 +112,25 @@ fits_from d e f = and_from _ _ f.before (and_from _ _ (apt_from d e f.apt) f.lat
 -- ---- no row comes twice
 
 pub any_counts : (p : Row → Bool) (rs : List Row) (q : Row) → is_in rs q ≡ true → p q ≡ true → 1 ≤ count_by p rs
-any_counts p rs q one h = some_count p rs (true_from_ne_false _ (λ e. true_false (sym h ∙ not-true (p q) (at_each (λ r. not (p r)) rs q (none_pass p rs e) one))))
+any_counts p rs q one h =
+    some_count p rs (true_from_ne_false _
+    (λ e. true_false (sym h ∙ not-true (p q) (at_each (λ r. not (p r)) rs q (none_pass p rs e) one))))
 
 pub is_in-append : (rs ts : List Row) (q : Row) → is_in (rs ++ ts) q ≡ (is_in rs q || is_in ts q)
 is_in-append rs ts q = list_any-append (same_row q) rs ts
 
 -- each row claims its key
-pub claims_key : (d : Desk) (r : Row) → is_alone d r ≡ true → nat_eq (count_by (has_key (key_of r)) (rows_of d)) 1 ≡ true
+pub claims_key : (d : Desk) (r : Row) → is_alone d r ≡ true
+    → nat_eq (count_by (has_key (key_of r)) (rows_of d)) 1 ≡ true
 claims_key d r h = (and_parts _ _ (and_parts _ _ h).0).0
 
-pub one_key : (d : Desk) (r : Row) → good d ≡ true → is_in (rows_of d) r ≡ true → count_by (has_key (key_of r)) (rows_of d) ≡ 1
+pub one_key : (d : Desk) (r : Row) → good d ≡ true → is_in (rows_of d) r ≡ true
+    → count_by (has_key (key_of r)) (rows_of d) ≡ 1
 one_key d r h one = eqb-true _ _ (claims_key d r (at_each (is_alone d) (rows_of d) r (good_parts d h).alone one))
 
 -- in a good desk no row that came was there before
-pub none_was_there : (d : Desk) (e : EditOf) → good (exchanged d e) ≡ true → list_all (λ x. not (is_in (ins e) x)) (without_rows (outs e) d.others) ≡ true
+pub none_was_there : (d : Desk) (e : EditOf) → good (exchanged d e) ≡ true
+    → list_all (λ x. not (is_in (ins e) x)) (without_rows (outs e) d.others) ≡ true
 unfolding exchanged
 none_was_there d e h =
     let left = without_rows (outs e) d.others in
@@ -112,7 +140,9 @@ none_was_there d e h =
           let k = key_of q in
           let d' = exchanged d e in
           let itself : has_key k q ≡ true = key_itself k in
-          let there : is_in (rows_of d') q ≡ true = is_in-append (map Member d'.members) d'.others q ∙ or_right _ _ (is_in-with_rows (ins e) left q ∙ or_left _ _ two) in
+          let there : is_in (rows_of d') q ≡ true =
+          is_in-append (map Member d'.members) d'.others q
+          ∙ or_right _ _ (is_in-with_rows (ins e) left q ∙ or_left _ _ two) in
           let once = one_key d' q h there in
           let all = count_by-append (has_key k) (map Member d'.members) d'.others in
           let parts = count_by-with_rows (has_key k) (ins e) left in
@@ -129,8 +159,11 @@ unfolding exchanged
 exchanged_back d e f =
     let a = f.apt in
     let left = without_rows (outs e) d.others in
-    let members : put_at e.taken.members (take_at e.put.members (put_at e.put.members (take_at e.taken.members d.members))) ≡ d.members =
-    ap (put_at e.taken.members) (take_at-put_at e.put.members (take_at e.taken.members d.members) a.put) ∙ put_at-take_at e.taken.members d.members a.take in
+    let members : put_at e.taken.members
+    (take_at e.put.members (put_at e.put.members (take_at e.taken.members d.members)))
+    ≡ d.members =
+    ap (put_at e.taken.members) (take_at-put_at e.put.members (take_at e.taken.members d.members) a.put)
+    ∙ put_at-take_at e.taken.members d.members a.take in
     let others : with_rows (ins (inverse e)) (without_rows (outs (inverse e)) (with_rows (ins e) left)) ≡ d.others =
     ap (with_rows (outs e)) (without_rows-with_rows (ins e) left (none_was_there d e f.later))
     ∙ with_rows-without_rows (outs e) d.others (good_order d f.before) (outs_order a) a.outs_there in
@@ -148,7 +181,9 @@ apt_back d e f =
       put_rise = a.take_rise;
       put = ap (can_put e.taken.members) rest ∙ can_put-take_at e.taken.members d.members a.take;
       outs_apart = a.ins_apart;
-      outs_there = from_each (is_in (with_rows (ins e) left)) (ins e) (λ q one. is_in-with_rows (ins e) left q ∙ or_left _ _ one);
+      outs_there =
+          from_each (is_in (with_rows (ins e) left)) (ins e)
+          (λ q one. is_in-with_rows (ins e) left q ∙ or_left _ _ one);
       ins_apart = a.outs_apart;
       paired = same_keys_turned e.replaced.old e.replaced.new a.paired;
     }
@@ -165,12 +200,15 @@ pub inverse_fits : (d : Desk) (e : EditOf) → fits d e ≡ true → fits (after
 inverse_fits d e h =
     let f = fits_parts d e h in
     ap (λ x. fits x (inverse e)) (after_fits d e h)
-    ∙ fits_from (exchanged d e) (inverse e) record { before = f.later; apt = apt_back d e f; later = ap good (exchanged_back d e f) ∙ f.before }
+    ∙ fits_from (exchanged d e) (inverse e)
+    record { before = f.later; apt = apt_back d e f; later = ap good (exchanged_back d e f) ∙ f.before }
 
 pub undoes : (d : Desk) (e : EditOf) → fits d e ≡ true → after (after d e) (inverse e) ≡ d
 undoes d e h =
     let f = fits_parts d e h in
-    after_fits (after d e) (inverse e) (inverse_fits d e h) ∙ ap (λ x. exchanged x (inverse e)) (after_fits d e h) ∙ exchanged_back d e f
+    after_fits (after d e) (inverse e) (inverse_fits d e h)
+    ∙ ap (λ x. exchanged x (inverse e)) (after_fits d e h)
+    ∙ exchanged_back d e f
 
 pub fits_test : (d : Desk) (e : EditOf) → good d ≡ true → fits d e ≡ (is_apt d e && good (exchanged d e))
 unfolding fits

@@ -1,6 +1,7 @@
 -- Rows that have a member, a slot or a subscription in them.
 use Rattle.std.specs.Prelude.{◌≡◌}
-use Rattle.desk_rows.specs.laws.Words.{false, None, Some, refl, ap, Row, Member, Slot, Sub, SlotRow, SubRow, is_of, slot_in, sub_in, member_in}
+use Rattle.desk_rows.specs.laws.Words.{false, None, Some, refl, ap, Row, Member, Slot, Sub, SlotRow, SubRow, is_of}
+use Rattle.desk_rows.specs.laws.Words.{slot_in, sub_in, member_in}
 use Rattle.desk_rows.specs.declared.key.Kind.TheVariants as kinds
 
 pub its_slot : (r : Row) (s : SlotRow) → slot_in r ≡ Some s → r ≡ Slot s

@@ -1,6 +1,7 @@
 -- Lists of numbers are told apart and ordered as they should be.
 use Rattle.std.specs.Prelude.{◌≡◌, ◌≤◌, ◌||◌, ◌∷◌, ◌&&◌}
-use Rattle.desk_rows.specs.laws.Words.{ℕ, true, false, List, [], length, nat_lt, refl, sym, ap, ◌∙◌, arith, nat_eq, and_right, nat_tests, bytes_eq-Decides, bytes_eq, numbers_precede, same_numbers}
+use Rattle.desk_rows.specs.laws.Words.{ℕ, true, false, List, [], length, nat_lt, refl, sym, ap, ◌∙◌, arith, nat_eq}
+use Rattle.desk_rows.specs.laws.Words.{and_right, nat_tests, bytes_eq-Decides, bytes_eq, numbers_precede, same_numbers}
 use Rattle.desk_rows.specs.laws.ListLaws.{true_false}
 
 -- ---- the same numbers
@@ -24,8 +25,11 @@ numbers_themselves xs = same_numbers-bytes_eq xs xs ∙ (bytes_eq-Decides xs xs)
 
 -- ---- their order
 
-order_step : (x y : ℕ) (xs ys : List ℕ) → numbers_precede (x ∷ xs) (y ∷ ys) ≡ (nat_lt x y || (nat_eq x y && numbers_precede xs ys))
-order_step x y [] [] = sym (ap (λ b. nat_lt x y || b) (and_right (nat_eq x y) false refl) ∙ elim (nat_lt x y) as (λ b. (b || false) ≡ b) [ true ↦ refl | false ↦ refl ])
+order_step : (x y : ℕ) (xs ys : List ℕ)
+    → numbers_precede (x ∷ xs) (y ∷ ys) ≡ (nat_lt x y || (nat_eq x y && numbers_precede xs ys))
+order_step x y [] [] =
+    sym (ap (λ b. nat_lt x y || b) (and_right (nat_eq x y) false refl)
+    ∙ elim (nat_lt x y) as (λ b. (b || false) ≡ b) [ true ↦ refl | false ↦ refl ])
 order_step x y _ _ = refl
 
 pub numbers_not_before : (xs : List ℕ) → numbers_precede xs xs ≡ false
@@ -37,18 +41,32 @@ none_before_nothing [] = refl
 none_before_nothing (x ∷ []) = refl
 none_before_nothing (x ∷ a ∷ xs) = refl
 
-pub numbers_precede_on : (xs ys zs : List ℕ) → numbers_precede xs ys ≡ true → numbers_precede ys zs ≡ true → numbers_precede xs zs ≡ true
+pub numbers_precede_on : (xs ys zs : List ℕ) → numbers_precede xs ys ≡ true → numbers_precede ys zs ≡ true
+    → numbers_precede xs zs ≡ true
 numbers_precede_on [] ys zs e f = absurd (true_false (sym e))
 numbers_precede_on (x ∷ xs) [] zs e f = absurd (true_false (sym e ∙ none_before_nothing (x ∷ xs)))
 numbers_precede_on (x ∷ xs) (y ∷ ys) [] e f = absurd (true_false (sym f ∙ none_before_nothing (y ∷ ys)))
-numbers_precede_on (x ∷ xs) (y ∷ ys) (z ∷ zs) e f = grind (arith, nat_tests, e, f, order_step x y xs ys, order_step y z ys zs, order_step x z xs zs, numbers_precede_on xs ys zs)
+numbers_precede_on (x ∷ xs) (y ∷ ys) (z ∷ zs) e f =
+    grind (
+      arith,
+      nat_tests,
+      e,
+      f,
+      order_step x y xs ys,
+      order_step y z ys zs,
+      order_step x z xs zs,
+      numbers_precede_on xs ys zs,
+    )
 
 -- of two lists of one length that differ one stands before the other
-pub one_list_precedes : (xs ys : List ℕ) → length xs ≡ length ys → same_numbers xs ys ≡ false → (numbers_precede xs ys || numbers_precede ys xs) ≡ true
+pub one_list_precedes : (xs ys : List ℕ) → length xs ≡ length ys → same_numbers xs ys ≡ false
+    → (numbers_precede xs ys || numbers_precede ys xs) ≡ true
 one_list_precedes [] [] l e = absurd (true_false e)
 one_list_precedes [] (y ∷ ys) l e = absurd (omega (arith, l))
 one_list_precedes (x ∷ xs) [] l e = absurd (omega (arith, l))
-one_list_precedes (x ∷ xs) (y ∷ ys) l e = grind (arith, nat_tests, l, e, same_step x y xs ys, order_step x y xs ys, order_step y x ys xs, one_list_precedes xs ys)
+one_list_precedes (x ∷ xs) (y ∷ ys) l e =
+    grind
+    (arith, nat_tests, l, e, same_step x y xs ys, order_step x y xs ys, order_step y x ys xs, one_list_precedes xs ys)
 
 -- where a list precedes another its first number is not the greater
 pub first_rises : (x y : ℕ) (xs ys : List ℕ) → numbers_precede (x ∷ xs) (y ∷ ys) ≡ true → x ≤ y

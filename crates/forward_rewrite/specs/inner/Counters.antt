@@ -1,5 +1,6 @@
 -- How a stream goes on from what it keeps.
-use Rattle.std.specs.Prelude.{◌≡◌, ℕ, ◌+◌, ◌%◌, ◌^◌, Bool, ◌&&◌, if◌then◌else◌, nat_eq, List, length, map, Option, None, Some}
+use Rattle.std.specs.Prelude.{◌≡◌, ℕ, ◌+◌, ◌%◌, ◌^◌, Bool, ◌&&◌, if◌then◌else◌, nat_eq, List, length, map, Option, None}
+use Rattle.std.specs.Prelude.{Some}
 use Rattle.rtp_codec.specs.Address.{same_address}
 use Rattle.forward_rewrite.specs.declared.last_sent.LastSent.{LastSent}
 use Rattle.media_items.specs.Frame.{SourceFrame}

@@ -13,7 +13,8 @@ next_ts s rate = if is_some s.last then (s.ts + tick_at rate) % 2 ^ 32 else s.ts
 
 -- the header of its next packet, if that has this format
 abbrev pub next_header : MixOf → Format → Header
-next_header s format = record { marker = not s.spoke; pt = pt_of format; seq = s.next; ts = next_ts s (rate_of format); ssrc = s.ssrc }
+next_header s format =
+    record { marker = not s.spoke; pt = pt_of format; seq = s.next; ts = next_ts s (rate_of format); ssrc = s.ssrc }
 
 -- a tick's rate and moment
 abbrev pub time_at : ℕ → ℕ → TickTime

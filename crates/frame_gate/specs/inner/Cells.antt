@@ -1,5 +1,6 @@
 -- What the cells of a gate hold.
-use Rattle.std.specs.Prelude.{◌≡◌, ℕ, ◌%◌, if◌then◌else◌, nat_eq, nat_lt, List, Option, None, Some, slice_index_or, ◌⊎◌, ◌<◌, ◌+◌, ◌-◌, min}
+use Rattle.std.specs.Prelude.{◌≡◌, ℕ, ◌%◌, if◌then◌else◌, nat_eq, nat_lt, List, Option, None, Some, slice_index_or, ◌⊎◌}
+use Rattle.std.specs.Prelude.{◌<◌, ◌+◌, ◌-◌, min}
 use Rattle.std.specs.Option.{option_or}
 use Rattle.frame_gate.specs.Packets.{NumberedPacket}
 use Rattle.frame_gate.specs.Epochs.{gate_size}
@@ -32,4 +33,6 @@ MayForget to old new = (i : ℕ) → (cell new i ≡ cell old i) ⊎ (cell new i
 
 -- What is numbered from one number to before another is gone.
 abbrev pub Forgets : (from to : ℕ) → List (Option NumberedPacket) → List (Option NumberedPacket) → Type 0
-Forgets from to old new = (k : ℕ) → k < min (to - from) gate_size → cell new ((from + k) % gate_size) ≡ from_on to (cell old ((from + k) % gate_size))
+Forgets from to old new =
+    (k : ℕ) → k < min (to - from) gate_size
+    → cell new ((from + k) % gate_size) ≡ from_on to (cell old ((from + k) % gate_size))

@@ -7,7 +7,8 @@ use Rattle.frame_gate.specs.inner.Walks.{Stands}
 use Rattle.frame_gate.specs.Epochs.{Epoch, gate_size, pieces, packet_at}
 
 -- The walk has come as far as the epoch's run goes, and `at` finds what was taken from next on, which lies in the gate.
-pub record Tied (at : ℕ → Option NumberedPacket) (given : List WholeFrame) (e : Epoch) (w : Walk) (out : List WholeFrame) : Type 0 where
+pub record Tied (at : ℕ → Option NumberedPacket) (given : List WholeFrame) (e : Epoch) (w : Walk)
+    (out : List WholeFrame) : Type 0 where
   pub stands : Stands at e.cut given e.earlier (pieces e) w out
   pub agrees : (n : ℕ) → w.next ≤ n → at n ≡ packet_at e.taken n
   pub behind : (n : ℕ) → w.next + gate_size ≤ n → packet_at e.taken n ≡ None

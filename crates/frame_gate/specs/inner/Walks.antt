@@ -1,5 +1,6 @@
 -- How a walk stands to the divided run.
-use Rattle.std.specs.Prelude.{◌≡◌, ℕ, ◌+◌, Bool, true, false, not, if◌then◌else◌, ◌&&◌, nat_eq, List, [], ◌∷◌, ◌++◌, length, map, Option, None, Some}
+use Rattle.std.specs.Prelude.{◌≡◌, ℕ, ◌+◌, Bool, true, false, not, if◌then◌else◌, ◌&&◌, nat_eq, List, [], ◌∷◌, ◌++◌}
+use Rattle.std.specs.Prelude.{length, map, Option, None, Some}
 use Rattle.std.specs.List.{list_any}
 use Rattle.frame_gate.specs.Packets.{NumberedPacket, frame_packet}
 use Rattle.frame_gate.specs.Frame.{WholeFrame, marker_is_early}
@@ -14,9 +15,10 @@ abbrev pub is_nil : {X : Type 0} → List X → Bool
 is_nil [] = true
 is_nil (x ∷ xs) = false
 
--- The walk has come along a run from the cut that is divided so far, over what `at` finds; all frames given before, those here
--- included, are the earlier ones and those of the run.
-pub record Stands (at : ℕ → Option NumberedPacket) (cut : ℕ) (given earlier : List WholeFrame) (d : Divided) (w : Walk) (out : List WholeFrame) : Type 0 where
+-- The walk has come along a run from the cut that is divided so far, over what `at` finds; all frames given before,
+-- those here included, are the earlier ones and those of the run.
+pub record Stands (at : ℕ → Option NumberedPacket) (cut : ℕ) (given earlier : List WholeFrame) (d : Divided) (w : Walk)
+    (out : List WholeFrame) : Type 0 where
   pub after : w.after ≡ cut + length (joined d.closed) + length d.unclosed
   pub next : w.next ≡ next_in cut d
   pub first : w.first ≡ is_nil d.closed

@@ -14,8 +14,8 @@ abbrev pub BeginsAnew : List NumberedPacket → List NumberedPacket → Type 0
 BeginsAnew piece [] = ⊥
 BeginsAnew piece (next ∷ later) = differs piece next ≡ true
 
--- A closed piece has one timestamp, and no packet but its last one ends it; it is closed since the last one ends it, or since what
--- comes after it has another timestamp.
+-- A closed piece has one timestamp, and no packet but its last one ends it; it is closed since the last one ends it, or
+-- since what comes after it has another timestamp.
 pub record IsClosed (piece after : List NumberedPacket) : Type 0 where
   pub front : List NumberedPacket
   pub last : NumberedPacket
@@ -40,4 +40,5 @@ pub record IsDivision (run : List NumberedPacket) (d : Divided) : Type 0 where
 
 -- A run is divided in this way, and in no other.
 abbrev pub WholeDivision : Type 0
-WholeDivision = (run : List NumberedPacket) → IsDivision run (divided run) × ((d : Divided) → IsDivision run d → divided run ≡ d)
+WholeDivision =
+    (run : List NumberedPacket) → IsDivision run (divided run) × ((d : Divided) → IsDivision run d → divided run ≡ d)

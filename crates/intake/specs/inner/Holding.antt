@@ -26,7 +26,9 @@ kept_for key rate entries = kept_by rate (kept_at key entries)
 
 -- with this under the key, before the others, of which there may be so many with it
 abbrev pub put_within : ℕ → OriginKey → KeptOf → List (OriginKey × KeptOf) → List (OriginKey × KeptOf)
-put_within most key k entries = option_map_or (λ e. (e.0, k) ∷ remove_entry (same_key key) entries) (lookup_entry (same_key key) entries) ((key, k) ∷ take (most - 1) entries)
+put_within most key k entries =
+    option_map_or (λ e. (e.0, k) ∷ remove_entry (same_key key) entries) (lookup_entry (same_key key) entries)
+    ((key, k) ∷ take (most - 1) entries)
 
 abbrev pub put_first : OriginKey → KeptOf → List (OriginKey × KeptOf) → List (OriginKey × KeptOf)
 put_first key k entries = put_within most_known key k entries
@@ -38,8 +40,10 @@ Holds [] (k ∷ ks) = ⊥
 Holds (e ∷ es) [] = ⊥
 Holds (e ∷ es) (k ∷ ks) = ((e.0 ≡ key_of k.origin) × Keeps e.1 k.story) × Holds es ks
 
--- The prepared wait was committed at the gate of the source under a key, which stays where it stands, and has this epoch.
-pub record WaitedAt (old new : List (OriginKey × KeptOf)) (key : OriginKey) (r : PreparedWaitOf) (epoch : ℕ) : Type 0 where
+-- The prepared wait was committed at the gate of the source under a key, which stays where it stands, and has this
+-- epoch.
+pub record WaitedAt (old new : List (OriginKey × KeptOf)) (key : OriginKey) (r : PreparedWaitOf)
+    (epoch : ℕ) : Type 0 where
   pub before : KeptOf
   pub after : KeptOf
   pub kept : kept_at key old ≡ Some before

@@ -1,5 +1,6 @@
 -- What is kept of a source, and how it stands to the source's story.
-use Rattle.std.specs.Prelude.{◌≡◌, ℕ, ◌≤◌, Bool, nat_eq, if◌then◌else◌, List, [], ◌∷◌, ◌++◌, length, Option, None, Some, is_some, true}
+use Rattle.std.specs.Prelude.{◌≡◌, ℕ, ◌≤◌, Bool, nat_eq, if◌then◌else◌, List, [], ◌∷◌, ◌++◌, length, Option, None, Some}
+use Rattle.std.specs.Prelude.{is_some, true}
 use Rattle.source_valid.specs.declared.verdict.Verdict.{Verdict}
 use Rattle.source_valid.specs.inner.Kept.{Kept as SourceOf}
 use Rattle.source_valid.specs.Histories.{Step, Number, standing_of, verdict_of}
@@ -9,7 +10,8 @@ use Rattle.frame_gate.specs.Packets.{NumberedPacket}
 use Rattle.frame_gate.specs.Epochs.{most_missing}
 use Rattle.frame_gate.specs.Watched.{GateEvent, came, watch_of}
 use Rattle.frame_gate.specs.Admits.{Answers}
-use Rattle.frame_gate.specs.Waits.{WatchedOf as GateOf, PreparedPacketOf, PreparedWaitOf, Watches, CommitsPacket, CommitsWait, PreparesWait}
+use Rattle.frame_gate.specs.Waits.{WatchedOf as GateOf, PreparedPacketOf, PreparedWaitOf, Watches, CommitsPacket}
+use Rattle.frame_gate.specs.Waits.{CommitsWait, PreparesWait}
 use Rattle.intake.specs.Stories.{Story, Mark, initialises, arrival}
 
 -- a clock rate, a source, its epoch, and its gate, which it has from the first packet on that comes to it
@@ -51,7 +53,8 @@ pub record Judges (source : Option SourceOf) (m : Mark) (j : JudgedOf) : Type 0 
   pub range : IsInRange j.verdict
   pub verdict : (given : List Step) → HasGiven source given → j.verdict ≡ verdict_of (standing_of given) m.seq
   pub begins : (given : List Step) → HasGiven source given → j.begins ≡ initialises (standing_of given) j.verdict
-  pub given : (given : List Step) → HasGiven source given → IsGiven j.source (given ++ Number m.seq ∷ arrival j.verdict m)
+  pub given : (given : List Step) → HasGiven source given
+      → IsGiven j.source (given ++ Number m.seq ∷ arrival j.verdict m)
 
 -- a packet that is ready for a gate: a new one, where there was none
 pub record AdmissionOf : Type 0 where
@@ -65,7 +68,8 @@ base_of gate a = elim a.fresh [ None ↦ gate | Some fresh ↦ Some fresh ]
 -- Whatever came to the gate: once it is committed, one more packet is answered, and came to the gate too.
 pub record Admits (gate : Option GateOf) (p : NumberedPacket) (a : AdmissionOf) : Type 0 where
   pub ready : is_some (base_of gate a) ≡ true
-  pub after : (events : List GateEvent) (old new : GateOf) → HasGated gate events → base_of gate a ≡ Some old → CommitsPacket old a.prepared new
+  pub after : (events : List GateEvent) (old new : GateOf) → HasGated gate events → base_of gate a ≡ Some old
+      → CommitsPacket old a.prepared new
       → Answers (watch_of events).epoch p a.prepared.prepared.answer × HasGated (Some new) (events ++ came p ∷ [])
 
 -- what was ready was committed
@@ -76,7 +80,8 @@ pub record Settles (old : Option GateOf) (a : AdmissionOf) (new : Option GateOf)
   pub commits : CommitsPacket base a.prepared gate
   pub now : new ≡ Some gate
 
--- what a source is to become: its clock rate, with what it was given, its epoch, whether this begins with the packet, and what is ready for its gate
+-- what a source is to become: its clock rate, with what it was given, its epoch, whether this begins with the packet,
+-- and what is ready for its gate
 pub record NextOf : Type 0 where
   pub rate : ℕ
   pub source : SourceOf

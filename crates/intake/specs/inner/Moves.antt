@@ -30,13 +30,25 @@ epoch_in (Some k) = k.epoch
 
 -- a source with a judged packet, where so many epochs have begun
 abbrev pub next_of : Option KeptOf → ℕ → JudgedOf → Option AdmissionOf → NextOf
-next_of kept epochs j admission = record { rate = j.rate; source = j.source; epoch = if j.begins then epochs + 1 else epoch_in kept; begins = j.begins; admission = admission }
+next_of kept epochs j admission =
+    record {
+      rate = j.rate;
+      source = j.source;
+      epoch = if j.begins then epochs + 1 else epoch_in kept;
+      begins = j.begins;
+      admission = admission;
+    }
 
 -- This is kept now, before the others.
 abbrev pub IsKept : IntakeOf → IntakeOf → OriginKey → NextOf → Type 0
 IsKept old new key next =
     (k : KeptOf) × Becomes (kept_for key next.rate old.entries) next k
-    × (new ≡ record { asker = old.asker; entries = put_first key k old.entries; epochs = if next.begins then old.epochs + 1 else old.epochs })
+    × (new
+    ≡ record {
+      asker = old.asker;
+      entries = put_first key k old.entries;
+      epochs = if next.begins then old.epochs + 1 else old.epochs;
+    })
 
 -- the same, of a source with a judged packet
 abbrev pub Advances : IntakeOf → IntakeOf → OriginKey → JudgedOf → Option AdmissionOf → Type 0
@@ -58,11 +70,15 @@ given voice c epoch verdict answer = record {
 }
 
 -- The packet came to the source's gate.
-pub record Gates (old new : IntakeOf) (key : OriginKey) (j : JudgedOf) (c : Coming) (p : NumberedPacket) (ingested : Ingested) : Type 0 where
+pub record Gates (old new : IntakeOf) (key : OriginKey) (j : JudgedOf) (c : Coming) (p : NumberedPacket)
+    (ingested : Ingested) : Type 0 where
   pub admission : AdmissionOf
   pub admits : Admits (gate_for (kept_for key j.rate old.entries) j.begins) p admission
   pub advances : Advances old new key j (Some admission)
-  pub answers : (voice : Voice) → IsVoice voice → voice.asker ≡ old.asker → ingested ≡ given voice c (next_of (kept_for key j.rate old.entries) old.epochs j (Some admission)).epoch j.verdict admission.prepared.prepared.answer
+  pub answers : (voice : Voice) → IsVoice voice → voice.asker ≡ old.asker
+      → ingested
+      ≡ given voice c (next_of (kept_for key j.rate old.entries) old.epochs j (Some admission)).epoch j.verdict
+      admission.prepared.prepared.answer
 
 -- what is answered where the gate answers a wait so
 abbrev pub wait_given : Voice → Origin → (moment epoch : ℕ) → Waited → Ingested
@@ -73,8 +89,10 @@ wait_given voice o moment epoch answer = record {
 }
 
 -- The prepared wait was committed at the source's gate.
-pub record WaitsAtGate (old new : IntakeOf) (o : Origin) (moment : ℕ) (r : PreparedWaitOf) (ingested : Ingested) : Type 0 where
+pub record WaitsAtGate (old new : IntakeOf) (o : Origin) (moment : ℕ) (r : PreparedWaitOf)
+    (ingested : Ingested) : Type 0 where
   pub epoch : ℕ
   pub waited : WaitedAt old.entries new.entries (key_of o) r epoch
   pub others : new ≡ record old { entries = new.entries }
-  pub answers : (voice : Voice) → IsVoice voice → voice.asker ≡ old.asker → ingested ≡ wait_given voice o moment epoch (answer_in r)
+  pub answers : (voice : Voice) → IsVoice voice → voice.asker ≡ old.asker
+      → ingested ≡ wait_given voice o moment epoch (answer_in r)

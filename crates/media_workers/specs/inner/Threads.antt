@@ -27,10 +27,12 @@ abbrev pub ParcelsIn : Type 0 → Type 0
 ParcelsIn N = Consumer Parcel Global (FitParcels N)
 
 -- This is how a lane's run ended that began with this lane, this ring end, this sink and this pace.
-pub record IsRunOf {N P S : Type 0} (answers : P → ℕ → Bool → Type 0) (taken : Taking S) (feeds : S → Taker → Type 0) (lane : LaneNow) (consumer : ParcelsIn N) (sink : S) (pace : P) (end : LaneEnd N S) : Type 0 where
+pub record IsRunOf {N P S : Type 0} (answers : P → ℕ → Bool → Type 0) (taken : Taking S) (feeds : S → Taker → Type 0)
+    (lane : LaneNow) (consumer : ParcelsIn N) (sink : S) (pace : P) (end : LaneEnd N S) : Type 0 where
   pub ring : SameConsumer consumer end.consumer
   pub fed : (c : Taker) → feeds sink c → feeds end.sink c
-  pub ran : HasRun lane (answers pace) (record { parcels = received consumer; egress = taken sink }) (traffic_of taken end) (run_end end)
+  pub ran : HasRun lane (answers pace) (record { parcels = received consumer; egress = taken sink })
+      (traffic_of taken end) (run_end end)
 
 -- What ties what was sent down to a lane to whether it has had its End.
 abbrev pub IsWhole : List Parcel → Bool → Type 0

@@ -1,5 +1,6 @@
 -- What a tick makes ready, and what sending it leaves.
-use Rattle.std.specs.Prelude.{◌≡◌, ℕ, Bool, if◌then◌else◌, nat_eq, is_some, zero, suc, List, [], ◌∷◌, map, filter, Option, None, Some, unwrap_or}
+use Rattle.std.specs.Prelude.{◌≡◌, ℕ, Bool, if◌then◌else◌, nat_eq, is_some, zero, suc, List, [], ◌∷◌, map, filter}
+use Rattle.std.specs.Prelude.{Option, None, Some, unwrap_or}
 use Rattle.std.specs.Option.{option_map}
 use Rattle.std.specs.List.{AllByRecursion}
 use Rattle.desk_rows.specs.declared.row.Member.{Member as MemberRow}
@@ -30,17 +31,20 @@ abbrev pub current : Option MixOf → MemberRow → MixOf
 current kept m = unwrap_or kept (mix_state m.out_audio m.first_seq m.first_ts [])
 
 -- What is prepared is what the member hears, in the next tick of this stream.
-pub record IsPrepared (d : Desk) (voices : List Voice) (moment : ℕ) (m : MemberRow) (s : MixOf) (p : PreparedMixOf) : Type 0 where
+pub record IsPrepared (d : Desk) (voices : List Voice) (moment : ℕ) (m : MemberRow) (s : MixOf)
+    (p : PreparedMixOf) : Type 0 where
   pub sound : Sound
   pub hears : sound_for voices d m ≡ Some sound
   pub gives : GivesTick s p.next (sounding sound moment) (p.packet ∷ [])
   pub ssrc : p.next.ssrc ≡ s.ssrc
 
 -- What is ready is what its member hears, in the next tick of its stream.
-pub record IsReady (d : Desk) (voices : List Voice) (moment : ℕ) (streams : List (ℕ × MixOf)) (r : ReadyOf) : Type 0 where
+pub record IsReady (d : Desk) (voices : List Voice) (moment : ℕ) (streams : List (ℕ × MixOf))
+    (r : ReadyOf) : Type 0 where
   pub sound : Sound
   pub hears : sound_for voices d r.member ≡ Some sound
-  pub gives : GivesTick (current (mix_at r.member.out_audio streams) r.member) r.prepared.next (sounding sound moment) (r.prepared.packet ∷ [])
+  pub gives : GivesTick (current (mix_at r.member.out_audio streams) r.member) r.prepared.next (sounding sound moment)
+      (r.prepared.packet ∷ [])
   pub ssrc : r.prepared.next.ssrc ≡ (current (mix_at r.member.out_audio streams) r.member).ssrc
 
 -- All of this is what its members hear.

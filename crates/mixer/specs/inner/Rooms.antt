@@ -46,7 +46,8 @@ AreLong d voices = AllByRecursion (λ v. length v.samples ≡ tick_at (room_rate
 abbrev pub IsRate : Desk → RoomRate → Type 0
 IsRate d r = r.rate ≡ room_rate d r.room
 
--- a room: its clock rate, its sources and its inputs, in the same order, the member of each, how many are present before each, their total, and who is present, in network order
+-- a room: its clock rate, its sources and its inputs, in the same order, the member of each, how many are present
+-- before each, their total, and who is present, in network order
 pub record RoomOf : Type 0 where
   pub room : ℕ
   pub rate : ℕ

@@ -31,7 +31,8 @@ abbrev pub IsNext : List ℕ → List (OnceToken EntryOf) → OnceToken EntryOf 
 IsNext cells tokens next = slice_get cells (length tokens) ≡ Some next.of
 
 -- the tokens of a desk or a seat, with capacity for those of all cells
-pub record AreTokens (cells : List ℕ) (tokens : List (OnceToken EntryOf)) (capacity : ℕ) (after : Option (OnceToken EntryOf)) : Type 0 where
+pub record AreTokens (cells : List ℕ) (tokens : List (OnceToken EntryOf)) (capacity : ℕ)
+    (after : Option (OnceToken EntryOf)) : Type 0 where
   pub first : AreFirst cells tokens
   pub few : length cells ≤ capacity
   pub next : IfSome after (IsNext cells tokens)

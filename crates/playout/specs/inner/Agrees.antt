@@ -1,5 +1,6 @@
 -- What the ring holds.
-use Rattle.std.specs.Prelude.{[], ◌≡◌, ℕ, ℤ, ◌+◌, ◌<◌, ◌≤◌, List, length, Option, None, Some, unwrap_or, slice_index_or, slice_set}
+use Rattle.std.specs.Prelude.{[], ◌≡◌, ℕ, ℤ, ◌+◌, ◌<◌, ◌≤◌, List, length, Option, None, Some, unwrap_or, slice_index_or}
+use Rattle.std.specs.Prelude.{slice_set}
 use Rattle.playout.specs.Playout.{Pair, sample_at}
 
 -- The cells are the places from p on, and no place behind the last cell has a sample.

@@ -1,5 +1,6 @@
 -- Places as they are kept: in two arrays, from a start on and then from the front.
-use Rattle.std.specs.Prelude.{◌≡◌, ℕ, ℤ, pos, ◌+◌, ◌≤◌, suc, Bool, if◌then◌else◌, List, [], ◌∷◌, ◌++◌, length, take, drop, replicate, Option, None, Some, unwrap_or, is_none, slice_index_or}
+use Rattle.std.specs.Prelude.{◌≡◌, ℕ, ℤ, pos, ◌+◌, ◌≤◌, suc, Bool, if◌then◌else◌, List, [], ◌∷◌, ◌++◌, length, take}
+use Rattle.std.specs.Prelude.{drop, replicate, Option, None, Some, unwrap_or, is_none, slice_index_or}
 use Rattle.playout.specs.inner.Agrees.{filled}
 
 -- the places of two arrays: whether a sample is there, and the sample
@@ -24,7 +25,8 @@ fills cells i (s ∷ samples) = fills (filled cells i s) (suc i) samples
 -- how many of them are kept
 abbrev pub news : List (Option ℤ) → ℕ → List ℤ → ℕ
 news cells i [] = 0
-news cells i (s ∷ samples) = (if is_none (slice_index_or cells i None) then 1 else 0) + news (filled cells i s) (suc i) samples
+news cells i (s ∷ samples) =
+    (if is_none (slice_index_or cells i None) then 1 else 0) + news (filled cells i s) (suc i) samples
 
 -- with so many places emptied
 abbrev pub emptied : ℕ → ℕ → List (Option ℤ) → List (Option ℤ)

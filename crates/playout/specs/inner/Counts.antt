@@ -2,7 +2,8 @@
 use Rattle.std.specs.Prelude.{ℕ, ℤ, ◌≤◌, ◌*◌, Bool, List, length, Option}
 use Rattle.playout.specs.declared.offset.Offset.{Offset}
 use Rattle.playout.specs.declared.tally.SoundTally.{SoundTally}
-use Rattle.playout.specs.Renewal.{SourcePlay, late_weight, late_span, full_span, tallied, is_overdue, source_put, source_ticked}
+use Rattle.playout.specs.Renewal.{SourcePlay, late_weight, late_span, full_span, tallied, is_overdue, source_put}
+use Rattle.playout.specs.Renewal.{source_ticked}
 use Rattle.playout.specs.Playouts.{Keeps}
 use Rattle.playout.specs.inner.Holds.{SourceOf}
 
@@ -26,7 +27,8 @@ is_due kept offset samples = is_overdue (length kept.playout.cells) (tally_with 
 
 -- Whatever the old one keeps of a source, the new one keeps what the put makes of it.
 abbrev pub PutsInto : Bool → SourceOf → SourceOf → ℕ → ℕ → List ℤ → Type 0
-PutsInto renews old new rate ts samples = (s : SourcePlay) → Keeps renews old s → Keeps renews new (source_put rate s ts samples)
+PutsInto renews old new rate ts samples =
+    (s : SourcePlay) → Keeps renews old s → Keeps renews new (source_put rate s ts samples)
 
 -- Whatever the old one keeps of a source, the new one keeps what a take of 20 ms leaves of it.
 abbrev pub HasTicked : SourceOf → SourceOf → Type 0

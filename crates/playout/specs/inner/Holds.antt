@@ -21,7 +21,8 @@ pub record SourceOf : Type 0 where
 abbrev pub Holds : PlayoutOf → Option Play → Type 0
 Holds held None = held.begun ≡ false
 Holds held (Some play) =
-    (held.begun ≡ true) × (play.rate ≡ length held.cells) × (play.position % 2 ^ 32 ≡ held.position) × (2 ^ 31 ≤ play.position)
+    (held.begun ≡ true) × (play.rate ≡ length held.cells) × (play.position % 2 ^ 32 ≡ held.position)
+    × (2 ^ 31 ≤ play.position)
     × Agrees held.cells play.pairs play.position
 
 -- There are the places of a second, 50 to 48,000, and no sample before the first put.
@@ -30,7 +31,8 @@ pub record IsSound (begun : Bool) (cells : List (Option ℤ)) : Type 0 where
   pub most : length cells ≤ 48000
   pub blank : begun ≡ false → IsBlank cells
 
--- Whatever playout the old one holds, this becomes of one more put at its rate, and the new one holds what the put makes of it.
+-- Whatever playout the old one holds, this becomes of one more put at its rate, and the new one holds what the put
+-- makes of it.
 abbrev pub Puts : PlayoutOf → PlayoutOf → ℕ → List ℤ → PlacedSamples → Type 0
 Puts old new ts samples placed =
     (play : Option Play) → Holds old play
@@ -40,7 +42,8 @@ Puts old new ts samples placed =
 abbrev pub Shows : PlayoutOf → List ℤ → ℕ → Type 0
 Shows held out count = (play : Option Play) → Holds held play → PlaysOut play out count
 
--- Whatever playout it holds, these are the next samples, if it has this rate, and so many of them were there. Else they are zeros.
+-- Whatever playout it holds, these are the next samples, if it has this rate, and so many of them were there. Else they
+-- are zeros.
 abbrev pub ShowsAt : PlayoutOf → ℕ → List ℤ → ℕ → Type 0
 ShowsAt held rate out count = (play : Option Play) → Holds held play → PlaysOut (at_rate rate play) out count
 

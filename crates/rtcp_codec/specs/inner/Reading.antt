@@ -1,9 +1,11 @@
 -- Words of reading, inside the crate: what stands at the front of octets.
-use Rattle.std.specs.Prelude.{◌≡◌, ℕ, ◌+◌, ◌%◌, ◌^◌, ◌<◌, ◌≤◌, Bool, true, false, List, [], ◌∷◌, ◌++◌, length, Option, Some, None, IfSome, ◌⊎◌}
+use Rattle.std.specs.Prelude.{◌≡◌, ℕ, ◌+◌, ◌%◌, ◌^◌, ◌<◌, ◌≤◌, Bool, true, false, List, [], ◌∷◌, ◌++◌, length, Option}
+use Rattle.std.specs.Prelude.{Some, None, IfSome, ◌⊎◌}
 use Rattle.std.specs.List.{flat_map, AllByRecursion}
 use Rattle.rtcp_codec.specs.declared.fault.RtcpFault.{RtcpFault}
 use Rattle.rtcp_codec.specs.Description.{Item, Chunk, item_octets, chunk_octets, FitsItem, FitsChunk}
-use Rattle.rtcp_codec.specs.Packet.{Packet, kind, type_of, count_of, IsPacket, IsBody, Sender, Receiver, Sdes, Bye, App, Nack, Pli, Other}
+use Rattle.rtcp_codec.specs.Packet.{Packet, kind, type_of, count_of, IsPacket, IsBody, Sender, Receiver, Sdes, Bye, App}
+use Rattle.rtcp_codec.specs.Packet.{Nack, Pli, Other}
 use Rattle.rtcp_codec.specs.declared.kind.PacketKind.TheVariants as kinds
 use Rattle.rtcp_codec.specs.declared.report.ReportBlock.{ReportBlock}
 use Rattle.rtcp_codec.specs.Kind.{kind_of}
@@ -14,7 +16,8 @@ use Rattle.rtcp_codec.specs.Compound.{version, size, is_padded, kind_at, IsRepor
 -- the octets begin with items and a null
 abbrev pub HasItems : List ℕ → Type 0
 HasItems octets =
-    (items : List Item) × (rest : List ℕ) × AllByRecursion FitsItem items × (octets ≡ flat_map item_octets items ++ 0 ∷ rest)
+    (items : List Item) × (rest : List ℕ) × AllByRecursion FitsItem items
+    × (octets ≡ flat_map item_octets items ++ 0 ∷ rest)
 
 -- the octets begin with a chunk
 abbrev pub HasChunk : List ℕ → Type 0

@@ -60,7 +60,8 @@ place_of held bridge = record { bridge = bridge; line = held.line; pending = hel
 
 -- a run of which no octet was read
 abbrev pub IsOpening : Held → Type 0
-IsOpening held = ((decoding : Decoding) → Stands held.core (opening_bridge decoding)) × (held.line ≡ 1) × (held.pending ≡ [])
+IsOpening held =
+    ((decoding : Decoding) → Stands held.core (opening_bridge decoding)) × (held.line ≡ 1) × (held.pending ≡ [])
 
 -- no line has ended of what has come
 abbrev pub IsMidLine : Held → Type 0

@@ -4,4 +4,5 @@ use Rattle.source_valid.specs.declared.heard.Heard.{Heard}
 use Rattle.source_valid.specs.Reports.{dlsr_of}
 
 abbrev pub Delays : Type 0
-Delays = (h : Heard) (seconds : ℕ) → seconds < 2 ^ 16 → dlsr_of (Some h) (h.moment + seconds * 10 ^ 9) ≡ seconds * 2 ^ 16
+Delays =
+    (h : Heard) (seconds : ℕ) → seconds < 2 ^ 16 → dlsr_of (Some h) (h.moment + seconds * 10 ^ 9) ≡ seconds * 2 ^ 16

@@ -6,4 +6,5 @@ use Rattle.source_valid.specs.Stretches.{expected_of}
 abbrev pub Intervals : Type 0
 Intervals =
     (base : ℕ) (first second : List ℤ)
-    → expected_of base first + (expected_of base (first ++ second) - expected_of base first) ≡ expected_of base (first ++ second)
+    → expected_of base first + (expected_of base (first ++ second) - expected_of base first)
+    ≡ expected_of base (first ++ second)

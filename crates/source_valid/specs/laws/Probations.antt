@@ -1,4 +1,5 @@
--- Probation lasts while no number is one more than the number before it, and not longer (RFC 3550 A.1, MIN_SEQUENTIAL 2).
+-- Probation lasts while no number is one more than the number before it, and not longer (RFC 3550 A.1, MIN_SEQUENTIAL
+-- 2).
 use Rattle.std.specs.Prelude.{◌≡◌, ℕ, List, [], ◌∷◌, ◌++◌, fold}
 use Rattle.source_valid.specs.Stretches.{begun, following}
 use Rattle.source_valid.specs.Histories.{Unheard, Waiting, Valid, after_number}
@@ -17,4 +18,5 @@ abbrev pub Probations : Type 0
 Probations =
     (first : ℕ) (ns : List ℕ) → NoneFollows first ns
     → (fold after_number Unheard (first ∷ ns) ≡ Waiting (last_of first ns))
-    × (fold after_number Unheard (first ∷ (ns ++ following (last_of first ns) ∷ [])) ≡ Valid (begun (following (last_of first ns))))
+    × (fold after_number Unheard (first ∷ (ns ++ following (last_of first ns) ∷ []))
+    ≡ Valid (begun (following (last_of first ns))))

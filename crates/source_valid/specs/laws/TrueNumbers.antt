@@ -21,4 +21,5 @@ with_numbers s xs = record { base = s.base; accepted = s.accepted ++ map pos xs;
 -- All packets of a source past probation are accepted, with the sender's numbers as extended numbers.
 abbrev pub TrueNumbers : Type 0
 TrueNumbers =
-    (s : Stretch) (xs : List ℕ) → AreNear (greatest_of s) xs → fold after_number (Valid s) (map (λ x. x % 2 ^ 16) xs) ≡ Valid (with_numbers s xs)
+    (s : Stretch) (xs : List ℕ) → AreNear (greatest_of s) xs
+    → fold after_number (Valid s) (map (λ x. x % 2 ^ 16) xs) ≡ Valid (with_numbers s xs)

@@ -1,4 +1,5 @@
--- How the audio sources that may be heard, and the gains for them, are found from their rows. No public clause cites this.
+-- How the audio sources that may be heard, and the gains for them, are found from their rows. No public clause cites
+-- this.
 use Rattle.std.specs.Prelude.{ℕ, Bool, if◌then◌else◌, List, Option, None, Some}
 use Rattle.std.specs.Option.{is_some, option_and_then}
 use Rattle.std.specs.List.{find}

@@ -18,7 +18,10 @@ if_at address m = if same_address m.address address then Some m else None
 
 -- the member who sends the source from the address, unless the source is muted
 abbrev pub sender_from : Desk → ℕ → Address → Option MemberRow
-sender_from d source address = if is_muted d source then None else option_and_then (if_at address) (option_and_then (member_at d) (sender_of d source))
+sender_from d source address =
+    if is_muted d source
+    then None
+    else option_and_then (if_at address) (option_and_then (member_at d) (sender_of d source))
 
 -- a slot, unless it is this member's
 abbrev pub unless_own : MemberRow → SlotRow → Option SlotRow
@@ -39,7 +42,9 @@ unless_subscribed d s = if is_none (subscribed d s.out_ssrc) then Some s else No
 -- the slot of index 0 of a member of the sender's room, not the sender, unless it has a subscription
 abbrev pub viewer : Desk → MemberRow → MemberRow → Option SlotRow
 viewer d sender m =
-    if nat_eq m.room sender.room && not (nat_eq m.member sender.member) then option_and_then (unless_subscribed d) (first_slot d m.member) else None
+    if nat_eq m.room sender.room && not (nat_eq m.member sender.member)
+    then option_and_then (unless_subscribed d) (first_slot d m.member)
+    else None
 
 -- the members of the room, if it shows the source, and else none
 abbrev pub members_if_shown : Desk → ℕ → ℕ → List MemberRow
@@ -47,7 +52,9 @@ members_if_shown d source room = if is_this source (shown d room) then members_i
 
 -- These are they, in any order.
 abbrev pub AreShown : Desk → ℕ → ℕ → List MemberRow → Type 0
-AreShown d source room ms = (number : ℕ) → filter (λ m. nat_eq m.member number) ms ≡ filter (λ m. nat_eq m.member number) (members_if_shown d source room)
+AreShown d source room ms =
+    (number : ℕ)
+    → filter (λ m. nat_eq m.member number) ms ≡ filter (λ m. nat_eq m.member number) (members_if_shown d source room)
 
 -- the slots that take the source: those that have subscribed to it before those of these members that are shown it
 abbrev pub takers : Desk → ℕ → MemberRow → List MemberRow → List SlotRow

@@ -26,7 +26,8 @@ reader_of notice v = record { publisher = notice.publisher; start = start_of v; 
 -- the page goes on from what was seen
 abbrev pub IsLater : Desk → Option (Sight Desk NoticeOf) → Page → Type 0
 IsLater start None page = Unit {0}
-IsLater start (Some s) page = (s.start ≡ start) × (page.notice.publisher ≡ s.notice.publisher) × IsPrefix s.notice.lists page.notice.lists
+IsLater start (Some s) page =
+    (s.start ≡ start) × (page.notice.publisher ≡ s.notice.publisher) × IsPrefix s.notice.lists page.notice.lists
 
 -- the lists lead from a first desk to the page's, and they go on from what each owner has seen
 abbrev pub Kept : (Desk → List EditOf → Desk) → Page → List (Option (Sight Desk NoticeOf)) → Type 0
@@ -35,9 +36,11 @@ Kept step page views =
     × ((seat : ℕ) (v : Option (Sight Desk NoticeOf)) → get_elem? views seat ≡ some v → IsLater start v page)
 
 -- the page that is shown was seen
-abbrev pub Sees : (Desk → List EditOf → Desk) → Option (Sight Desk NoticeOf) → Page → Page → Option (Sight Desk NoticeOf) → Type 0
+abbrev pub Sees : (Desk → List EditOf → Desk) → Option (Sight Desk NoticeOf) → Page → Page
+    → Option (Sight Desk NoticeOf) → Type 0
 Sees step v x y w =
-    (start : Desk) × (w ≡ Some (record { start = start; notice = y.notice })) × IsLater start v y × (y.desk ≡ fold step start y.notice.lists)
+    (start : Desk) × (w ≡ Some (record { start = start; notice = y.notice })) × IsLater start v y
+    × (y.desk ≡ fold step start y.notice.lists)
 
 -- lists of this publisher were seen
 abbrev pub IsOf : Book → Option (Sight Desk NoticeOf) → Type 0

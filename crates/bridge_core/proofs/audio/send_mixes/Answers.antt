@@ -7,7 +7,8 @@ pub returns-clause-ticks : goal.returns-clause-ticks
 returns-clause-ticks g c before given =
     let does = c.in_ok-mixes.ensures.ticks before given in (
       c.emit_mixes.ensures
-          ∙ ap (λ es. map sent_of es ++ map (mix_to c.args.visit.now.stamp) c.in_ok-mixes.mixes.items) c.in_ok-out.ensures.items
+          ∙ ap (λ es. map sent_of es ++ map (mix_to c.args.visit.now.stamp) c.in_ok-mixes.mixes.items)
+          c.in_ok-out.ensures.items
           ∙ ap (map (mix_to c.args.visit.now.stamp)) does.0,
       does.1,
     )

@@ -16,9 +16,16 @@ returns g c =
     let visit = visit_on at (Input.pli loss) in
     let to : Address = record { ip = c.in-Some.to.ip; port = c.in-Some.to.port } in
     let packet = λ (octets : List ℕ). controls visit c.args.out_ssrc to octets ∷ [] in
-    let asked = λ (cname : List ℕ). written (upstream_packets (record { ssrc = at.settings.now.bridge_ssrc; cname = cname }) c.in-Some.source [] true) in
+    let asked = λ (cname : List ℕ).
+    written
+    (upstream_packets (record { ssrc = at.settings.now.bridge_ssrc; cname = cname }) c.in-Some.source [] true) in
     let mine = sym c.is_mine.ensures ∙ c.if-not-is_mine.false in
     IfOk-weaker c.only.result _ _ (λ sent is.
-    is ∙ ap packet (c.in_ok-bytes.ensures.packed [] (record { names = refl; packed = tt; fits = tt }) ∙ ap asked c.deref.ensures)
+    is
+    ∙ ap packet
+    (c.in_ok-bytes.ensures.packed [] (record { names = refl; packed = tt; fits = tt }) ∙ ap asked c.deref.ensures)
     ∙ ap (passed_up (asker_of at) visit loss) (sym c.in-Some.is ∙ c.pli_up.ensures)
-    ∙ sym (ap (λ b. cond b (passed_up (asker_of at) visit loss (pli_up at.rows.now c.args.from.now c.args.out_ssrc)) []) mine)) c.only.ensures
+    ∙ sym
+    (ap (λ b. cond b (passed_up (asker_of at) visit loss (pli_up at.rows.now c.args.from.now c.args.out_ssrc)) [])
+    mine))
+    c.only.ensures

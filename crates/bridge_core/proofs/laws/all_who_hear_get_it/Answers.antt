@@ -11,4 +11,5 @@ returns c who lanes lane start before moment m sound h mine its hears_it =
       samples = c.ticks_add_what_is_heard.ensures.samples;
       renewing = c.ticks_add_what_is_heard.ensures.renewing;
       once = c.mixes_go_to_their_members.ensures;
-    }) (version_of before) (items_given lane before + 1) (desk_of start before) moment (visits lane start before) h who lane lanes m sound mine its hears_it
+    }) (version_of before) (items_given lane before + 1) (desk_of start before) moment (visits lane start before) h who
+    lane lanes m sound mine its hears_it

@@ -11,6 +11,7 @@ returns c who lanes lane start before moment h = (
     samples = c.ticks_add_what_is_heard.ensures.samples;
     renewing = c.ticks_add_what_is_heard.ensures.renewing;
     once = c.mixes_go_to_their_members.ensures;
-  }) (version_of before) (items_given lane before + 1) (desk_of start before) moment (visits lane start before) (λ front m back e. c.mixes_are_apart.ensures (desk_of start before) front m back h e) who lane lanes,
+  }) (version_of before) (items_given lane before + 1) (desk_of start before) moment (visits lane start before)
+      (λ front m back e. c.mixes_are_apart.ensures (desk_of start before) front m back h e) who lane lanes,
   tt,
 )

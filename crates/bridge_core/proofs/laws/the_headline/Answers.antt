@@ -10,7 +10,8 @@ use Rattle.bridge_core.proofs.WholeRunLaws.{played, good_before, good_desk}
 use Rattle.bridge_core.proofs.laws.the_headline.Goals as goal
 
 pub returns-clause-undone : goal.returns-clause-undone
-returns-clause-undone c first middle last commands replies accepts undoes = c.commands_come_back.ensures.back first middle last commands replies accepts undoes
+returns-clause-undone c first middle last commands replies accepts undoes =
+    c.commands_come_back.ensures.back first middle last commands replies accepts undoes
 
 pub returns-clause-holds : goal.returns-clause-holds
 returns-clause-holds c start events sent first last h taken called plays =
@@ -34,15 +35,30 @@ returns-clause-holds c start events sent first last h taken called plays =
             | Input.audio sound ↦ refl
             | Input.tick moment ↦ record {
               heard = (c.mixes_are_heard.ensures who lanes lane start before moment desk).0;
-              whole = λ m sound mine its hears_it. c.all_who_hear_get_it.ensures who lanes lane start before moment m sound desk mine its hears_it;
+              whole = λ m sound mine its hears_it.
+                  c.all_who_hear_get_it.ensures who lanes lane start before moment m sound desk mine its hears_it;
             }
             | Input.nack request ↦ c.resends_lead_back.ensures who lanes lane start before request h all
-            | Input.block told ↦ record { given = note_share who lanes lane start before told; each = (c.notes_lead_back.ensures who lanes lane start before told h all).0 }
-            | Input.pli loss ↦ record { given = loss_share who lanes lane start before loss; each = (c.picture_losses_go_to_the_chosen.ensures who lanes lane start before loss).0 }
-            | Input.report moment ↦ record { given = refl; each = (c.reports_count_first_sendings.ensures who lanes lane start before moment h all).0 }
+            | Input.block told ↦
+                record {
+                  given = note_share who lanes lane start before told;
+                  each = (c.notes_lead_back.ensures who lanes lane start before told h all).0;
+                }
+            | Input.pli loss ↦
+                record {
+                  given = loss_share who lanes lane start before loss;
+                  each = (c.picture_losses_go_to_the_chosen.ensures who lanes lane start before loss).0;
+                }
+            | Input.report moment ↦
+                record {
+                  given = refl;
+                  each = (c.reports_count_first_sendings.ensures who lanes lane start before moment h all).0;
+                }
             | Input.renew ↦ refl
           ];
     }
 
 pub returns-clause-lanes : goal.returns-clause-lanes
-returns-clause-lanes c who few many start events ssrc some others = c.lane_count_does_not_matter.ensures.every_lane who few many start (steps_of (no_calls start) events) ssrc some others
+returns-clause-lanes c who few many start events ssrc some others =
+    c.lane_count_does_not_matter.ensures.every_lane who few many start (steps_of (no_calls start) events) ssrc some
+    others

@@ -16,13 +16,20 @@ loop-one-preserved g c =
     let apart = subst (λ (rs : List ReadyOf). AreDistinct (receivers_of rs)) steps inv.apart in
     let fit = subst (λ (rs : List ReadyOf). AllFit c.loop-one.table.entries rs) steps inv.fit in
     record {
-      streams = λ k. ap (kept_after k left) (c.commit_one.ensures.streams k) ∙ ap (λ rs. kept_after k rs (stream_at k c.loop-one.table.entries)) (sym steps) ∙ inv.streams k;
+      streams = λ k.
+          ap (kept_after k left) (c.commit_one.ensures.streams k)
+          ∙ ap (λ rs. kept_after k rs (stream_at k c.loop-one.table.entries)) (sym steps)
+          ∙ inv.streams k;
       apart = apart.1;
-      fit = still_fit c.loop-one.table.entries c.commit_one.new.table.entries one left apart.0 c.commit_one.ensures.streams fit.1;
+      fit =
+          still_fit c.loop-one.table.entries c.commit_one.new.table.entries one left apart.0
+          c.commit_one.ensures.streams
+          fit.1;
       capacity = omega (arith, ap length steps, c.commit_one.ensures.spare);
     }
 
 pub returns : goal.returns
 returns g c k =
-    let none : into_iter_items c.loop-one.one-iterator ≡ [] = nil_from_length _ (let e = c.in-None.ensures.steps.0 in let ok = c.loop-one.one-iterator.rest.ok in omega arith) in
+    let none : into_iter_items c.loop-one.one-iterator ≡ [] =
+    nil_from_length _ (let e = c.in-None.ensures.steps.0 in let ok = c.loop-one.one-iterator.rest.ok in omega arith) in
     sym (ap (λ rs. kept_after k rs (stream_at k c.loop-one.table.entries)) none) ∙ c.loop-one.invariant.streams k

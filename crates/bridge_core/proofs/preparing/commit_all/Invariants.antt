@@ -1,4 +1,5 @@
--- What is left leads to the same as all from the start, each stream can go on with its part, and the capacity suffices for it.
+-- What is left leads to the same as all from the start, each stream can go on with its part, and the capacity suffices
+-- for it.
 use Rattle.std.proofs.Common.{◌≡◌, ℕ, ◌≤◌, length}
 use Rattle.std.specs.Vec.Iter.{into_iter_items}
 use Rattle.indexmap.specs.IndexMap.{spare}
@@ -11,7 +12,9 @@ abbrev pub invariant-loop-one : goal.invariant-loop-one
 invariant-loop-one g l =
     let rest = into_iter_items l.one-iterator in
     record {
-      streams : (ssrc : ℕ) → kept_after ssrc rest (stream_at ssrc l.table.entries) ≡ kept_after ssrc l.fn.ready.items (stream_at ssrc l.fn.table.entries);
+      streams : (ssrc : ℕ)
+          → kept_after ssrc rest (stream_at ssrc l.table.entries)
+          ≡ kept_after ssrc l.fn.ready.items (stream_at ssrc l.fn.table.entries);
       apart : AreDistinct (receivers_of rest);
       fit : AllFit l.table.entries rest;
       capacity : length rest ≤ spare l.table;

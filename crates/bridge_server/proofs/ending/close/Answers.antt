@@ -23,7 +23,8 @@ returns-clause-one g c log legal tells =
     let ended = c.close-ends.ensures.ended in
     let last = c.args.last.now in
     subst (λ sent. IsOneRun who start (calls_of log) (sent_into sent)) (sym c.in_ok-sent.ensures)
-    (one_run _ (λ s. taken_list s.sent.taken) (λ s. s.sent) (λ s. refl) who g.H.Setup.lanes start g.H.DeskBrand.publisher
+    (one_run _ (λ s. taken_list s.sent.taken) (λ s. s.sent) (λ s. refl) who g.H.Setup.lanes start
+    g.H.DeskBrand.publisher
     log last feed ends c.media_in-media.ensures.begun c.requires.first
     legal tells ended (c.lanes_saw_what_they_know.ensures (ports_in feed) ends ended last.lists c.in_ok-compare.ensures)
     (c.the_running_headline.ensures.holds start log (ports_in feed) ends)
@@ -35,7 +36,8 @@ returns-clause-dropped g c =
     let dropped = c.in_ok-dropped.dropped in
     dropped.ok.0 ∙ (ap length c.in_ok-dropped.ensures ∙ (length-map feed (λ x. x.dropped)
     ∙ (as_many _ (λ s. taken_list s.sent.taken) g.H.Setup.who g.H.Setup.lanes g.H.DeskBrand.start
-    g.H.DeskBrand.publisher feed c.close-ends.result.items c.media_in-media.ensures.begun c.close-ends.ensures.ended).0))
+    g.H.DeskBrand.publisher feed c.close-ends.result.items c.media_in-media.ensures.begun
+    c.close-ends.ensures.ended).0))
 
 pub returns-clause-sent : goal.returns-clause-sent
 returns-clause-sent g c =

@@ -9,7 +9,8 @@ use Rattle.bridge_server.proofs.RunLemmas.{lanes_begun}
 use Rattle.bridge_server.proofs.opening.media_of.Goals as goal
 
 pub start-requires-clause-publisher : goal.start-requires-clause-publisher
-start-requires-clause-publisher g c κs within k d low = ap (λ (reader : ReaderOf). reader.publisher) (c.requires.readers k d low)
+start-requires-clause-publisher g c κs within k d low =
+    ap (λ (reader : ReaderOf). reader.publisher) (c.requires.readers k d low)
 
 pub returns-in-Ok : goal.returns-in-Ok
 returns-in-Ok g c =
@@ -23,11 +24,16 @@ returns-in-Ok g c =
     subst (λ (w : Asker). All (λ (lane : LaneNow). lane.state.who ≡ w) lanes) c.requires.who c.in-Ok.ensures.who in
     let count : length c.args.readers.items ≡ many = sym c.args.readers.ok.0 ∙ c.requires.lanes in
     let copy = c.in_ok-try_clone.field-0 in
-    let same : ◌≡◌ {A = Asker} (record { ssrc = copy.bridge_ssrc; cname = copy.cname }) (record { ssrc = here.bridge_ssrc; cname = here.cname }) =
-    ap (λ (s : ℕ). record { ssrc = s; cname = copy.cname }) c.in_ok-try_clone.ensures.0 ∙ ap (λ (n : List ℕ). record { ssrc = here.bridge_ssrc; cname = n }) c.in_ok-try_clone.ensures.1 in
+    let same : ◌≡◌ {A = Asker} (record { ssrc = copy.bridge_ssrc; cname = copy.cname })
+    (record { ssrc = here.bridge_ssrc; cname = here.cname }) =
+    ap (λ (s : ℕ). record { ssrc = s; cname = copy.cname }) c.in_ok-try_clone.ensures.0
+    ∙ ap (λ (n : List ℕ). record { ssrc = here.bridge_ssrc; cname = n }) c.in_ok-try_clone.ensures.1 in
     subst (IsSetUp who many start publisher) (sym c.new-in-Ok.ensures)
     (record {
-      begun = lanes_begun who many publisher start lanes c.args.readers.items c.in-Ok.ensures.new named c.in-Ok.ensures.readers count c.requires.readers;
+      begun =
+          lanes_begun who many publisher start lanes c.args.readers.items c.in-Ok.ensures.new named
+          c.in-Ok.ensures.readers
+          count c.requires.readers;
       asker = c.in_ok-intake.ensures.asker ∙ (same ∙ c.requires.who);
     })
 
@@ -35,6 +41,8 @@ pub new-requires-in-Ok : goal.new-requires-in-Ok
 new-requires-in-Ok g c =
     let here = c.args.settings in
     let copy = c.in_ok-try_clone.field-0 in
-    let same : ◌≡◌ {A = Asker} (record { ssrc = copy.bridge_ssrc; cname = copy.cname }) (record { ssrc = here.bridge_ssrc; cname = here.cname }) =
-    ap (λ (s : ℕ). record { ssrc = s; cname = copy.cname }) c.in_ok-try_clone.ensures.0 ∙ ap (λ (n : List ℕ). record { ssrc = here.bridge_ssrc; cname = n }) c.in_ok-try_clone.ensures.1 in
+    let same : ◌≡◌ {A = Asker} (record { ssrc = copy.bridge_ssrc; cname = copy.cname })
+    (record { ssrc = here.bridge_ssrc; cname = here.cname }) =
+    ap (λ (s : ℕ). record { ssrc = s; cname = copy.cname }) c.in_ok-try_clone.ensures.0
+    ∙ ap (λ (n : List ℕ). record { ssrc = here.bridge_ssrc; cname = n }) c.in_ok-try_clone.ensures.1 in
     record { cost = c.in_ok-cost.ensures ∙ ap pli_octets (sym (c.in_ok-intake.ensures.asker ∙ same)) }

@@ -8,6 +8,8 @@ use Rattle.desk_edit.proofs.Claimed.{ssrc_claimed}
 pub returns-else-is_stream : goal.returns-else-is_stream
 returns-else-is_stream g c =
     let d = c.args.rows.now in
-    c.any_member_claims-else-is_stream.ensures ∙ (λ i. list_any (λ m. makes (c.in-Ssrc.is i) (rows.Member m)) (c.members-else-is_stream.ensures.members i))
-    ∙ sym (ap (λ b. b || list_any (λ m. makes (claims.Ssrc c.in-Ssrc.ssrc) (rows.Member m)) d.members) (sym c.is_stream.ensures.there ∙ c.if-is_stream.false))
+    c.any_member_claims-else-is_stream.ensures
+    ∙ (λ i. list_any (λ m. makes (c.in-Ssrc.is i) (rows.Member m)) (c.members-else-is_stream.ensures.members i))
+    ∙ sym (ap (λ b. b || list_any (λ m. makes (claims.Ssrc c.in-Ssrc.ssrc) (rows.Member m)) d.members)
+    (sym c.is_stream.ensures.there ∙ c.if-is_stream.false))
     ∙ sym (ssrc_claimed d c.is_stream.ensures.good c.in-Ssrc.ssrc) ∙ sym (ap (is_claimed d) c.in-Ssrc.is)

@@ -6,5 +6,8 @@ use Rattle.desk_edit.proofs.Parted.{parted_among}
 pub returns : goal.returns
 returns g c =
     let d = c.args.rows.now in
-    let is = ap (filter (λ r. not (are_together (with_member_in d c.args.member c.args.room) (names r)))) (c.deref.ensures.value ∙ c.in_ok-dependent.ensures.others) ∙ parted_among d c.args.member c.args.room c.others_going.ensures.good in
+    let is =
+    ap (filter (λ r. not (are_together (with_member_in d c.args.member c.args.room) (names r))))
+    (c.deref.ensures.value ∙ c.in_ok-dependent.ensures.others)
+    ∙ parted_among d c.args.member c.args.room c.others_going.ensures.good in
     subst (λ (xs : List Row). IfOk c.parted.result (λ v. v.items ≡ xs)) is c.parted.ensures

@@ -7,4 +7,5 @@ use Rattle.desk_edit.proofs.MembersGoing.{none_placed}
 pub others_going-requires : goal.others_going-requires
 others_going-requires g c none =
     let d = c.args.rows.now in
-    none_placed 0 (λ m. goes_with d c.args.key (rows.Member m)) d.members (sym c.in_ok-members.ensures.members ∙ nothing c.in_ok-members.members.items _ (sym c.in_ok-members.members.ok.0) (sym c.is_empty.ensures ∙ none))
+    none_placed 0 (λ m. goes_with d c.args.key (rows.Member m)) d.members (sym c.in_ok-members.ensures.members
+    ∙ nothing c.in_ok-members.members.items _ (sym c.in_ok-members.members.ok.0) (sym c.is_empty.ensures ∙ none))

@@ -23,15 +23,22 @@ loop-command-preserved g c =
     record {
       more = was.more ++ e ∷ [];
       few = omega (arith, ap length left, was.few, c.push_reserved.ensures.len);
-      capacity = omega (arith, ap length left, was.capacity, c.push_reserved.ensures.len, c.push_reserved.ensures.capacity);
+      capacity =
+          omega (arith, ap length left, was.capacity, c.push_reserved.ensures.len, c.push_reserved.ensures.capacity);
       room = c.push_reserved.ensures.capacity ∙ was.room;
-      all = c.push_reserved.ensures.items ∙ ap (λ es. es ++ e ∷ []) was.all ∙ append_assoc c.args.edits.now.items was.more (e ∷ []);
-      fit = all_fit-push fits after start was.more e ∙ and_from _ _ was.fit (ap (λ x. fits x e) was.leads ∙ c.in_ok-edit.ensures.fits);
+      all =
+          c.push_reserved.ensures.items
+          ∙ ap (λ es. es ++ e ∷ []) was.all
+          ∙ append_assoc c.args.edits.now.items was.more (e ∷ []);
+      fit =
+          all_fit-push fits after start was.more e
+          ∙ and_from _ _ was.fit (ap (λ x. fits x e) was.leads ∙ c.in_ok-edit.ensures.fits);
       leads = fold_push after start was.more e ∙ ap (λ x. after x e) was.leads ∙ sym c.absorb_fitting.ensures;
       to = ap (λ x. fold desk_after x later) next ∙ sym (ap (fold desk_after d) left) ∙ was.to;
       each = omega (arith, length-append was.more (e ∷ []), ap length left, was.each);
       refused =
           (λ i. part_refused (c.push_reserved.ensures.len i) (next i) later)
-          ∙ sym (ap (λ why. part_or_later part why (part_refused (part + 1) (desk_after d command) later)) c.in_ok-edit.ensures.accepted)
+          ∙ sym (ap (λ why. part_or_later part why (part_refused (part + 1) (desk_after d command) later))
+          c.in_ok-edit.ensures.accepted)
           ∙ sym (ap (part_refused part d) left) ∙ was.refused;
     }

@@ -5,7 +5,8 @@ use Rattle.desk_edit.proofs.picking.members_picked.Given as goal
 
 abbrev pub invariant-loop-member : goal.invariant-loop-member
 invariant-loop-member g l = record {
-  so_far : l.placed.items ++ placed_from (l.count - length l.rest) (picks l.fn.picked) l.rest ≡ placed_from 0 (picks l.fn.picked) l.fn.members;
+  so_far : l.placed.items ++ placed_from (l.count - length l.rest) (picks l.fn.picked) l.rest
+      ≡ placed_from 0 (picks l.fn.picked) l.fn.members;
   few : length l.rest ≤ l.count;
 }
 

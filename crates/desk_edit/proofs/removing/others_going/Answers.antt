@@ -12,4 +12,6 @@ returns-then-level-eq3-clause-others g c =
 
 pub with-requires-clause-nobody : goal.with-requires-clause-nobody
 with-requires-clause-nobody g c none =
-    (λ i. list_any (λ m. goes_with (c.of.ensures.rows i) (c.of.ensures.key i) (rows.Member m)) (c.of.ensures.rows i).members) ∙ c.requires none
+    (λ i.
+    list_any (λ m. goes_with (c.of.ensures.rows i) (c.of.ensures.key i) (rows.Member m)) (c.of.ensures.rows i).members)
+    ∙ c.requires none

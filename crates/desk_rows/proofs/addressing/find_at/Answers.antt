@@ -4,10 +4,12 @@ use Rattle.desk_rows.proofs.addressing.find_at.Goals as goal
 
 pub returns-in-Ok-clause-at : goal.returns-in-Ok-clause-at
 returns-in-Ok-clause-at c =
-    here c.args.address.now c.args.table.now c.in-Ok.place (c.in-Ok.ensures.position ip_and_port (answers_always _ _ _ (λ f a r k called. search rules))) _
+    here c.args.address.now c.args.table.now c.in-Ok.place
+    (c.in-Ok.ensures.position ip_and_port (answers_always _ _ _ (λ f a r k called. search rules))) _
 
 pub returns-in-Err-clause-none : goal.returns-in-Err-clause-none
 returns-in-Err-clause-none c =
     let a = c.args.address.now in
     let parts = c.in-Err.ensures.position ip_and_port (answers_always _ _ _ (λ f a r k called. search rules)) in
-    nowhere a c.args.table.now c.in-Err.field-0 (parts (searchable_from_sorted address_cmp_total ip_and_port c.args.table.now (a.ip, a.port) c.requires))
+    nowhere a c.args.table.now c.in-Err.field-0
+    (parts (searchable_from_sorted address_cmp_total ip_and_port c.args.table.now (a.ip, a.port) c.requires))

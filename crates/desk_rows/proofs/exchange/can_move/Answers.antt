@@ -4,7 +4,8 @@ use Rattle.desk_rows.proofs.ExchangeLemmas.{taken_few, put_places}
 use Rattle.desk_rows.proofs.exchange.can_move.Goals as goal
 
 pub overflow_sub-members : goal.overflow_sub-members
-overflow_sub-members c = taken_few c.args.taken.now c.args.members.now (sym c.can_be_taken.ensures ∙ c.if-not-can_be_taken.false)
+overflow_sub-members c =
+    taken_few c.args.taken.now c.args.members.now (sym c.can_be_taken.ensures ∙ c.if-not-can_be_taken.false)
 
 pub returns : goal.returns
 returns c =

@@ -1,4 +1,5 @@
-use Rattle.desk_rows.specs.laws.Words.{cond, not, insert, length, ap, subst, ◌∙◌, arith, rules, IsPartitionPoint-from_clause, stand_by, in_turn, Parts}
+use Rattle.desk_rows.specs.laws.Words.{cond, not, insert, length, ap, subst, ◌∙◌, arith, rules}
+use Rattle.desk_rows.specs.laws.Words.{IsPartitionPoint-from_clause, stand_by, in_turn, Parts}
 use Rattle.std.proofs.Math.Bool.{not-not}
 use Rattle.desk_rows.proofs.GroupLemmas.{stand_by-insert, parted_by, in_turn_on, in_turn_either}
 use Rattle.desk_rows.proofs.following.put_entry.Goals as goal
@@ -13,8 +14,13 @@ returns-clause-order g c =
     let i = c.partition_point-place.result in
     let there = c.deref.ensures.value in
     let found = c.partition_point-place.ensures in
-    let parted = parted_by may (in_turn_on group turn) y c.deref.result.now (ap (stand_by may) there ∙ c.requires.order) in
-    let point = IsPartitionPoint-from_clause (λ x. may x y) c.deref.result.now i found.partitioned parted (λ a r q k. search (rules, not-not)) in
-    ap (stand_by may) (c.insert.ensures.items ∙ ap (λ b. cond b (insert xs i y) xs) (c.is_err.ensures.negation ∙ ap not c.if-is_err.false))
-    ∙ stand_by-insert may (in_turn_on group turn) (in_turn_either group turn) y xs i c.requires.order (subst (λ zs. Parts (λ x. may x y) zs i) there point)
+    let parted =
+    parted_by may (in_turn_on group turn) y c.deref.result.now (ap (stand_by may) there ∙ c.requires.order) in
+    let point =
+    IsPartitionPoint-from_clause (λ x. may x y) c.deref.result.now i found.partitioned parted
+    (λ a r q k. search (rules, not-not)) in
+    ap (stand_by may) (c.insert.ensures.items
+    ∙ ap (λ b. cond b (insert xs i y) xs) (c.is_err.ensures.negation ∙ ap not c.if-is_err.false))
+    ∙ stand_by-insert may (in_turn_on group turn) (in_turn_either group turn) y xs i c.requires.order
+    (subst (λ zs. Parts (λ x. may x y) zs i) there point)
     (omega (arith, found.bound, ap length there))

@@ -7,7 +7,9 @@ abbrev pub invariant-loop-row : goal.invariant-loop-row
 invariant-loop-row g l = record {
   order : stand_by (in_turn g.T.Grouped.group g.T.Grouped.turn) l.table.items ≡ true;
   there : (p : g.row.T.Denot → Bool) → count_by (passes_in g.T.Grouped.in_row p) l.rest ≤ count_by p l.table.items;
-  taken : (p : g.row.T.Denot → Bool) → count_by p l.table.items + count_by (passes_in g.T.Grouped.in_row p) l.rows ≡ count_by p l.fn.table.items + count_by (passes_in g.T.Grouped.in_row p) l.rest;
+  taken : (p : g.row.T.Denot → Bool)
+      → count_by p l.table.items + count_by (passes_in g.T.Grouped.in_row p) l.rows
+      ≡ count_by p l.fn.table.items + count_by (passes_in g.T.Grouped.in_row p) l.rest;
   capacity : vec_capacity l.fn.table ≤ vec_capacity l.table;
 }
 

@@ -8,4 +8,5 @@ returns-clause-parts c =
     let xs = c.args.rows.now in
     let row = c.args.row.now in
     let split = parted (λ x. not (precedes row x)) (before_falls row) xs c.requires in
-    IsPartitionPoint-from_clause (λ x. not (precedes row x)) xs c.partition_point.result c.partition_point.ensures.partitioned split (λ a r q k. search rules)
+    IsPartitionPoint-from_clause (λ x. not (precedes row x)) xs c.partition_point.result
+    c.partition_point.ensures.partitioned split (λ a r q k. search rules)

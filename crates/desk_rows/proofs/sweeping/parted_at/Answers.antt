@@ -18,6 +18,8 @@ returns-clause-behind c =
     ap none c.split_at-2.ensures.back ∙ elim c.match-split_first.branch [
       | in-Some+else-precedes w ↦
           let rows = w.in-Some.ensures.cases.0 in
-          ap none rows ∙ none_ahead row w.in-Some.first.now w.in-Some.field-0-1.now (ap in_order (sym rows) ∙ c.requires) (sym w.precedes.ensures ∙ w.if-precedes.false)
+          ap none rows
+          ∙ none_ahead row w.in-Some.first.now w.in-Some.field-0-1.now (ap in_order (sym rows) ∙ c.requires)
+          (sym w.precedes.ensures ∙ w.if-precedes.false)
       | in_default w ↦ ap none (nil_from_length c.args.rows.now w.in_default.ensures.cases)
     ]

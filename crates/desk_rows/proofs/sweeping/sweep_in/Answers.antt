@@ -10,8 +10,21 @@ pub append-requires : goal.append-requires
 append-requires g c =
     let others = c.parted_before.result.1.now in
     let put = c.args.put.now in
-    let made = ap length (c.deref-in-Some.ensures.value ∙ c.merge.ensures.items ∙ ap (λ ys. ys ++ with_rows put others) c.clear.ensures.items) in
-    omega (arith, made, length-with_rows put others, c.parted_before.ensures.long, ap length c.deref.ensures.value, c.args.rows.now.ok.0, c.requires.capacity.0, c.truncate.ensures.len, c.truncate.ensures.capacity)
+    let made =
+    ap length (c.deref-in-Some.ensures.value
+    ∙ c.merge.ensures.items
+    ∙ ap (λ ys. ys ++ with_rows put others) c.clear.ensures.items) in
+    omega (
+      arith,
+      made,
+      length-with_rows put others,
+      c.parted_before.ensures.long,
+      ap length c.deref.ensures.value,
+      c.args.rows.now.ok.0,
+      c.requires.capacity.0,
+      c.truncate.ensures.len,
+      c.truncate.ensures.capacity,
+    )
 
 pub returns-in-Some-clause-items : goal.returns-in-Some-clause-items
 returns-in-Some-clause-items g c =
@@ -23,10 +36,15 @@ returns-in-Some-clause-items g c =
     let order = ap in_order (sym put) ∙ c.requires.order in
     let all = sym c.deref.ensures.value ∙ c.parted_before.ensures.all in
     let stay = c.truncate.ensures.items ∙ ap (take (length front)) all ∙ take-append_seam front others in
-    let made = c.deref-in-Some.ensures.value ∙ c.merge.ensures.items ∙ ap (λ ys. ys ++ with_rows c.args.put.now others) c.clear.ensures.items in
+    let made =
+    c.deref-in-Some.ensures.value
+    ∙ c.merge.ensures.items
+    ∙ ap (λ ys. ys ++ with_rows c.args.put.now others) c.clear.ensures.items in
     c.append.ensures.items ∙ (λ i. stay i ++ made i)
-    ∙ ap (λ l. front ++ with_rows l others) put ∙ sym (front_stays p ps front others order c.parted_before.ensures.front)
+    ∙ ap (λ l. front ++ with_rows l others) put
+    ∙ sym (front_stays p ps front others order c.parted_before.ensures.front)
     ∙ sym (λ i. with_rows (put i) (all i))
 
 pub returns-in_default-clause-items : goal.returns-in_default-clause-items
-returns-in_default-clause-items g c = sym (ap (λ l. with_rows l c.args.rows.now.items) (nil_from_length c.args.put.now c.in_default.ensures.cases))
+returns-in_default-clause-items g c =
+    sym (ap (λ l. with_rows l c.args.rows.now.items) (nil_from_length c.args.put.now c.in_default.ensures.cases))

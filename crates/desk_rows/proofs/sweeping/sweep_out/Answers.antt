@@ -9,8 +9,21 @@ pub append-requires : goal.append-requires
 append-requires g c =
     let others = c.parted_at.result.1.now in
     let taken = c.args.taken.now in
-    let made = ap length (c.deref-in-Some.ensures.value ∙ c.leave_out.ensures.items ∙ ap (λ ys. ys ++ without_rows taken others) c.clear.ensures.items) in
-    omega (arith, made, few_left taken others, c.parted_at.ensures.long, ap length c.deref.ensures.value, c.args.rows.now.ok.0, c.args.rows.now.ok.1, c.truncate.ensures.len, c.truncate.ensures.capacity)
+    let made =
+    ap length (c.deref-in-Some.ensures.value
+    ∙ c.leave_out.ensures.items
+    ∙ ap (λ ys. ys ++ without_rows taken others) c.clear.ensures.items) in
+    omega (
+      arith,
+      made,
+      few_left taken others,
+      c.parted_at.ensures.long,
+      ap length c.deref.ensures.value,
+      c.args.rows.now.ok.0,
+      c.args.rows.now.ok.1,
+      c.truncate.ensures.len,
+      c.truncate.ensures.capacity,
+    )
 
 pub returns-in-Some-clause-items : goal.returns-in-Some-clause-items
 returns-in-Some-clause-items g c =
@@ -22,7 +35,10 @@ returns-in-Some-clause-items g c =
     let order = ap in_order (sym taken) ∙ c.requires.taken in
     let all = sym c.deref.ensures.value ∙ c.parted_at.ensures.all in
     let front = c.truncate.ensures.items ∙ ap (take (length stay)) all ∙ take-append_seam stay others in
-    let made = c.deref-in-Some.ensures.value ∙ c.leave_out.ensures.items ∙ ap (λ ys. ys ++ without_rows c.args.taken.now others) c.clear.ensures.items in
+    let made =
+    c.deref-in-Some.ensures.value
+    ∙ c.leave_out.ensures.items
+    ∙ ap (λ ys. ys ++ without_rows c.args.taken.now others) c.clear.ensures.items in
     c.append.ensures.items ∙ (λ i. front i ++ made i)
     ∙ ap (λ l. stay ++ without_rows l others) taken ∙ sym (front_stays t ts stay others order c.parted_at.ensures.front)
     ∙ sym (λ i. without_rows (taken i) (all i))

@@ -9,15 +9,19 @@ use Rattle.feedback.specs.PassedUp.{is_of_member_at, with_address, pli_up}
 use Rattle.feedback.proofs.laws.picture_losses_reach_a_sender.Goals as goal
 
 -- a source whose member is there has an address
-has_address : (source : ℕ) (o : Option MemberRow) → is_some o ≡ true → is_some {T = Address × ℕ} (option_map (λ (m : MemberRow). (m.address, source)) o) ≡ true
+has_address : (source : ℕ) (o : Option MemberRow) → is_some o ≡ true
+    → is_some {T = Address × ℕ} (option_map (λ (m : MemberRow). (m.address, source)) o) ≡ true
 has_address source None h = h
 has_address source (Some m) h = refl
 
-passed : (d : Desk) (from : Address) (out_ssrc source : ℕ) → is_of_member_at d from (slot_at d out_ssrc) ≡ true → choice d out_ssrc ≡ Some source → is_some (option_and_then (member_at d) (sender_of d source)) ≡ true → is_some (pli_up d from out_ssrc) ≡ true
+passed : (d : Desk) (from : Address) (out_ssrc source : ℕ) → is_of_member_at d from (slot_at d out_ssrc) ≡ true
+    → choice d out_ssrc ≡ Some source → is_some (option_and_then (member_at d) (sender_of d source)) ≡ true
+    → is_some (pli_up d from out_ssrc) ≡ true
 passed d from out_ssrc source its chose there =
     ap (λ b. is_some (cond b (option_and_then (with_address d) (choice d out_ssrc)) None)) its
     ∙ ap (λ o. is_some (option_and_then (with_address d) o)) chose
     ∙ has_address source (option_and_then (member_at d) (sender_of d source)) there
 
 pub returns : goal.returns
-returns c = λ d from out_ssrc source h its chose. passed d from out_ssrc source its chose (c.choices_stay_in_the_room.ensures.sender d out_ssrc source h chose)
+returns c = λ d from out_ssrc source h its chose.
+    passed d from out_ssrc source its chose (c.choices_stay_in_the_room.ensures.sender d out_ssrc source h chose)

@@ -7,7 +7,10 @@ whole_seconds : (from n : ℕ) → elapsed from (from + n * second) ≡ second_i
 whole_seconds from n = omega arith
 
 units : (from n rate : ℕ) → elapsed from (from + n * second) * rate / second_in_microseconds ≡ n * rate
-units from n rate = ap (λ k. k * rate / second_in_microseconds) (whole_seconds from n) ∙ ap (λ k. k / second_in_microseconds) (mul_assoc second_in_microseconds n rate) ∙ mul-div_cancel_left (n * rate) (omega arith)
+units from n rate =
+    ap (λ k. k * rate / second_in_microseconds) (whole_seconds from n)
+    ∙ ap (λ k. k / second_in_microseconds) (mul_assoc second_in_microseconds n rate)
+    ∙ mul-div_cancel_left (n * rate) (omega arith)
 
 pub returns-clause-ahead : goal.returns-clause-ahead
 returns-clause-ahead c = λ counts n. ap (λ k. (counts.ts + k) % 2 ^ 32) (units counts.moment n counts.rate)

@@ -11,4 +11,6 @@ none n is marks e = subst (λ (ms : List Bool). Marks ms []) (sym e) (record {
 })
 
 pub returns : goal.returns
-returns g c = IfOk-weaker c.vec.result _ (λ marks. Marks marks.items []) (λ marks same. none (2 ^ 16) refl marks.items (same (λ y h. h))) c.vec.ensures.items_if_clones_equal
+returns g c =
+    IfOk-weaker c.vec.result _ (λ marks. Marks marks.items [])
+    (λ marks same. none (2 ^ 16) refl marks.items (same (λ y h. h))) c.vec.ensures.items_if_clones_equal

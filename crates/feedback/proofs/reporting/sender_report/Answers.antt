@@ -13,4 +13,5 @@ returns-clause-octets g c =
 pub returns-clause-compound : goal.returns-clause-compound
 returns-clause-compound g c =
     let all = ap packets_of c.deref.ensures.value ∙ c.in_ok-packets.ensures.packets in
-    IfOk-weaker c.compound_of.result _ _ (λ v k. subst (λ (ps : List Packet). IsCompound ps v.items) all k) c.compound_of.ensures.compound
+    IfOk-weaker c.compound_of.result _ _ (λ v k. subst (λ (ps : List Packet). IsCompound ps v.items) all k)
+    c.compound_of.ensures.compound

@@ -7,7 +7,8 @@ use Rattle.retransmit.specs.Window.{resend_of}
 use Rattle.feedback.proofs.resending.copies.Goals as goal
 
 -- one more number
-one_more : (f : ℕ → Option SentPacket) (xs : List ℕ) (i d : ℕ) → i < length xs → filter_map f (take (i + 1) xs) ≡ filter_map f (take i xs) ++ cons_option (f (get_or xs i d)) []
+one_more : (f : ℕ → Option SentPacket) (xs : List ℕ) (i d : ℕ) → i < length xs
+    → filter_map f (take (i + 1) xs) ≡ filter_map f (take i xs) ++ cons_option (f (get_or xs i d)) []
 one_more f xs i d lt = ap (filter_map f) (take_more xs i d lt) ∙ filter_map-append f (take i xs) (get_or xs i d ∷ [])
 
 pub loop-number-preserved : goal.loop-number-preserved

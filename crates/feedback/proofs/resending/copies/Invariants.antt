@@ -5,4 +5,5 @@ use Rattle.retransmit.specs.Window.{resend_of}
 use Rattle.feedback.proofs.resending.copies.Given as goal
 
 abbrev pub invariant-loop-number : goal.invariant-loop-number
-invariant-loop-number g l = l.entries.items ≡ filter_map (λ n. resend_of n l.owner l.stream.window) (take l.number-index l.numbers)
+invariant-loop-number g l =
+    l.entries.items ≡ filter_map (λ n. resend_of n l.owner l.stream.window) (take l.number-index l.numbers)

@@ -9,7 +9,8 @@ pub returns-clause-silence : goal.returns-clause-silence
 returns-clause-silence c = silence_list
 
 pub returns-clause-more : goal.returns-clause-more
-returns-clause-more c ssrc first_seq first_ts before tick = list_more ssrc first_seq first_ts before tick.sound tick.rate tick.moment
+returns-clause-more c ssrc first_seq first_ts before tick =
+    list_more ssrc first_seq first_ts before tick.sound tick.rate tick.moment
 
 pub returns-clause-pace : goal.returns-clause-pace
 returns-clause-pace c = keeps_pace

@@ -7,5 +7,9 @@ use Rattle.forward_rewrite.proofs.packets.entries_of.Goals as goal
 pub loop-packet-preserved : goal.loop-packet-preserved
 loop-packet-preserved g c = record {
   number = omega arith;
-  packets = numbered_pushed (part_of (stamped_by c.args.shared.now c.args.frame.now)) c.args.shared.now.ssrc c.args.first c.loop-packet.packet-index _ c.packet-item.result _ _ _ c.loop-packet.number c.in_ok-one.one (omega arith) c.packet-item.is c.loop-packet.invariant.number c.in_ok-one.ensures c.in_ok-push.ensures.items c.loop-packet.invariant.packets;
+  packets =
+      numbered_pushed (part_of (stamped_by c.args.shared.now c.args.frame.now)) c.args.shared.now.ssrc c.args.first
+      c.loop-packet.packet-index _ c.packet-item.result _ _ _ c.loop-packet.number c.in_ok-one.one (omega arith)
+      c.packet-item.is c.loop-packet.invariant.number c.in_ok-one.ensures c.in_ok-push.ensures.items
+      c.loop-packet.invariant.packets;
 }

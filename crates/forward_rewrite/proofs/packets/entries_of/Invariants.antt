@@ -9,5 +9,7 @@ invariant-loop-packet g l =
     let part = part_of (stamped_by l.shared l.frame) in
     record {
       number : l.number ≡ (l.first + l.packet-index) % 2 ^ 16;
-      packets : l.entries.items ++ numbered l.shared.ssrc (l.first + l.packet-index) (map part (drop l.packet-index l.packets)) ≡ numbered l.shared.ssrc l.first (map part l.packets);
+      packets : l.entries.items
+          ++ numbered l.shared.ssrc (l.first + l.packet-index) (map part (drop l.packet-index l.packets))
+          ≡ numbered l.shared.ssrc l.first (map part l.packets);
     }

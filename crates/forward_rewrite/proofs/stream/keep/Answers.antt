@@ -7,7 +7,8 @@ use Rattle.forward_rewrite.proofs.stream.keep.Goals as goal
 
 pub push-requires : goal.push-requires
 push-requires g c =
-    may_follow_first c.loop-entry.window (into_iter_items c.loop-entry.entry-iterator) (into_iter_items c.next.new.self) c.in-Some.entry c.in-Some.ensures.steps.0 c.loop-entry.invariant.goes_on
+    may_follow_first c.loop-entry.window (into_iter_items c.loop-entry.entry-iterator) (into_iter_items c.next.new.self)
+    c.in-Some.entry c.in-Some.ensures.steps.0 c.loop-entry.invariant.goes_on
 
 pub loop-entry-preserved : goal.loop-entry-preserved
 loop-entry-preserved g c =
@@ -15,12 +16,20 @@ loop-entry-preserved g c =
     let rest = into_iter_items c.next.new.self in
     record {
       few = few_more c.loop-entry.window c.push.new.self c.in-Some.entry c.push.ensures;
-      goes_on = goes_on_more c.loop-entry.window c.push.new.self left rest c.in-Some.entry c.push.ensures c.in-Some.ensures.steps.0 c.loop-entry.invariant.goes_on;
-      kept = kept_more c.loop-entry.window c.push.new.self left rest (latest window_size (c.args.window.now ++ c.args.entries.items)) c.in-Some.entry c.push.ensures c.in-Some.ensures.steps.0 c.loop-entry.invariant.kept;
+      goes_on =
+          goes_on_more c.loop-entry.window c.push.new.self left rest c.in-Some.entry c.push.ensures
+          c.in-Some.ensures.steps.0 c.loop-entry.invariant.goes_on;
+      kept =
+          kept_more c.loop-entry.window c.push.new.self left rest
+          (latest window_size (c.args.window.now ++ c.args.entries.items)) c.in-Some.entry c.push.ensures
+          c.in-Some.ensures.steps.0 c.loop-entry.invariant.kept;
     }
 
 pub returns : goal.returns
 returns g c =
     let left = into_iter_items c.loop-entry.entry-iterator in
-    let none : left ≡ [] = nil_from_length left (let e = c.in-None.ensures.steps.0 in let ok = c.loop-entry.entry-iterator.rest.ok in omega arith) in
-    all_kept c.loop-entry.window left (latest window_size (c.args.window.now ++ c.args.entries.items)) c.loop-entry.invariant.few none c.loop-entry.invariant.kept
+    let none : left ≡ [] =
+    nil_from_length left
+    (let e = c.in-None.ensures.steps.0 in let ok = c.loop-entry.entry-iterator.rest.ok in omega arith) in
+    all_kept c.loop-entry.window left (latest window_size (c.args.window.now ++ c.args.entries.items))
+    c.loop-entry.invariant.few none c.loop-entry.invariant.kept

@@ -11,10 +11,12 @@ loop-number-preserved g c =
     let out = c.loop-number.out.items in
     let cells = c.args.cells.now in
     let marks = c.args.marks.now in
-    let step = one_of (again cells marks) n out c.ask_again.new.out.items (between (n + 1) c.args.to) c.in_ok-ask_again.ensures in
+    let step =
+    one_of (again cells marks) n out c.ask_again.new.out.items (between (n + 1) c.args.to) c.in_ok-ask_again.ensures in
     record {
       items = step.0
-          ∙ ap (λ (xs : List ℕ). out ++ map ext_of (filter (again cells marks) xs)) (sym (between-more n c.args.to c.loop-number-test.true))
+          ∙ ap (λ (xs : List ℕ). out ++ map ext_of (filter (again cells marks) xs))
+          (sym (between-more n c.args.to c.loop-number-test.true))
           ∙ c.loop-number.invariant.items;
       few = omega (arith, step.1, c.loop-number.invariant.few, c.loop-number-test.true);
     }
@@ -25,7 +27,8 @@ returns-clause-items g c =
     let cells = c.args.cells.now in
     let marks = c.args.marks.now in
     sym (append-nil out)
-    ∙ ap (λ (xs : List ℕ). out ++ map ext_of (filter (again cells marks) xs)) (sym (between-none c.loop-number.number c.args.to c.loop-number-test.false))
+    ∙ ap (λ (xs : List ℕ). out ++ map ext_of (filter (again cells marks) xs))
+    (sym (between-none c.loop-number.number c.args.to c.loop-number-test.false))
     ∙ c.loop-number.invariant.items
 
 pub returns-clause-few : goal.returns-clause-few

@@ -6,6 +6,7 @@ use Rattle.frame_gate.proofs.aging.last_lost.Given as goal
 
 abbrev pub invariant-loop-number : goal.invariant-loop-number
 invariant-loop-number g l = record {
-  last : fold later l.last (filter (gone l.cells l.limit l.marks) (between l.number l.to)) ≡ fold later None (filter (gone l.cells l.limit l.marks) (between l.from l.to));
+  last : fold later l.last (filter (gone l.cells l.limit l.marks) (between l.number l.to))
+      ≡ fold later None (filter (gone l.cells l.limit l.marks) (between l.from l.to));
   below : IfSome l.last (λ n. n < l.to);
 }

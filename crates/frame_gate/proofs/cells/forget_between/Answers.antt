@@ -16,13 +16,19 @@ loop-k-preserved g c =
     record {
       len = c.forget.ensures.len;
       others = λ i. elim (eq_cases i here) [
-        | inl same ↦ or_from_on to (cell first i) (cell old i) (cell new i) (c.loop-k.invariant.others i) (inr (ap (cell new) same ∙ c.forget.ensures.here ∙ ap (λ j. from_on to (cell old j)) (sym same)))
-        | inr other ↦ or_from_on to (cell first i) (cell old i) (cell new i) (c.loop-k.invariant.others i) (inl (c.forget.ensures.others i other))
+        | inl same ↦
+            or_from_on to (cell first i) (cell old i) (cell new i) (c.loop-k.invariant.others i)
+            (inr (ap (cell new) same ∙ c.forget.ensures.here ∙ ap (λ j. from_on to (cell old j)) (sym same)))
+        | inr other ↦
+            or_from_on to (cell first i) (cell old i) (cell new i) (c.loop-k.invariant.others i)
+            (inl (c.forget.ensures.others i other))
       ];
       gone = λ j lt.
           let i = (c.args.from + j) % 256 in
           elim (eq_cases i here) [
-            | inl same ↦ gone_or to (cell first i) (cell old i) (cell new i) (c.loop-k.invariant.others i) (ap (cell new) same ∙ c.forget.ensures.here ∙ ap (λ m. from_on to (cell old m)) (sym same))
+            | inl same ↦
+                gone_or to (cell first i) (cell old i) (cell new i) (c.loop-k.invariant.others i)
+                (ap (cell new) same ∙ c.forget.ensures.here ∙ ap (λ m. from_on to (cell old m)) (sym same))
             | inr other ↦
                 let before : j < k = elim (cases_lt j k) [
                   | inl below ↦ below

@@ -25,7 +25,8 @@ pub returns-clause-items : goal.returns-clause-items
 returns-clause-items g c = λ ps row long.
     let at = held c.args.cells.now (option_copied c.args.newcomer) in
     let rest : c.args.to - c.loop-number.number ≡ 0 = omega arith in
-    let none : collected at c.loop-number.number (c.args.to - c.loop-number.number) ≡ [] = ap (collected at c.loop-number.number) rest in
+    let none : collected at c.loop-number.number (c.args.to - c.loop-number.number) ≡ [] =
+    ap (collected at c.loop-number.number) rest in
     sym (append-nil c.loop-number.out.items)
     ∙ ap (λ (xs : List SourcePacket). c.loop-number.out.items ++ xs) (sym none)
     ∙ c.loop-number.invariant.items

@@ -1,4 +1,5 @@
-use Rattle.std.proofs.Common.{◌≡◌, ℕ, ◌+◌, ◌%◌, ◌<◌, ◌≤◌, max, List, length, None, Some, set, sym, ap, ◌∙◌, subst, arith}
+use Rattle.std.proofs.Common.{◌≡◌, ℕ, ◌+◌, ◌%◌, ◌<◌, ◌≤◌, max, List, length, None, Some, set, sym, ap, ◌∙◌, subst}
+use Rattle.std.proofs.Common.{arith}
 use Rattle.std.specs.Prelude.{unwrap_or}
 use Rattle.frame_gate.specs.Packets.{NumberedPacket}
 use Rattle.frame_gate.specs.Frame.{WholeFrame}
@@ -28,16 +29,22 @@ returns-clause-tied g c = λ given e h is.
     subst (λ (out : List WholeFrame). Tied at given e walk out) (sym c.new-frames.ensures.items) h in
     let lt : n < walk.next + 256 + n = omega arith in
     let there : Tied at given mid near c.resync.new.frames.items = c.in_ok-near.ensures.tied given e n begun lt in
-    let none : packet_at mid.taken p.number ≡ None = ap (λ (ps : List NumberedPacket). packet_at ps p.number) t ∙ sym (h.agrees p.number c.requires.number.0) ∙ c.requires.new in
-    let low : greatest mid.taken < near.next + 256 = greatest_below mid.taken (near.next + 256) (omega arith) there.behind in
+    let none : packet_at mid.taken p.number ≡ None =
+    ap (λ (ps : List NumberedPacket). packet_at ps p.number) t
+    ∙ sym (h.agrees p.number c.requires.number.0)
+    ∙ c.requires.new in
+    let low : greatest mid.taken < near.next + 256 =
+    greatest_below mid.taken (near.next + 256) (omega arith) there.behind in
     let near_enough = c.in_ok-near.ensures.capacity in
-    let most : unwrap_or c.args.greatest 0 ≡ greatest mid.taken = ap (λ o. unwrap_or o 0) is ∙ top-greatest e.taken ∙ ap greatest (sym t) in
+    let most : unwrap_or c.args.greatest 0 ≡ greatest mid.taken =
+    ap (λ o. unwrap_or o 0) is ∙ top-greatest e.taken ∙ ap greatest (sym t) in
     let end = c.min-to.result in
     let next = c.in_ok-near.ensures.next in
     let last = held (set cells (p.number % 256) (Some p)) None in
     let above : near.next ≤ p.number = omega (arith, next.2, same) in
     let below : p.number < near.next + 256 = omega (arith, near_enough, same) in
-    let to : max (greatest mid.taken) p.number < end = omega (arith, most, same, low, below, c.unwrap_or.ensures, c.max-behind.ensures, c.min-to.ensures) in
+    let to : max (greatest mid.taken) p.number < end =
+    omega (arith, most, same, low, below, c.unwrap_or.ensures, c.max-behind.ensures, c.min-to.ensures) in
     subst (λ (m : ℕ). Tied last given (taking (resynced m e m) p) far c.drain.new.frames.items) same
     (taken_tied at (held cells (Some p)) last given mid near far
     c.resync.new.frames.items c.drain.new.frames.items p end

@@ -14,5 +14,7 @@ returns-in-Some _ c =
     let m : c.max.result ≡ max (g + 1) next = omega (arith, c.max.ensures) in
     IfOk-weaker c.between.result _ _
     (λ out e. e
-    ∙ ap (λ (ns : List ℕ). map ext_of ns) (ap (λ (k : ℕ). range_with_len k (n - k)) m ∙ missing-is g next n ∙ ap (λ o. missing_above o next n) (sym c.in-Some.is)))
+    ∙ ap (λ (ns : List ℕ). map ext_of ns) (ap (λ (k : ℕ). range_with_len k (n - k)) m
+    ∙ missing-is g next n
+    ∙ ap (λ o. missing_above o next n) (sym c.in-Some.is)))
     c.between.ensures

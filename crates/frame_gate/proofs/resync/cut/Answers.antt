@@ -15,6 +15,7 @@ returns-clause-tied g c =
     if_ok_both c.drain.result _ _ _
     (λ w stands next given e h.
     placed_tied at given e c.args.walk w before more n place h c.requires.far
-    (cut_is at given e c.args.walk before n place h bounds.0 bounds.1 c.least_held-place.ensures.none c.least_held-place.ensures.some)
+    (cut_is at given e c.args.walk before n place h bounds.0 bounds.1 c.least_held-place.ensures.none
+    c.least_held-place.ensures.some)
     bounds.0 bounds.1 next.0 stands)
     c.drain.ensures.stands c.drain.ensures.next

@@ -15,7 +15,8 @@ loop-walk-preserved g c =
     record {
       next = (omega (arith, old.0, next.0), next.1, omega (arith, next.1, next.2));
       underway = λ given e most h lt.
-          underway_more (held c.args.cells.now None) given (resynced most e n) n walk new c.loop-walk.frames.items c.cut.new.frames.items
+          underway_more (held c.args.cells.now None) given (resynced most e n) n walk new c.loop-walk.frames.items
+          c.cut.new.frames.items
           (c.loop-walk.invariant.underway given e most h lt) far next.0 (c.in_ok-walk.ensures.tied given);
     }
 

@@ -11,7 +11,9 @@ invariant-loop-walk g l =
     let at = held l.cells None in
     record {
       next : (l.fn.from.next ≤ l.walk.next) × (l.walk.next ≤ l.walk.after) × (l.walk.next ≤ l.number);
-      underway : (given : List WholeFrame) (e : Epoch) (most : ℕ) → Tied at given e l.fn.from l.fn.frames.items → l.number < l.fn.from.next + 256 + most → Underway at given (resynced most e l.number) l.number l.walk l.frames.items;
+      underway : (given : List WholeFrame) (e : Epoch) (most : ℕ) → Tied at given e l.fn.from l.fn.frames.items
+          → l.number < l.fn.from.next + 256 + most
+          → Underway at given (resynced most e l.number) l.number l.walk l.frames.items;
     }
 
 abbrev pub decreases-loop-walk : goal.decreases-loop-walk

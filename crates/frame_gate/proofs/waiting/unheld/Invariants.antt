@@ -7,6 +7,7 @@ use Rattle.frame_gate.proofs.waiting.unheld.Given as goal
 
 abbrev pub invariant-loop-number : goal.invariant-loop-number
 invariant-loop-number g l = record {
-  items : l.out.items ++ map ext_of (filter (lacks l.cells) (between l.number l.to)) ≡ map ext_of (filter (lacks l.cells) (between l.from l.to));
+  items : l.out.items ++ map ext_of (filter (lacks l.cells) (between l.number l.to))
+      ≡ map ext_of (filter (lacks l.cells) (between l.from l.to));
   few : length l.out.items + (l.to - l.number) ≤ l.to - l.from;
 }

@@ -13,7 +13,9 @@ invariant-loop-number g l =
     record {
       after : l.walk.after ≡ l.number;
       long : length (row at start (l.number - start)) ≡ l.number - start;
-      stands : (cut : ℕ) (given earlier : List WholeFrame) (d : Divided) → Stands at cut given earlier d l.fn.from l.fn.frames.items → GoesOn d.unclosed → Stands at cut given earlier (divide_on d (row at start (l.number - start))) l.walk l.frames.items;
+      stands : (cut : ℕ) (given earlier : List WholeFrame) (d : Divided)
+          → Stands at cut given earlier d l.fn.from l.fn.frames.items → GoesOn d.unclosed
+          → Stands at cut given earlier (divide_on d (row at start (l.number - start))) l.walk l.frames.items;
       still : l.to < start → l.number ≡ start;
       next : (l.fn.from.next ≤ l.walk.next) × (l.walk.next ≤ l.walk.after);
       begun : l.number ≡ start → l.walk ≡ l.fn.from;

@@ -11,6 +11,8 @@ returns-clause-stands g c =
     let p = c.args.packet.now in
     IfOk-weaker c.end.result _ _ (λ w s cut given earlier d h goes_on found.
     s cut given earlier (joins (parted d p) p)
-    (follows_stands (held c.args.cells.now (option_copied c.args.newcomer)) cut given earlier d c.args.walk c.in_ok-parted.parted c.join-joined.result c.part.new.frames.items p
-    (c.in_ok-parted.ensures.stands cut given earlier d h (goes_on-may_end d.unclosed goes_on)) c.in_ok-parted.ensures.after found c.join-joined.ensures)
+    (follows_stands (held c.args.cells.now (option_copied c.args.newcomer)) cut given earlier d c.args.walk
+    c.in_ok-parted.parted c.join-joined.result c.part.new.frames.items p
+    (c.in_ok-parted.ensures.stands cut given earlier d h (goes_on-may_end d.unclosed goes_on))
+    c.in_ok-parted.ensures.after found c.join-joined.ensures)
     (joined-may_end (parted d p).unclosed p (parted-goes_on d p goes_on))) c.end.ensures.stands

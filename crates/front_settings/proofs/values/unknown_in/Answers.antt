@@ -8,15 +8,19 @@ loop-key-preserved c = (
   tt,
   tt,
   c.loop-key.invariant.2 ∙ (ap first_unknown c.in-Some.ensures.steps
-      ∙ known_more c.in-Some.key.now _ (sym (ap is_known c.as_bytes.ensures.value) ∙ (sym c.is_known.ensures ∙ c.if-not-is_known.false))),
+      ∙ known_more c.in-Some.key.now _
+      (sym (ap is_known c.as_bytes.ensures.value) ∙ (sym c.is_known.ensures ∙ c.if-not-is_known.false))),
 )
 
 pub returns-then-not-is_known : goal.returns-then-not-is_known
 returns-then-not-is_known c =
     ap Some c.as_str.ensures.value
-    ∙ (sym (unknown_next c.in-Some.key.now _ (sym (ap is_known c.as_bytes.ensures.value) ∙ (sym c.is_known.ensures ∙ c.if-not-is_known.true)))
-    ∙ (sym (ap first_unknown c.in-Some.ensures.steps) ∙ (sym c.loop-key.invariant.2 ∙ first_is_least _ c.keys-key-items.ensures.ordered)))
+    ∙ (sym (unknown_next c.in-Some.key.now _
+    (sym (ap is_known c.as_bytes.ensures.value) ∙ (sym c.is_known.ensures ∙ c.if-not-is_known.true)))
+    ∙ (sym (ap first_unknown c.in-Some.ensures.steps)
+    ∙ (sym c.loop-key.invariant.2 ∙ first_is_least _ c.keys-key-items.ensures.ordered)))
 
 pub returns : goal.returns
 returns c =
-    sym (ap first_unknown c.in-None.ensures.steps.0) ∙ (sym c.loop-key.invariant.2 ∙ first_is_least _ c.keys-key-items.ensures.ordered)
+    sym (ap first_unknown c.in-None.ensures.steps.0)
+    ∙ (sym c.loop-key.invariant.2 ∙ first_is_least _ c.keys-key-items.ensures.ordered)

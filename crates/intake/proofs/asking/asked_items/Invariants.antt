@@ -7,4 +7,5 @@ use Rattle.intake.specs.Control.{asks}
 use Rattle.intake.proofs.asking.asked_items.Given as goal
 
 abbrev pub invariant-loop-packet : goal.invariant-loop-packet
-invariant-loop-packet g l = map input_of l.items.items ≡ flat_map (asks l.from) (packets_of (take l.packet-index l.packets))
+invariant-loop-packet g l =
+    map input_of l.items.items ≡ flat_map (asks l.from) (packets_of (take l.packet-index l.packets))

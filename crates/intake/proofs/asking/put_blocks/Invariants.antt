@@ -5,4 +5,5 @@ use Rattle.intake.specs.Control.{block_item}
 use Rattle.intake.proofs.asking.put_blocks.Given as goal
 
 abbrev pub invariant-loop-block : goal.invariant-loop-block
-invariant-loop-block g l = map input_of l.items.items ≡ map input_of l.fn.items.items ++ map (block_item l.from) (take l.block-index l.blocks)
+invariant-loop-block g l =
+    map input_of l.items.items ≡ map input_of l.fn.items.items ++ map (block_item l.from) (take l.block-index l.blocks)

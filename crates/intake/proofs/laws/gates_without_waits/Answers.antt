@@ -5,7 +5,8 @@ use Rattle.intake.proofs.AloneLemmas.{datagram_alone, reports_alone}
 use Rattle.intake.proofs.laws.gates_without_waits.Goals as goal
 
 pub returns-clause-epoch : goal.returns-clause-epoch
-returns-clause-epoch c = λ story packets is. ap (λ events. (watch_of events).epoch) is ∙ c.packets_alone_are_an_epoch.ensures packets
+returns-clause-epoch c = λ story packets is.
+    ap (λ events. (watch_of events).epoch) is ∙ c.packets_alone_are_an_epoch.ensures packets
 
 pub returns-clause-datagrams : goal.returns-clause-datagrams
 returns-clause-datagrams c = λ voice s d h. datagram_alone voice d d.reading s h

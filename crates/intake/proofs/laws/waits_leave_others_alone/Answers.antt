@@ -6,7 +6,8 @@ pub returns-clause-order : goal.returns-clause-order
 returns-clause-order c = λ voice d o moment s. order_row voice (source_from d o.ssrc o.address) o moment s
 
 pub returns-clause-others : goal.returns-clause-others
-returns-clause-others c = λ voice d o p moment s other. others_row voice (source_from d o.ssrc o.address) o p moment s other
+returns-clause-others c = λ voice d o p moment s other.
+    others_row voice (source_from d o.ssrc o.address) o p moment s other
 
 pub returns-clause-epochs : goal.returns-clause-epochs
 returns-clause-epochs c = λ voice d o moment s. epochs_row voice (source_from d o.ssrc o.address) o moment s

@@ -16,6 +16,8 @@ returns g c start log ports ends h lane own at =
     let steps = steps_of (no_calls start) (merged h) in
     let here = own_end taken ends lane own at in
     let end = here.0 in
-    sym here.2 ∙ sent_share h.lists start log answers taken ports lanes lane end h.new (λ k. of_lane k steps (sends (h.new).0 (length ports) start steps)) h.desks h.begin
+    sym here.2
+    ∙ sent_share h.lists start log answers taken ports lanes lane end h.new
+    (λ k. of_lane k steps (sends (h.new).0 (length ports) start steps)) h.desks h.begin
     (λ k items. c.lanes_send_by_one_list.ensures (h.new).0 (length ports) start (calls_of log) lanes k items)
     (at_end h.lists answers taken ports ends h.ended lane end h.seen here.1)

@@ -19,6 +19,7 @@ loop-item-preserved c =
           ∙ (ap (λ (is : List Input). is ++ rest) (map-append input_shared done (one ∷ []))
           ∙ (append_assoc (map input_shared done) (input_shared one ∷ []) rest
           ∙ (ap (λ (item : Item Global). map input_shared done ++ input_of item ∷ rest) c.in_ok-new.ensures.ok
-          ∙ (ap (λ (items : List (Item Global)). map input_shared done ++ map input_of items) (sym next.0) ∙ k.inputs))));
+          ∙ (ap (λ (items : List (Item Global)). map input_shared done ++ map input_of items) (sym next.0)
+          ∙ k.inputs))));
       fits = omega (arith, k.fits, ap length next.0, c.push_reserved.ensures.len, c.push_reserved.ensures.capacity);
     }

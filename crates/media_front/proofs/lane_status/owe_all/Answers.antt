@@ -11,6 +11,10 @@ loop-at-preserved c =
     let at = c.loop-at.at in
     let x = c.index-statuses-at.result in
     let notice = c.args.notice.now in
-    subst (λ (t : LaneStatus). set c.loop-at.statuses at t ≡ map (owing notice) (take (at + 1) all) ++ drop (at + 1) all)
-    (sym (c.owe.ensures ∙ ap (λ (n : NoticeOf). owing n (get_or c.loop-at.statuses at x)) c.again.ensures ∙ ap (owing notice) (sym c.index-statuses-at.is)))
-    (map_over_more (owing notice) all c.loop-at.statuses at x (omega (arith, c.loop-at-test.true)) c.loop-at.invariant c.index-statuses-at.is)
+    subst
+    (λ (t : LaneStatus). set c.loop-at.statuses at t ≡ map (owing notice) (take (at + 1) all) ++ drop (at + 1) all)
+    (sym (c.owe.ensures
+    ∙ ap (λ (n : NoticeOf). owing n (get_or c.loop-at.statuses at x)) c.again.ensures
+    ∙ ap (owing notice) (sym c.index-statuses-at.is)))
+    (map_over_more (owing notice) all c.loop-at.statuses at x (omega (arith, c.loop-at-test.true)) c.loop-at.invariant
+    c.index-statuses-at.is)

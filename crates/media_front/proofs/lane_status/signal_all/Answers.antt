@@ -9,5 +9,8 @@ loop-at-preserved g c =
     let all = c.args.statuses.now in
     let at = c.loop-at.at in
     let x = c.index-statuses-at.result in
-    subst (λ (t : LaneStatus). set c.loop-at.statuses at t ≡ map status_after_signal (take (at + 1) all) ++ drop (at + 1) all) (sym (c.signal.ensures ∙ ap status_after_signal (sym c.index-statuses-at.is)))
-    (map_over_more status_after_signal all c.loop-at.statuses at x (omega (arith, c.loop-at-test.true)) c.loop-at.invariant c.index-statuses-at.is)
+    subst
+    (λ (t : LaneStatus). set c.loop-at.statuses at t ≡ map status_after_signal (take (at + 1) all) ++ drop (at + 1) all)
+    (sym (c.signal.ensures ∙ ap status_after_signal (sym c.index-statuses-at.is)))
+    (map_over_more status_after_signal all c.loop-at.statuses at x (omega (arith, c.loop-at-test.true))
+    c.loop-at.invariant c.index-statuses-at.is)

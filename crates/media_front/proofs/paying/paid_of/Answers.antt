@@ -12,7 +12,10 @@ paid_one-one-requires c =
     let k = c.loop-datagram.invariant in
     let next = c.in-Some.ensures.steps in
     record {
-      about = (next_one (λ d. d.0 ≡ c.args.draft.now.address) datagram_of (into_iter_items c.loop-datagram.datagram-iterator) (into_iter_items c.next.new.self) c.in-Some.datagram next.0 k.about).0
+      about =
+          (next_one (λ d. d.0 ≡ c.args.draft.now.address) datagram_of
+          (into_iter_items c.loop-datagram.datagram-iterator)
+          (into_iter_items c.next.new.self) c.in-Some.datagram next.0 k.about).0
           ∙ sym (ap (λ (d : DraftOf). d.address) k.same);
     }
 
@@ -25,10 +28,15 @@ loop-datagram-preserved c =
     let one = c.paid_one-one in
     let after = ap (λ (d : DraftOf). d.after) one.ensures.after in
     record {
-      paid = paid_step datagram_of (map datagram_of c.loop-datagram.paid.items) (map datagram_of c.put.new.datagrams.items) (option_to_list (option_map datagram_of one.result)) _ left rest c.in-Some.datagram
+      paid =
+          paid_step datagram_of (map datagram_of c.loop-datagram.paid.items) (map datagram_of c.put.new.datagrams.items)
+          (option_to_list (option_map datagram_of one.result)) _ left rest c.in-Some.datagram
           c.loop-datagram.draft.after one.new.draft.after next.0 c.put.ensures.items one.ensures.paid after k.paid;
-      after = paying_step datagram_of left rest c.in-Some.datagram c.loop-datagram.draft.after one.new.draft.after _ next.0 after k.after;
+      after =
+          paying_step datagram_of left rest c.in-Some.datagram c.loop-datagram.draft.after one.new.draft.after _ next.0
+          after k.after;
       same = still c.args.draft.now c.loop-datagram.draft one.new.draft _ k.same one.ensures.after;
-      about = (next_one (λ d. d.0 ≡ c.args.draft.now.address) datagram_of left rest c.in-Some.datagram next.0 k.about).1;
+      about =
+          (next_one (λ d. d.0 ≡ c.args.draft.now.address) datagram_of left rest c.in-Some.datagram next.0 k.about).1;
       fits = omega (arith, k.fits, ap length next.0, c.put.ensures.len, c.put.ensures.capacity);
     }

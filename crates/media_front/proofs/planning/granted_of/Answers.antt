@@ -11,11 +11,14 @@ use Rattle.media_front.proofs.planning.granted_of.Goals as goal
 pub returns-then-are_free-clause-granted : goal.returns-then-are_free-clause-granted
 returns-then-are_free-clause-granted c =
     let free : list_all (λ (item : Item Global). is_free (input_of item)) c.args.items.items ≡ true =
-    ap (list_all (λ (item : Item Global). is_free (input_of item))) (sym c.deref.ensures.value) ∙ (sym c.are_free.ensures ∙ c.if-are_free.true) in
+    ap (list_all (λ (item : Item Global). is_free (input_of item))) (sym c.deref.ensures.value)
+    ∙ (sym c.are_free.ensures ∙ c.if-are_free.true) in
     sym (all_free input_of c.args.cost c.args.moment c.args.items.items c.args.draft.now.after free)
 
 pub returns-then-are_free-clause-after : goal.returns-then-are_free-clause-after
 returns-then-are_free-clause-after c =
     let free : list_all (λ (item : Item Global). is_free (input_of item)) c.args.items.items ≡ true =
-    ap (list_all (λ (item : Item Global). is_free (input_of item))) (sym c.deref.ensures.value) ∙ (sym c.are_free.ensures ∙ c.if-are_free.true) in
-    ap (λ (a : List Bucket). record c.args.draft.now { after = a }) (sym (free_after input_of c.args.cost c.args.moment c.args.items.items c.args.draft.now.after free))
+    ap (list_all (λ (item : Item Global). is_free (input_of item))) (sym c.deref.ensures.value)
+    ∙ (sym c.are_free.ensures ∙ c.if-are_free.true) in
+    ap (λ (a : List Bucket). record c.args.draft.now { after = a })
+    (sym (free_after input_of c.args.cost c.args.moment c.args.items.items c.args.draft.now.after free))

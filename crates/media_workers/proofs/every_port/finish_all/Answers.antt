@@ -5,8 +5,20 @@ use Rattle.media_workers.proofs.every_port.finish_all.Goals as goal
 
 pub loop-port-preserved : goal.loop-port-preserved
 loop-port-preserved g c = record {
-  ended = subst (AllEnded g.P.Pace.answers g.S.Sink.taken _) (sym c.push_reserved.ensures.items) (AllEnded-push g.P.Pace.answers g.S.Sink.taken c.loop-port.yielded c.loop-port.ends.items c.in-Some.port c.finish.result c.loop-port.invariant.ended c.finish.ensures.ended);
-  fed = subst (AllFeed g.S.Sink.feeds _) (sym c.push_reserved.ensures.items) (AllFeed-push g.S.Sink.feeds c.loop-port.yielded c.loop-port.ends.items c.in-Some.port c.finish.result c.loop-port.invariant.fed c.finish.ensures.fed);
-  len = omega (arith, c.push_reserved.ensures.len, c.loop-port.invariant.len, length-append c.loop-port.yielded (c.in-Some.port ∷ []));
+  ended =
+      subst (AllEnded g.P.Pace.answers g.S.Sink.taken _) (sym c.push_reserved.ensures.items)
+      (AllEnded-push g.P.Pace.answers g.S.Sink.taken c.loop-port.yielded c.loop-port.ends.items c.in-Some.port
+      c.finish.result c.loop-port.invariant.ended c.finish.ensures.ended);
+  fed =
+      subst (AllFeed g.S.Sink.feeds _) (sym c.push_reserved.ensures.items)
+      (AllFeed-push g.S.Sink.feeds c.loop-port.yielded
+      c.loop-port.ends.items c.in-Some.port c.finish.result c.loop-port.invariant.fed c.finish.ensures.fed);
+  len =
+      omega (
+        arith,
+        c.push_reserved.ensures.len,
+        c.loop-port.invariant.len,
+        length-append c.loop-port.yielded (c.in-Some.port ∷ []),
+      );
   capacity = c.push_reserved.ensures.capacity ∙ c.loop-port.invariant.capacity;
 }

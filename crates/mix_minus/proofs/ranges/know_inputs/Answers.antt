@@ -18,7 +18,9 @@ pub loop-k-preserved : goal.loop-k-preserved
 loop-k-preserved c =
     let xs = c.args.inputs.now in
     below_more (λ k. (d : Input) (i : ℕ) → IsWithin 32768 (sample_at (get_or xs k d) i)) c.loop-k.k c.loop-k.invariant
-    (λ d i. subst (λ (x : Input). IsWithin 32768 (sample_at x i)) (same_at xs c.loop-k.k d _ c.loop-k-test.true) (c.know_samples.ensures i))
+    (λ d i.
+    subst (λ (x : Input). IsWithin 32768 (sample_at x i)) (same_at xs c.loop-k.k d _ c.loop-k-test.true)
+    (c.know_samples.ensures i))
 
 pub returns : goal.returns
 returns c k d i lt = c.loop-k.invariant k (omega (arith, lt)) d i

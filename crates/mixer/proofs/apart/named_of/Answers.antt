@@ -18,5 +18,7 @@ loop-i-preserved g c =
           ∙ sym (octets-push (present_in (take n inputs)) _)
           ∙ ap number_octets (sym (there_more n inputs _ c.loop-i-test.true w.if-inputs-i-gt0.true))
       | else-inputs-i-gt0 w ↦
-          ap (λ v. v.items) w.named-is ∙ c.loop-i.invariant ∙ ap number_octets (sym (there_same n inputs _ c.loop-i-test.true w.if-inputs-i-gt0.false))
+          ap (λ v. v.items) w.named-is
+          ∙ c.loop-i.invariant
+          ∙ ap number_octets (sym (there_same n inputs _ c.loop-i-test.true w.if-inputs-i-gt0.false))
     ]

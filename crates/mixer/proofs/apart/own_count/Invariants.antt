@@ -8,5 +8,6 @@ use Rattle.mixer.proofs.apart.own_count.Given as goal
 abbrev pub invariant-loop-i : goal.invariant-loop-i
 invariant-loop-i l = record {
   most : l.count ≤ l.i;
-  count : (inputs : List Input) → l.members ≡ map member_of inputs → l.count ≡ length (own_of l.member (take l.i inputs));
+  count : (inputs : List Input) → l.members ≡ map member_of inputs
+      → l.count ≡ length (own_of l.member (take l.i inputs));
 }

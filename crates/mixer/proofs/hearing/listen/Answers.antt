@@ -19,13 +19,18 @@ mix_by_total-requires-clause-mixable g c =
     let voices = c.requires.is.0 in
     let is = c.requires.is.1 in
     let ws = of_room c.args.room.now.room voices in
-    let inputs : c.deref-3.result.now ≡ c.args.room.now.inputs = c.deref-3.ensures.value ∙ ap (λ (r : RoomOf). r.inputs) c.room.view_is in
-    let sources : c.deref.result.now ≡ c.args.room.now.sources = c.deref.ensures.value ∙ ap (λ (r : RoomOf). r.sources) c.room.view_is in
-    let gains : c.write_gains.new.gains ≡ gains_for d m ws = c.write_gains.ensures.gains ∙ ap (map (λ (s : AudioSource). gain_of d m.member s.ssrc)) (sources ∙ is.sources) in
+    let inputs : c.deref-3.result.now ≡ c.args.room.now.inputs =
+    c.deref-3.ensures.value ∙ ap (λ (r : RoomOf). r.inputs) c.room.view_is in
+    let sources : c.deref.result.now ≡ c.args.room.now.sources =
+    c.deref.ensures.value ∙ ap (λ (r : RoomOf). r.sources) c.room.view_is in
+    let gains : c.write_gains.new.gains ≡ gains_for d m ws =
+    c.write_gains.ensures.gains ∙ ap (map (λ (s : AudioSource). gain_of d m.member s.ssrc)) (sources ∙ is.sources) in
     record {
       paired = ap length gains ∙ as_many d m c.args.room.now.inputs ws is.inputs ∙ sym (ap length inputs);
       few = subst (λ (xs : List Input). length xs ≤ 64) (sym inputs) is.few;
-      loud = subst (λ (xs : List ℕ). All (λ gain. gain ≤ 1024) xs) (sym gains) (loud d m (λ source. c.gains_are_small.ensures d m.member source c.write_gains.ensures.good) ws);
+      loud =
+          subst (λ (xs : List ℕ). All (λ gain. gain ≤ 1024) xs) (sym gains)
+          (loud d m (λ source. c.gains_are_small.ensures d m.member source c.write_gains.ensures.good) ws);
     }
 
 pub returns : goal.returns
@@ -33,11 +38,15 @@ returns g c voices is =
     let d = c.args.rows.now in
     let m = c.args.member.now in
     let ws = of_room c.args.room.now.room voices in
-    let inputs : c.deref-3.result.now ≡ c.args.room.now.inputs = c.deref-3.ensures.value ∙ ap (λ (r : RoomOf). r.inputs) c.room.view_is in
-    let sources : c.deref.result.now ≡ c.args.room.now.sources = c.deref.ensures.value ∙ ap (λ (r : RoomOf). r.sources) c.room.view_is in
-    let gains : c.write_gains.new.gains ≡ gains_for d m ws = c.write_gains.ensures.gains ∙ ap (map (λ (s : AudioSource). gain_of d m.member s.ssrc)) (sources ∙ is.sources) in
+    let inputs : c.deref-3.result.now ≡ c.args.room.now.inputs =
+    c.deref-3.ensures.value ∙ ap (λ (r : RoomOf). r.inputs) c.room.view_is in
+    let sources : c.deref.result.now ≡ c.args.room.now.sources =
+    c.deref.ensures.value ∙ ap (λ (r : RoomOf). r.sources) c.room.view_is in
+    let gains : c.write_gains.new.gains ≡ gains_for d m ws =
+    c.write_gains.ensures.gains ∙ ap (map (λ (s : AudioSource). gain_of d m.member s.ssrc)) (sources ∙ is.sources) in
     let out = c.mix_by_total.new.out in
-    let long : length out ≡ tick_at (member_rate d m) = c.mix_by_total.auto.out ∙ c.requires.long ∙ ap tick_at (is.rate ∙ ap (room_rate d) c.requires.own) in
+    let long : length out ≡ tick_at (member_rate d m) =
+    c.mix_by_total.auto.out ∙ c.requires.long ∙ ap tick_at (is.rate ∙ ap (room_rate d) c.requires.own) in
     let others_are = others_of m voices c.args.room.now.room c.requires.own in
     record {
       samples = listed (heard_at voices d m) out (tick_at (member_rate d m)) long (λ i l.

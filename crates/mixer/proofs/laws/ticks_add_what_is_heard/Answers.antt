@@ -8,7 +8,8 @@ pub returns-clause-heard : goal.returns-clause-heard
 returns-clause-heard c ssrc before d moment = tick_heard ssrc before d moment
 
 pub returns-clause-samples : goal.returns-clause-samples
-returns-clause-samples c ssrc before source address rate ts samples = put_adds_nothing ssrc before source address rate ts samples
+returns-clause-samples c ssrc before source address rate ts samples =
+    put_adds_nothing ssrc before source address rate ts samples
 
 pub returns-clause-renewing : goal.returns-clause-renewing
 returns-clause-renewing c ssrc before = renew_adds_nothing ssrc before

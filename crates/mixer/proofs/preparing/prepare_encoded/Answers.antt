@@ -13,11 +13,15 @@ returns-clause-some g c d voices m is format =
     let csrcs = take most_csrcs (contributors voices d m) in
     let next = c.in_ok-prepared.prepared.next in
     let packets = c.in_ok-prepared.prepared.packet ∷ [] in
-    let payload : c.deref.result.now ≡ encoded heard.format samples = c.deref.ensures.value ∙ c.in_ok-encode.ensures.payload in
+    let payload : c.deref.result.now ≡ encoded heard.format samples =
+    c.deref.ensures.value ∙ c.in_ok-encode.ensures.payload in
     record {
       sound = sound_of (format_of m.codec (member_rate d m)) csrcs samples;
       hears = something_of d voices m samples heard.named is (many c.if-heard-eq0.false);
-      gives = subst (λ (f : Format). GivesTick c.args.stream.now next (sounding (sound_of f csrcs samples) c.args.moment) packets) format
+      gives =
+          subst
+          (λ (f : Format). GivesTick c.args.stream.now next (sounding (sound_of f csrcs samples) c.args.moment) packets)
+          format
           (c.in_ok-prepared.ensures.gives csrcs samples is.who.count is.who.octets payload);
       ssrc = c.in_ok-prepared.ensures.ssrc;
     }

@@ -13,7 +13,10 @@ loop-one-preserved g c =
     let old = c.loop-one.out.items in
     let rest = map sent_of left in
     record {
-      streams = λ k. ap (kept_after k left) (c.commit_one.ensures.streams k) ∙ ap (λ rs. kept_after k rs (mix_at k c.loop-one.streams.entries)) (sym steps) ∙ inv.streams k;
+      streams = λ k.
+          ap (kept_after k left) (c.commit_one.ensures.streams k)
+          ∙ ap (λ rs. kept_after k rs (mix_at k c.loop-one.streams.entries)) (sym steps)
+          ∙ inv.streams k;
       out = ap (λ es. es ++ rest) (c.push_reserved.ensures.items ∙ ap (λ p. old ++ p ∷ []) c.commit_one.ensures.packet)
           ∙ append_assoc old _ rest ∙ ap (λ rs. old ++ map sent_of rs) (sym steps) ∙ inv.out;
       capacity = omega (arith, ap length steps, c.commit_one.ensures.spare);
@@ -22,5 +25,6 @@ loop-one-preserved g c =
 
 pub returns-clause-streams : goal.returns-clause-streams
 returns-clause-streams g c k =
-    let none : into_iter_items c.loop-one.one-iterator ≡ [] = nil_from_length _ (let e = c.in-None.ensures.steps.0 in let ok = c.loop-one.one-iterator.rest.ok in omega arith) in
+    let none : into_iter_items c.loop-one.one-iterator ≡ [] =
+    nil_from_length _ (let e = c.in-None.ensures.steps.0 in let ok = c.loop-one.one-iterator.rest.ok in omega arith) in
     sym (ap (λ rs. kept_after k rs (mix_at k c.loop-one.streams.entries)) none) ∙ c.loop-one.invariant.streams k

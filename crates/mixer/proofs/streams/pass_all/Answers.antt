@@ -14,10 +14,14 @@ loop-i-preserved g c =
     let e : ℕ × MixOf = (0, s) in
     let w = c.pass.new.self in
     let within : i < length es = omega (arith, c.loop-i-test.true, c.len-i-end.ensures.len, c.loop-i.invariant.long) in
-    let here : (slice_index_or es i e).1 ≡ s = value-at es i e s within (sym c.get_index_mut.ensures.value ∙ ap option_copied_mut c.in-Some.is) in
+    let here : (slice_index_or es i e).1 ≡ s =
+    value-at es i e s within (sym c.get_index_mut.ensures.value ∙ ap option_copied_mut c.in-Some.is) in
     let passed : HasPassed d c.args.moment (slice_index_or es i e).0 (slice_index_or es i e).1 w = record {
-      gives = subst (λ (r : ℕ). GivesTick (slice_index_or es i e).1 w (silent r c.args.moment) []) (c.pass_rate_at-rate.ensures.rate e)
-          (subst (λ (x : MixOf). GivesTick x w (silent c.pass_rate_at-rate.result c.args.moment) []) (sym here) c.pass.ensures.gives);
+      gives =
+          subst (λ (r : ℕ). GivesTick (slice_index_or es i e).1 w (silent r c.args.moment) [])
+          (c.pass_rate_at-rate.ensures.rate e)
+          (subst (λ (x : MixOf). GivesTick x w (silent c.pass_rate_at-rate.result c.args.moment) []) (sym here)
+          c.pass.ensures.gives);
       ssrc = c.pass.ensures.ssrc ∙ ap (λ (x : MixOf). x.ssrc) (sym here);
     } in
     record {
@@ -28,4 +32,6 @@ loop-i-preserved g c =
     }
 
 pub returns-clause-streams : goal.returns-clause-streams
-returns-clause-streams g c ssrc = all_passed c.args.rows.now c.args.moment c.loop-i.i ssrc c.args.streams.now.entries c.loop-i.streams.entries (omega (arith, c.loop-i-test.false, c.len-i-end.ensures.len)) c.loop-i.invariant.partly
+returns-clause-streams g c ssrc =
+    all_passed c.args.rows.now c.args.moment c.loop-i.i ssrc c.args.streams.now.entries c.loop-i.streams.entries
+    (omega (arith, c.loop-i-test.false, c.len-i-end.ensures.len)) c.loop-i.invariant.partly

@@ -19,18 +19,33 @@ loop-member-preserved g c =
     elim c.if-is_mine.branch [
       | then-is_mine+in_ok-add w ↦
           record {
-            rooms = subst (λ (rs : List RoomOf). AreRooms d voices rs) (sym (ap (λ v. v.items) w.rooms-is)) w.in_ok-add.ensures.rooms;
-            members = ap (λ v. members_of v.items) w.ready-is ∙ w.in_ok-add.ensures.members ∙ one_mine d voices lane lanes n ms _ c.is_mine.result _ c.loop-member-test.true c.is_mine.ensures w.if-is_mine.true c.loop-member.invariant.members;
+            rooms =
+                subst (λ (rs : List RoomOf). AreRooms d voices rs) (sym (ap (λ v. v.items) w.rooms-is))
+                w.in_ok-add.ensures.rooms;
+            members =
+                ap (λ v. members_of v.items) w.ready-is
+                ∙ w.in_ok-add.ensures.members
+                ∙ one_mine d voices lane lanes n ms _ c.is_mine.result _ c.loop-member-test.true c.is_mine.ensures
+                w.if-is_mine.true c.loop-member.invariant.members;
             last = subst AreEncoded (sym (ap (λ s. s.last) w.scratch-is)) w.in_ok-add.ensures.last;
             block = ap (λ s. s.block.items) w.scratch-is ∙ w.in_ok-add.ensures.empty;
-            ready = subst (λ (rs : List ReadyOf). AllByRecursion P rs) (sym (ap (λ v. v.items) w.ready-is)) (w.in_ok-add.ensures.ready c.loop-member.invariant.ready);
+            ready =
+                subst (λ (rs : List ReadyOf). AllByRecursion P rs) (sym (ap (λ v. v.items) w.ready-is))
+                (w.in_ok-add.ensures.ready c.loop-member.invariant.ready);
           }
       | else-is_mine w ↦
           record {
-            rooms = subst (λ (rs : List RoomOf). AreRooms d voices rs) (sym (ap (λ v. v.items) w.rooms-is)) c.loop-member.invariant.rooms;
-            members = ap (λ v. members_of v.items) w.ready-is ∙ not_mine d voices lane lanes n ms _ c.is_mine.result _ c.loop-member-test.true c.is_mine.ensures w.if-is_mine.false c.loop-member.invariant.members;
+            rooms =
+                subst (λ (rs : List RoomOf). AreRooms d voices rs) (sym (ap (λ v. v.items) w.rooms-is))
+                c.loop-member.invariant.rooms;
+            members =
+                ap (λ v. members_of v.items) w.ready-is
+                ∙ not_mine d voices lane lanes n ms _ c.is_mine.result _ c.loop-member-test.true c.is_mine.ensures
+                w.if-is_mine.false c.loop-member.invariant.members;
             last = subst AreEncoded (sym (ap (λ s. s.last) w.scratch-is)) c.loop-member.invariant.last;
             block = ap (λ s. s.block.items) w.scratch-is ∙ c.loop-member.invariant.block;
-            ready = subst (λ (rs : List ReadyOf). AllByRecursion P rs) (sym (ap (λ v. v.items) w.ready-is)) c.loop-member.invariant.ready;
+            ready =
+                subst (λ (rs : List ReadyOf). AllByRecursion P rs) (sym (ap (λ v. v.items) w.ready-is))
+                c.loop-member.invariant.ready;
           }
     ]

@@ -13,11 +13,19 @@ returns-in-Some-clause-some g c = (
       let m = c.args.member.now in
       let one = c.in-Some.prepared in
       let p : IsPrepared d voices c.args.tick.now.moment m c.stream_for-stream.result one =
-      (subst (λ (o : Option PreparedMixOf). IfSome o (λ p. (vs : List Voice) → IsRoom d vs c.args.room.now → IsPrepared d vs c.args.tick.now.moment m c.stream_for-stream.result p)) c.in-Some.is c.in_ok-prepared.ensures.some) voices is in
+      (subst
+      (λ (o : Option PreparedMixOf).
+      IfSome o (λ p.
+      (vs : List Voice) → IsRoom d vs c.args.room.now
+      → IsPrepared d vs c.args.tick.now.moment m c.stream_for-stream.result p))
+      c.in-Some.is c.in_ok-prepared.ensures.some)
+      voices is in
       record {
         sound = p.sound;
         hears = p.hears;
-        gives = subst (λ (s : MixOf). GivesTick s one.next (sounding p.sound c.args.tick.now.moment) (one.packet ∷ [])) c.stream_for-stream.ensures p.gives;
+        gives =
+            subst (λ (s : MixOf). GivesTick s one.next (sounding p.sound c.args.tick.now.moment) (one.packet ∷ []))
+            c.stream_for-stream.ensures p.gives;
         ssrc = p.ssrc ∙ ap (λ (s : MixOf). s.ssrc) c.stream_for-stream.ensures;
       },
 )

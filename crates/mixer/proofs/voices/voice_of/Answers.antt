@@ -17,5 +17,7 @@ returns-clause-heard g c given has =
     let all = c.peek-filled.auto.out ∙ c.deref_mut.ensures.len in
     let long : length out ≡ n = all ∙ c.in_ok-resize.ensures.len ∙ c.tick_at.ensures in
     let plays : PlaysOut play out count = c.peek-filled.ensures (map to_playouts given) has in
-    ap (λ (xs : List ℤ). record { source = s; samples = xs; filled = count }) (with_items_is c.resize.new.self out all ∙ shown play out count n long plays)
-    ∙ ap (λ (k : ℕ). record { source = s; samples = map (sample_in play) (range_with_len 0 n); filled = k }) (counted play out count n long plays)
+    ap (λ (xs : List ℤ). record { source = s; samples = xs; filled = count })
+    (with_items_is c.resize.new.self out all ∙ shown play out count n long plays)
+    ∙ ap (λ (k : ℕ). record { source = s; samples = map (sample_in play) (range_with_len 0 n); filled = k })
+    (counted play out count n long plays)

@@ -19,7 +19,8 @@ loop-source-preserved g c =
       heard = λ given has.
           c.in_ok-push.ensures.items
           ∙ ap (λ vs. vs ++ voice ∷ []) (c.loop-source.invariant.heard given has)
-          ∙ ap (λ v. map (voice_of d given) (take n c.args.sources.now) ++ v ∷ []) (in_its_room d given _ _ _ (c.in_ok-voice.ensures.heard given has) rate)
+          ∙ ap (λ v. map (voice_of d given) (take n c.args.sources.now) ++ v ∷ [])
+          (in_its_room d given _ _ _ (c.in_ok-voice.ensures.heard given has) rate)
           ∙ sym (map_more (voice_of d given) c.args.sources.now n _ (omega (arith, c.loop-source-test.true)));
       sources =
           ap (map source_of) c.in_ok-push.ensures.items ∙ map_push source_of c.loop-source.voices.items voice
@@ -27,13 +28,18 @@ loop-source-preserved g c =
           ∙ ap (λ s. take n c.args.sources.now ++ s ∷ []) source
           ∙ sym (take_more c.args.sources.now n _ (omega (arith, c.loop-source-test.true)));
       long = subst (AreLong d) (sym c.in_ok-push.ensures.items)
-          (all-push (λ (v : Voice). length v.samples ≡ tick_at (room_rate d v.source.room)) c.loop-source.voices.items voice c.loop-source.invariant.long
+          (all-push (λ (v : Voice). length v.samples ≡ tick_at (room_rate d v.source.room)) c.loop-source.voices.items
+          voice c.loop-source.invariant.long
           (c.in_ok-voice.ensures.long ∙ ap tick_at rate ∙ ap (λ s. tick_at (room_rate d s.room)) (sym source)));
       last = c.rate_in-rate.ensures.last;
     }
 
 pub returns-clause-heard : goal.returns-clause-heard
-returns-clause-heard g c given has = c.loop-source.invariant.heard given has ∙ ap (map (voice_of c.args.rows.now given)) (take_all c.loop-source.source-index c.args.sources.now c.loop-source-test.false)
+returns-clause-heard g c given has =
+    c.loop-source.invariant.heard given has
+    ∙ ap (map (voice_of c.args.rows.now given))
+    (take_all c.loop-source.source-index c.args.sources.now c.loop-source-test.false)
 
 pub returns-clause-sources : goal.returns-clause-sources
-returns-clause-sources g c = c.loop-source.invariant.sources ∙ take_all c.loop-source.source-index c.args.sources.now c.loop-source-test.false
+returns-clause-sources g c =
+    c.loop-source.invariant.sources ∙ take_all c.loop-source.source-index c.args.sources.now c.loop-source-test.false

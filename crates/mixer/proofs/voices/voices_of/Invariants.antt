@@ -7,7 +7,8 @@ use Rattle.mixer.proofs.voices.voices_of.Given as goal
 
 abbrev pub invariant-loop-source : goal.invariant-loop-source
 invariant-loop-source g l = record {
-  heard : (given : List Given) → Has l.playouts (map to_playouts given) → l.voices.items ≡ map (voice_of l.rows given) (take l.source-index l.sources);
+  heard : (given : List Given) → Has l.playouts (map to_playouts given)
+      → l.voices.items ≡ map (voice_of l.rows given) (take l.source-index l.sources);
   sources : map (λ v. v.source) l.voices.items ≡ take l.source-index l.sources;
   long : AreLong l.rows l.voices.items;
   last : IsRate l.rows l.last;

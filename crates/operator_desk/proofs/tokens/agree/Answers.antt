@@ -9,7 +9,8 @@ agrees-requires c =
     let ys = c.args.more.now.items in
     let few : c.loop-k.k < length xs = search rules in
     let few2 : c.loop-k.k < length ys = search rules in
-    same_mark c.args.log.now xs ys c.loop-k.k c.index.result.now c.index-in-loop-k.result.now c.requires.fewer c.requires.more few few2 c.index.ensures c.index-in-loop-k.ensures
+    same_mark c.args.log.now xs ys c.loop-k.k c.index.result.now c.index-in-loop-k.result.now c.requires.fewer
+    c.requires.more few few2 c.index.ensures c.index-in-loop-k.ensures
 
 pub loop-k-preserved : goal.loop-k-preserved
 loop-k-preserved c =
@@ -17,7 +18,8 @@ loop-k-preserved c =
     let ys = c.args.more.now.items in
     let few : c.loop-k.k < length xs = search rules in
     let few2 : c.loop-k.k < length ys = search rules in
-    subst (λ (n : ℕ). Agree n xs ys) (one_more c.loop-k.k) (agree_more xs ys c.loop-k.k c.index.result.now c.index-in-loop-k.result.now c.loop-k.invariant few few2 c.index.ensures c.index-in-loop-k.ensures c.agrees.ensures)
+    subst (λ (n : ℕ). Agree n xs ys) (one_more c.loop-k.k) (agree_more xs ys c.loop-k.k c.index.result.now
+    c.index-in-loop-k.result.now c.loop-k.invariant few few2 c.index.ensures c.index-in-loop-k.ensures c.agrees.ensures)
 
 pub returns : goal.returns
 returns c =

@@ -19,8 +19,18 @@ loop-k-preserved c =
     let few : k < length ys = search rules in
     let items : c.push_reserved.new.self.items ≡ old ++ t ∷ [] = c.push_reserved.ensures.items in
     record {
-      marks = ap marks items ∙ (map-append of old (t ∷ []) ∙ (ap (λ m. marks old ++ m ∷ []) c.again.ensures.0 ∙ (ap (λ ms. ms ++ y.of ∷ []) inv.marks ∙ (sym (take_next of ys k y few c.index.ensures) ∙ ap (λ n. take n (marks ys)) (one_more k)))));
-      shown = ap shown items ∙ (map-append value old (t ∷ []) ∙ (ap (λ m. shown old ++ m ∷ []) c.again.ensures.1 ∙ (ap (λ ms. ms ++ y.value ∷ []) inv.shown ∙ (sym (take_next value ys k y few c.index.ensures) ∙ ap (λ n. take n (shown ys)) (one_more k)))));
+      marks =
+          ap marks items
+          ∙ (map-append of old (t ∷ [])
+          ∙ (ap (λ m. marks old ++ m ∷ []) c.again.ensures.0
+          ∙ (ap (λ ms. ms ++ y.of ∷ []) inv.marks
+          ∙ (sym (take_next of ys k y few c.index.ensures) ∙ ap (λ n. take n (marks ys)) (one_more k)))));
+      shown =
+          ap shown items
+          ∙ (map-append value old (t ∷ [])
+          ∙ (ap (λ m. shown old ++ m ∷ []) c.again.ensures.1
+          ∙ (ap (λ ms. ms ++ y.value ∷ []) inv.shown
+          ∙ (sym (take_next value ys k y few c.index.ensures) ∙ ap (λ n. take n (shown ys)) (one_more k)))));
       length = c.push_reserved.ensures.len ∙ ap (λ n. n + 1) inv.length;
       capacity = c.push_reserved.ensures.capacity ∙ inv.capacity;
     }

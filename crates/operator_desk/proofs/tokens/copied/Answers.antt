@@ -13,7 +13,12 @@ loop-k-preserved c =
     let y = c.index.result.now in
     let few : k < length ys = search rules in
     record {
-      copies = c.push_reserved.ensures.items ∙ (ap (λ e. c.loop-k.copies.items ++ e ∷ []) (c.in_ok-copy.ensures ∙ c.read.ensures) ∙ (ap (λ es. es ++ y.value ∷ []) inv.copies ∙ (sym (take_next (λ (u : OnceToken EntryOf). u.value) ys k y few c.index.ensures) ∙ ap (λ n. take n (shown ys)) (one_more k))));
+      copies =
+          c.push_reserved.ensures.items
+          ∙ (ap (λ e. c.loop-k.copies.items ++ e ∷ []) (c.in_ok-copy.ensures ∙ c.read.ensures)
+          ∙ (ap (λ es. es ++ y.value ∷ []) inv.copies
+          ∙ (sym (take_next (λ (u : OnceToken EntryOf). u.value) ys k y few c.index.ensures)
+          ∙ ap (λ n. take n (shown ys)) (one_more k))));
       length = c.push_reserved.ensures.len ∙ ap (λ n. n + 1) inv.length;
       capacity = c.push_reserved.ensures.capacity ∙ inv.capacity;
     }

@@ -15,7 +15,9 @@ loop-k-preserved c =
     let op = c.args.op in
     let few : k < length ys = search rules in
     let other : nat_eq y.value.op op ≡ false = search rules in
-    ap (λ n. numbers op (take n (shown ys))) (sym (one_more k)) ∙ (ap (numbers op) (take_next (λ (u : OnceToken EntryOf). u.value) ys k y few c.index.ensures) ∙ (other_numbers op (take k (shown ys)) y.value other ∙ c.loop-k.invariant))
+    ap (λ n. numbers op (take n (shown ys))) (sym (one_more k))
+    ∙ (ap (numbers op) (take_next (λ (u : OnceToken EntryOf). u.value) ys k y few c.index.ensures)
+    ∙ (other_numbers op (take k (shown ys)) y.value other ∙ c.loop-k.invariant))
 
 pub returns-then-op-clause-some : goal.returns-then-op-clause-some
 returns-then-op-clause-some c = λ same.
@@ -25,4 +27,5 @@ returns-then-op-clause-some c = λ same.
     let op = c.args.op in
     let few : k < length ys = search rules in
     let own : nat_eq y.value.op op ≡ true = search rules in
-    own_behind op (shown ys) k y.value (take_next (λ (u : OnceToken EntryOf). u.value) ys k y few c.index.ensures) own (same ∙ sym c.loop-k.invariant)
+    own_behind op (shown ys) k y.value (take_next (λ (u : OnceToken EntryOf). u.value) ys k y few c.index.ensures) own
+    (same ∙ sym c.loop-k.invariant)

@@ -4,4 +4,5 @@ use Rattle.operator_desk.specs.OwnCalls.{numbers}
 use Rattle.operator_desk.proofs.tokens.none_of.Given as goal
 
 abbrev pub invariant-loop-k : goal.invariant-loop-k
-invariant-loop-k l = numbers l.op (take l.k (shown l.entries.items)) ≡ numbers l.op (take l.from (shown l.entries.items))
+invariant-loop-k l =
+    numbers l.op (take l.k (shown l.entries.items)) ≡ numbers l.op (take l.from (shown l.entries.items))

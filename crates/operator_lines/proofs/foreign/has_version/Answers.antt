@@ -11,4 +11,6 @@ loop-at-preserved c =
     let rest = take_all (length line - at) (drop at line) (omega (arith, length-drop at line)) in
     let not : begins_version (drop at line) ≡ false =
     sym (ap begins_version rest) ∙ sym c.begins_version.ensures ∙ c.if-begins_version.false in
-    sym (ap (λ b. b || has_version (drop (at + 1) line)) not) ∙ sym (version_step line at c.loop-at-test.true) ∙ c.loop-at.invariant
+    sym (ap (λ b. b || has_version (drop (at + 1) line)) not)
+    ∙ sym (version_step line at c.loop-at-test.true)
+    ∙ c.loop-at.invariant

@@ -9,4 +9,5 @@ pub returns-clause-waits : goal.returns-clause-waits
 returns-clause-waits c source steps = waits_on source steps no_requests
 
 pub returns-clause-due : goal.returns-clause-due
-returns-clause-due c source steps moment is = sym (waits_on source steps no_requests) ∙ (due_parts source moment (after_steps steps no_requests) is).waits
+returns-clause-due c source steps moment is =
+    sym (waits_on source steps no_requests) ∙ (due_parts source moment (after_steps steps no_requests) is).waits

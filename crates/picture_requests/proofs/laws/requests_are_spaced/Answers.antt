@@ -8,4 +8,5 @@ pub returns-clause-spaced : goal.returns-clause-spaced
 returns-clause-spaced c source steps order due = run source 0 steps no_requests None order due tt
 
 pub returns-clause-two : goal.returns-clause-two
-returns-clause-two c source steps moment order due = two_in_second moment (asks_of source steps) (run source 0 steps no_requests None order due tt)
+returns-clause-two c source steps moment order due =
+    two_in_second moment (asks_of source steps) (run source 0 steps no_requests None order due tt)

@@ -8,4 +8,5 @@ use Rattle.picture_requests.proofs.laws.what_waits_becomes_due.Goals as goal
 pub returns : goal.returns
 returns c source steps moment waits old =
     let end = after_steps steps no_requests in
-    due_then source moment end (waits_on source steps no_requests ∙ waits) (none_lately source moment end.sent (past_on source moment steps no_requests refl old))
+    due_then source moment end (waits_on source steps no_requests ∙ waits)
+    (none_lately source moment end.sent (past_on source moment steps no_requests refl old))

@@ -11,7 +11,8 @@ pub returns-clause-len : goal.returns-clause-len
 returns-clause-len g c =
     let s = c.args.source.now in
     let xs = c.args.sources.now.items in
-    let out : c.retain.new.self.items ≡ without_source s xs = filter_same _ _ _ (λ x b f k. search rules) _ _ c.retain.ensures.filtered in
+    let out : c.retain.new.self.items ≡ without_source s xs =
+    filter_same _ _ _ (λ x b f k. search rules) _ _ c.retain.ensures.filtered in
     let old = c.args.sources.now.ok in
     let new = c.retain.new.self.ok in
     omega (arith, old, new, ap length out, fewer s xs c.requires)

@@ -11,5 +11,6 @@ returns-clause-cells g c =
 
 pub returns-clause-long : goal.returns-clause-long
 returns-clause-long g c =
-    ap (λ (ps : List Bool). length ps) (with_items_is c.args.present.now c.clear.new.present (c.clear.ensures.long ∙ c.deref_mut.ensures.len))
+    ap (λ (ps : List Bool). length ps)
+    (with_items_is c.args.present.now c.clear.new.present (c.clear.ensures.long ∙ c.deref_mut.ensures.len))
     ∙ c.clear.ensures.long ∙ ap (λ (ps : List Bool). length ps) c.deref_mut.ensures.value

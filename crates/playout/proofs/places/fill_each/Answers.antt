@@ -19,8 +19,11 @@ loop-k-preserved c =
     let at = c.args.at + c.loop-k.k in
     let x = get_or c.args.new.now c.loop-k.k (pos 0) in
     let fits : SFits w16 x = search rules in
-    let cells : cells_of c.fill.new.present c.fill.new.samples ≡ filled now at x = c.fill.ensures.cells ∙ ap (filled now at) (to_z-of_z w16 _ fits) in
-    let more = fills_more now (cells_of c.fill.new.present c.fill.new.samples) c.args.at c.loop-k.k c.args.new.now x c.loop-k-test.true (λ i. x) cells in
+    let cells : cells_of c.fill.new.present c.fill.new.samples ≡ filled now at x =
+    c.fill.ensures.cells ∙ ap (filled now at) (to_z-of_z w16 _ fits) in
+    let more =
+    fills_more now (cells_of c.fill.new.present c.fill.new.samples) c.args.at c.loop-k.k c.args.new.now x
+    c.loop-k-test.true (λ i. x) cells in
     let kept = ap one c.fill.ensures.new in
     record {
       long = c.fill.ensures.long ∙ c.loop-k.invariant.long;
@@ -42,7 +45,9 @@ returns c =
     let at = c.args.at + c.loop-k.k in
     let none = at_drop_all (λ (xs : List ℤ). news now at xs) c.args.new.now c.loop-k.k c.loop-k-test.false in
     record {
-      cells = sym (at_drop_all (λ (xs : List ℤ). fills now at xs) c.args.new.now c.loop-k.k c.loop-k-test.false) ∙ c.loop-k.invariant.cells;
+      cells =
+          sym (at_drop_all (λ (xs : List ℤ). fills now at xs) c.args.new.now c.loop-k.k c.loop-k-test.false)
+          ∙ c.loop-k.invariant.cells;
       count = omega (arith, none, c.loop-k.invariant.count);
       most = omega (arith, c.loop-k.invariant.most, c.loop-k-test.false, c.loop-k.auto.k-end);
       long = c.loop-k.invariant.long;

@@ -10,7 +10,12 @@ loop-preserved g c =
     let e = c.in_ok-push.ensures.items in
     record {
       count = rw e (omega (arith, length-append c.loop.ssrcs.items (ssrc ∷ [])));
-      fits = rw e (AllByRecursion-push (λ (ssrc : ℕ). ssrc < 2 ^ 32) c.loop.ssrcs.items ssrc c.loop.invariant.fits (omega arith));
-      parts = rw e (text_more (λ (n : ℕ). to_be_bytes w32 n) c.args.octets.now c.loop.ssrcs.items ssrc c.loop.rest.now _ c.loop.invariant.parts c.u32_from-ssrc.ensures.parts);
+      fits =
+          rw e
+          (AllByRecursion-push (λ (ssrc : ℕ). ssrc < 2 ^ 32) c.loop.ssrcs.items ssrc c.loop.invariant.fits
+          (omega arith));
+      parts =
+          rw e (text_more (λ (n : ℕ). to_be_bytes w32 n) c.args.octets.now c.loop.ssrcs.items ssrc c.loop.rest.now _
+          c.loop.invariant.parts c.u32_from-ssrc.ensures.parts);
       enough = omega arith;
     }

@@ -9,6 +9,8 @@ loop-preserved g c =
     let e = c.in_ok-push.ensures.items in
     record {
       fits = rw e (AllByRecursion-push FitsWord c.loop.words.items word c.loop.invariant.fits c.word_from.ensures.fits);
-      parts = rw e (text_more word_octets c.args.octets.now c.loop.words.items word c.loop.rest.now _ c.loop.invariant.parts c.word_from.ensures.parts);
+      parts =
+          rw e (text_more word_octets c.args.octets.now c.loop.words.items word c.loop.rest.now _ c.loop.invariant.parts
+          c.word_from.ensures.parts);
       enough = omega arith;
     }

@@ -8,8 +8,11 @@ use Rattle.rtcp_codec.proofs.checking.chunks_size.Given as goal
 
 abbrev pub invariant-loop-chunk : goal.invariant-loop-chunk
 invariant-loop-chunk g l = record {
-  size : l.size + length (flat_map (λ c. filled (chunk_octets c)) (map chunk_of (drop l.chunk-index l.chunks))) ≡ length (flat_map (λ c. filled (chunk_octets c)) (map chunk_of l.chunks));
+  size : l.size + length (flat_map (λ c. filled (chunk_octets c)) (map chunk_of (drop l.chunk-index l.chunks)))
+      ≡ length (flat_map (λ c. filled (chunk_octets c)) (map chunk_of l.chunks));
   most : l.size ≤ most_octets;
-  back : AllByRecursion (λ c. TextsFit c.items) (map chunk_of l.chunks) → AllByRecursion (λ c. TextsFit c.items) (map chunk_of (drop l.chunk-index l.chunks));
-  texts : AllByRecursion (λ c. TextsFit c.items) (map chunk_of (drop l.chunk-index l.chunks)) → AllByRecursion (λ c. TextsFit c.items) (map chunk_of l.chunks);
+  back : AllByRecursion (λ c. TextsFit c.items) (map chunk_of l.chunks)
+      → AllByRecursion (λ c. TextsFit c.items) (map chunk_of (drop l.chunk-index l.chunks));
+  texts : AllByRecursion (λ c. TextsFit c.items) (map chunk_of (drop l.chunk-index l.chunks))
+      → AllByRecursion (λ c. TextsFit c.items) (map chunk_of l.chunks);
 }

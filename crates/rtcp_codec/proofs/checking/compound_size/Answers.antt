@@ -13,13 +13,18 @@ pub returns-in_err-size-clause-err : goal.returns-in_err-size-clause-err
 returns-in_err-size-clause-err g c =
     let p = err_from_is_err_and c.from_residual.result c.from_residual.ensures.1 in
     let i = c.loop-packet.packet-index in
-    let left = mapped_left packet_of c.args.packets.now i c.packet-item.result c.loop-packet-test.true c.packet-item.is in
-    rw (p.1, p.2) (inr (c.if-not-begins_with_report.ensures.good refl, c.loop-packet.invariant.fault _ (fault_left c.in_err-size.field-0.0 _ _ _ left c.in_err-size.ensures.err)))
+    let left =
+    mapped_left packet_of c.args.packets.now i c.packet-item.result c.loop-packet-test.true c.packet-item.is in
+    rw (p.1, p.2) (inr (
+      c.if-not-begins_with_report.ensures.good refl,
+      c.loop-packet.invariant.fault _ (fault_left c.in_err-size.field-0.0 _ _ _ left c.in_err-size.ensures.err),
+    ))
 
 pub loop-packet-preserved : goal.loop-packet-preserved
 loop-packet-preserved g c =
     let i = c.loop-packet.packet-index in
-    let left = mapped_left packet_of c.args.packets.now i c.packet-item.result c.loop-packet-test.true c.packet-item.is in
+    let left =
+    mapped_left packet_of c.args.packets.now i c.packet-item.result c.loop-packet-test.true c.packet-item.is in
     let len = written_length _ _ _ left in
     record {
       size = omega (arith, len, c.in_ok-size.ensures.size, c.loop-packet.invariant.size);

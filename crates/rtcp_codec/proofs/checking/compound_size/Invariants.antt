@@ -9,8 +9,11 @@ use Rattle.rtcp_codec.proofs.checking.compound_size.Given as goal
 
 abbrev pub invariant-loop-packet : goal.invariant-loop-packet
 invariant-loop-packet g l = record {
-  size : l.total + length (written (packets_of (drop l.packet-index l.packets))) ≡ length (written (packets_of l.packets));
+  size : l.total + length (written (packets_of (drop l.packet-index l.packets)))
+      ≡ length (written (packets_of l.packets));
   most : l.total ≤ (4 + most_octets) * l.packet-index;
-  good : AllByRecursion IsWritable (packets_of (drop l.packet-index l.packets)) → AllByRecursion IsWritable (packets_of l.packets);
-  fault : (f : WriteFault) → HasPacketFault f (packets_of (drop l.packet-index l.packets)) → HasPacketFault f (packets_of l.packets);
+  good : AllByRecursion IsWritable (packets_of (drop l.packet-index l.packets))
+      → AllByRecursion IsWritable (packets_of l.packets);
+  fault : (f : WriteFault) → HasPacketFault f (packets_of (drop l.packet-index l.packets))
+      → HasPacketFault f (packets_of l.packets);
 }

@@ -11,4 +11,10 @@ pub returns-in_ok-reason-in-Bye-clause-size : goal.returns-in_ok-reason-in-Bye-c
 returns-in_ok-reason-in-Bye-clause-size g c =
     let e = ap (λ (p : Rtcp g.row.A.Denot). length (fields (packet_of p))) c.in-Bye.is in
     let bye = c.in-Bye.bye in
-    omega (arith, e, length-append (number_octets bye.ssrcs.items) (reason_octets (option_map (λ v. v.items) bye.reason)), numbers_length bye.ssrcs.items, c.in_ok-reason-in-Bye.ensures.size)
+    omega (
+      arith,
+      e,
+      length-append (number_octets bye.ssrcs.items) (reason_octets (option_map (λ v. v.items) bye.reason)),
+      numbers_length bye.ssrcs.items,
+      c.in_ok-reason-in-Bye.ensures.size,
+    )

@@ -7,6 +7,8 @@ use Rattle.rtcp_codec.proofs.checking.has_chunks.Given as goal
 
 abbrev pub invariant-loop-chunk : goal.invariant-loop-chunk
 invariant-loop-chunk g l = record {
-  good : AllByRecursion (λ c. ItemsTold c.items) (map chunk_of (drop l.chunk-index l.chunks)) → AllByRecursion (λ c. ItemsTold c.items) (map chunk_of l.chunks);
-  back : AllByRecursion (λ c. ItemsTold c.items) (map chunk_of l.chunks) → AllByRecursion (λ c. ItemsTold c.items) (map chunk_of (drop l.chunk-index l.chunks));
+  good : AllByRecursion (λ c. ItemsTold c.items) (map chunk_of (drop l.chunk-index l.chunks))
+      → AllByRecursion (λ c. ItemsTold c.items) (map chunk_of l.chunks);
+  back : AllByRecursion (λ c. ItemsTold c.items) (map chunk_of l.chunks)
+      → AllByRecursion (λ c. ItemsTold c.items) (map chunk_of (drop l.chunk-index l.chunks));
 }

@@ -8,7 +8,8 @@ use Rattle.rtcp_codec.proofs.checking.items_size.Given as goal
 
 abbrev pub invariant-loop-item : goal.invariant-loop-item
 invariant-loop-item g l = record {
-  size : l.size + length (flat_map item_octets (map item_of (drop l.item-index l.items))) ≡ length (flat_map item_octets (map item_of l.items));
+  size : l.size + length (flat_map item_octets (map item_of (drop l.item-index l.items)))
+      ≡ length (flat_map item_octets (map item_of l.items));
   most : l.size ≤ most_octets;
   back : TextsFit (map item_of l.items) → TextsFit (map item_of (drop l.item-index l.items));
   texts : TextsFit (map item_of (drop l.item-index l.items)) → TextsFit (map item_of l.items);

@@ -17,12 +17,16 @@ pub returns-in_err-rest-2-clause-err : goal.returns-in_err-rest-2-clause-err
 returns-in_err-rest-2-clause-err c =
     let p = err_from_is_err_and c.from_residual-in_err-rest-2.result c.from_residual-in_err-rest-2.ensures.1 in
     let rest = c.loop-rest.rest.now in
-    rw (p.1, p.2) (later_fault c.in_err-rest-2.field-0.0 rest c.args.octets.now c.loop-rest.invariant (omega (arith, eqb-false (length rest) 0 (sym c.loop-rest-test.ensures))) c.in_err-rest-2.ensures.err)
+    rw (p.1, p.2) (later_fault c.in_err-rest-2.field-0.0 rest c.args.octets.now c.loop-rest.invariant
+    (omega (arith, eqb-false (length rest) 0 (sym c.loop-rest-test.ensures))) c.in_err-rest-2.ensures.err)
 
 pub loop-rest-preserved : goal.loop-rest-preserved
-loop-rest-preserved c = goes_on c.loop-rest.rest.now c.in_ok-rest-2.rest.now c.args.octets.now c.in_ok-rest-2.ensures.ok c.loop-rest.invariant
+loop-rest-preserved c =
+    goes_on c.loop-rest.rest.now c.in_ok-rest-2.rest.now c.args.octets.now c.in_ok-rest-2.ensures.ok
+    c.loop-rest.invariant
 
 pub returns-clause-ok : goal.returns-clause-ok
 returns-clause-ok c =
     let rest = c.loop-rest.rest.now in
-    is_compound rest c.args.octets.now c.loop-rest.invariant (nil_from_length rest (eqb-true (length rest) 0 (sym c.loop-rest-test.ensures)))
+    is_compound rest c.args.octets.now c.loop-rest.invariant
+    (nil_from_length rest (eqb-true (length rest) 0 (sym c.loop-rest-test.ensures)))

@@ -13,11 +13,15 @@ loop-i-init g c = search rules
 pub loop-i-preserved : goal.loop-i-preserved
 loop-i-preserved g c =
     elim c.if-blp-i-eq1.branch [
-      | then-blp-i-eq1+in_ok-push-2 w ↦ let n = named_bit c.loop-i.i c.args.pid c.args.blp c.loop-i.auto.i w.if-blp-i-eq1.true in search (rules, n)
-      | else-blp-i-eq1 w ↦ let n = unnamed_bit c.loop-i.i c.args.pid c.args.blp c.loop-i.auto.i w.if-blp-i-eq1.false in search (rules, n)
+      | then-blp-i-eq1+in_ok-push-2 w ↦
+          let n = named_bit c.loop-i.i c.args.pid c.args.blp c.loop-i.auto.i w.if-blp-i-eq1.true in search (rules, n)
+      | else-blp-i-eq1 w ↦
+          let n = unnamed_bit c.loop-i.i c.args.pid c.args.blp c.loop-i.auto.i w.if-blp-i-eq1.false in search (rules, n)
     ]
 
 pub returns : goal.returns
 returns g c =
     let end : c.loop-i.i - 1 ≡ most_bits = omega arith in
-    c.loop-i.invariant ∙ ap (λ (n : ℕ). numbers_up_to n c.args.pid c.args.blp) end ∙ sym (numbers_are c.args.pid c.args.blp)
+    c.loop-i.invariant
+    ∙ ap (λ (n : ℕ). numbers_up_to n c.args.pid c.args.blp) end
+    ∙ sym (numbers_are c.args.pid c.args.blp)

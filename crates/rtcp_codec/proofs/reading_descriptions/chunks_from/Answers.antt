@@ -20,11 +20,19 @@ loop-preserved g c =
     let left : c.args.count - c.loop.counter ≡ suc (c.args.count - (c.loop.counter + 1)) = omega arith in
     record {
       count = rw e (omega (arith, length-append so_far (chunk ∷ [])));
-      fits = rw (e, map_more chunk_of so_far chunk) (AllByRecursion-push FitsChunk (map chunk_of so_far) (chunk_of chunk) c.loop.invariant.fits c.in_ok-chunk.ensures.fits);
-      parts = rw (e, map_more chunk_of so_far chunk) (Describe-more (map chunk_of so_far) (chunk_of chunk) c.args.octets.now c.loop.rest.now _ found.0 c.loop.invariant.parts found.1 found.2);
-      whole = chunks_behind (chunk_of chunk) found.0 c.loop.rest.now _ _ c.in_ok-chunk.ensures.fits found.1 found.2 (subst (λ (n : ℕ). HasChunks n c.loop.rest.now) left c.loop.invariant.whole);
+      fits =
+          rw (e, map_more chunk_of so_far chunk) (AllByRecursion-push FitsChunk (map chunk_of so_far) (chunk_of chunk)
+          c.loop.invariant.fits c.in_ok-chunk.ensures.fits);
+      parts =
+          rw (e, map_more chunk_of so_far chunk) (Describe-more (map chunk_of so_far) (chunk_of chunk) c.args.octets.now
+          c.loop.rest.now _ found.0 c.loop.invariant.parts found.1 found.2);
+      whole =
+          chunks_behind (chunk_of chunk) found.0 c.loop.rest.now _ _ c.in_ok-chunk.ensures.fits found.1 found.2
+          (subst (λ (n : ℕ). HasChunks n c.loop.rest.now) left c.loop.invariant.whole);
       words = c.in_ok-chunk.ensures.words;
     }
 
 pub returns-clause-parts : goal.returns-clause-parts
-returns-clause-parts g c = subst (λ (l : List Chunk). Describe l c.args.octets.now) (append-nil (map chunk_of c.loop.chunks.items)) (c.loop.invariant.parts [] tt)
+returns-clause-parts g c =
+    subst (λ (l : List Chunk). Describe l c.args.octets.now) (append-nil (map chunk_of c.loop.chunks.items))
+    (c.loop.invariant.parts [] tt)

@@ -10,7 +10,12 @@ loop-preserved g c =
     let e = c.in_ok-push.ensures.items in
     record {
       count = rw e (omega (arith, length-append c.loop.blocks.items (block ∷ [])));
-      fits = rw e (AllByRecursion-push IsSoundBlock c.loop.blocks.items block c.loop.invariant.fits c.block_from.ensures.fits);
-      parts = rw e (text_more block_octets c.args.octets.now c.loop.blocks.items block c.loop.rest.now _ c.loop.invariant.parts c.block_from.ensures.parts);
+      fits =
+          rw e
+          (AllByRecursion-push IsSoundBlock c.loop.blocks.items block c.loop.invariant.fits c.block_from.ensures.fits);
+      parts =
+          rw e
+          (text_more block_octets c.args.octets.now c.loop.blocks.items block c.loop.rest.now _ c.loop.invariant.parts
+          c.block_from.ensures.parts);
       enough = omega arith;
     }

@@ -13,5 +13,6 @@ returns-clause-items g c =
     let start = c.len-start.result in
     let words : (c.len.result - start - 4) / 4 ≡ length body / 4 = omega arith in
     rw (c.put-2.ensures.items, c.put.ensures.items, c.append_body.ensures.items, c.append.ensures.items)
-    (headed c.args.out.now.items body (128 + c.count_of.result) c.type_of.result (get_or octets 0 0) (get_or octets 1 0) start (omega arith)
+    (headed c.args.out.now.items body (128 + c.count_of.result) c.type_of.result (get_or octets 0 0) (get_or octets 1 0)
+    start (omega arith)
     ∙ rw (c.count_of.ensures.value, c.type_of.ensures, c.to_be_bytes.ensures, words) refl)

@@ -9,9 +9,12 @@ use Rattle.rtcp_codec.proofs.writing.append_packets.Given as goal
 
 abbrev pub invariant-loop-packet : goal.invariant-loop-packet
 invariant-loop-packet g l = record {
-  items : l.out.items ++ written (packets_of (drop l.packet-index l.packets)) ≡ l.fn.out.items ++ written (packets_of l.packets);
-  len : vec_len l.out + length (written (packets_of (drop l.packet-index l.packets))) ≡ vec_len l.fn.out + length (written (packets_of l.packets));
+  items : l.out.items ++ written (packets_of (drop l.packet-index l.packets))
+      ≡ l.fn.out.items ++ written (packets_of l.packets);
+  len : vec_len l.out + length (written (packets_of (drop l.packet-index l.packets)))
+      ≡ vec_len l.fn.out + length (written (packets_of l.packets));
   capacity : vec_capacity l.fn.out ≤ vec_capacity l.out;
   writable : AllByRecursion IsWritable (packets_of (drop l.packet-index l.packets));
-  types : AllByRecursion FitsTypes (packets_of (drop l.packet-index l.packets)) → AllByRecursion FitsTypes (packets_of l.packets);
+  types : AllByRecursion FitsTypes (packets_of (drop l.packet-index l.packets))
+      → AllByRecursion FitsTypes (packets_of l.packets);
 }

@@ -8,9 +8,12 @@ use Rattle.rtcp_codec.proofs.writing_descriptions.append_chunks.Given as goal
 
 abbrev pub invariant-loop-chunk : goal.invariant-loop-chunk
 invariant-loop-chunk g l = record {
-  items : l.out.items ++ flat_map (λ c. filled (chunk_octets c)) (map chunk_of (drop l.chunk-index l.chunks)) ≡ l.fn.out.items ++ flat_map (λ c. filled (chunk_octets c)) (map chunk_of l.chunks);
-  len : vec_len l.out + length (flat_map (λ c. filled (chunk_octets c)) (map chunk_of (drop l.chunk-index l.chunks))) ≡ vec_len l.fn.out + length (flat_map (λ c. filled (chunk_octets c)) (map chunk_of l.chunks));
+  items : l.out.items ++ flat_map (λ c. filled (chunk_octets c)) (map chunk_of (drop l.chunk-index l.chunks))
+      ≡ l.fn.out.items ++ flat_map (λ c. filled (chunk_octets c)) (map chunk_of l.chunks);
+  len : vec_len l.out + length (flat_map (λ c. filled (chunk_octets c)) (map chunk_of (drop l.chunk-index l.chunks)))
+      ≡ vec_len l.fn.out + length (flat_map (λ c. filled (chunk_octets c)) (map chunk_of l.chunks));
   capacity : vec_capacity l.fn.out ≤ vec_capacity l.out;
   texts : AllByRecursion (λ c. TextsFit c.items) (map chunk_of (drop l.chunk-index l.chunks));
-  types : AllByRecursion FitsTypesOfChunk (map chunk_of (drop l.chunk-index l.chunks)) → AllByRecursion FitsTypesOfChunk (map chunk_of l.chunks);
+  types : AllByRecursion FitsTypesOfChunk (map chunk_of (drop l.chunk-index l.chunks))
+      → AllByRecursion FitsTypesOfChunk (map chunk_of l.chunks);
 }

@@ -1,4 +1,5 @@
-use Rattle.std.proofs.Common.{◌++◌, ℕ, List, drop, ◌+◌, get_or, length, pos, sym, ap, ◌∙◌, append_assoc, arith, length-append}
+use Rattle.std.proofs.Common.{◌++◌, ℕ, List, drop, ◌+◌, get_or, length, pos, sym, ap, ◌∙◌, append_assoc, arith}
+use Rattle.std.proofs.Common.{length-append}
 use Rattle.std.specs.List.{flat_map}
 use Rattle.rtcp_codec.specs.declared.report.ReportBlock.{ReportBlock}
 use Rattle.rtcp_codec.specs.Report.{block_octets, FitsBlock, FitsLost}
@@ -27,9 +28,15 @@ loop-block-preserved g c =
     let text = text_at block_octets blocks i zeros c.loop-block-test.true in
     let len = ap length text ∙ length-append one rest in
     record {
-      items = ap (λ (l : List ℕ). l ++ rest) c.append_block.ensures.items ∙ append_assoc c.loop-block.out.items one rest ∙ ap (λ (l : List ℕ). c.loop-block.out.items ++ l) (sym text) ∙ c.loop-block.invariant.items;
+      items =
+          ap (λ (l : List ℕ). l ++ rest) c.append_block.ensures.items
+          ∙ append_assoc c.loop-block.out.items one rest
+          ∙ ap (λ (l : List ℕ). c.loop-block.out.items ++ l) (sym text)
+          ∙ c.loop-block.invariant.items;
       len = omega (arith, len, c.loop-block.invariant.len);
       lost = all_behind (λ b. FitsLost b.lost) blocks i zeros c.loop-block-test.true c.loop-block.invariant.lost;
       capacity = omega arith;
-      fits = λ h. c.loop-block.invariant.fits (all_from FitsBlock blocks i zeros c.loop-block-test.true c.append_block.ensures.fits h);
+      fits = λ h.
+          c.loop-block.invariant.fits
+          (all_from FitsBlock blocks i zeros c.loop-block-test.true c.append_block.ensures.fits h);
     }

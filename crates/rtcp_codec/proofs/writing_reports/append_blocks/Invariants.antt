@@ -6,8 +6,10 @@ use Rattle.rtcp_codec.proofs.writing_reports.append_blocks.Given as goal
 
 abbrev pub invariant-loop-block : goal.invariant-loop-block
 invariant-loop-block g l = record {
-  items : l.out.items ++ flat_map block_octets (drop l.block-index l.blocks) ≡ l.fn.out.items ++ flat_map block_octets l.blocks;
-  len : vec_len l.out + length (flat_map block_octets (drop l.block-index l.blocks)) ≡ vec_len l.fn.out + length (flat_map block_octets l.blocks);
+  items : l.out.items ++ flat_map block_octets (drop l.block-index l.blocks)
+      ≡ l.fn.out.items ++ flat_map block_octets l.blocks;
+  len : vec_len l.out + length (flat_map block_octets (drop l.block-index l.blocks))
+      ≡ vec_len l.fn.out + length (flat_map block_octets l.blocks);
   lost : AllByRecursion (λ b. FitsLost b.lost) (drop l.block-index l.blocks);
   capacity : vec_capacity l.fn.out ≤ vec_capacity l.out;
   fits : AllByRecursion FitsBlock (drop l.block-index l.blocks) → AllByRecursion FitsBlock l.blocks;

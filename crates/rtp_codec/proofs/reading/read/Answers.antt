@@ -9,7 +9,8 @@ use Rattle.rtp_codec.specs.View.{packet_of}
 use Rattle.rtp_codec.proofs.PacketLemmas.{packet_has_no_fault, one_packet}
 use Rattle.rtp_codec.proofs.reading.read.Goals as goal
 
-only : (octets : List ℕ) (r : Result RtpView RtpFault) → IfOk r (λ v. IsPacket (packet_of v) octets) → MatchResult r (λ v. first_fault octets ≡ None) (λ f. first_fault octets ≡ Some f) →
+only : (octets : List ℕ) (r : Result RtpView RtpFault) → IfOk r (λ v. IsPacket (packet_of v) octets)
+    → MatchResult r (λ v. first_fault octets ≡ None) (λ f. first_fault octets ≡ Some f) →
     (p : Packet) → IsPacket p octets → IsOkAnd r (λ v. packet_of v ≡ p)
 only octets (Ok v) found fault p k = one_packet p (packet_of v) octets k found
 only octets (Err f) found fault p k = absurd (let e : Some f ≡ None = sym fault ∙ packet_has_no_fault p octets k in cc)

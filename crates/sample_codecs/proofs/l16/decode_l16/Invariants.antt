@@ -3,4 +3,5 @@ use Rattle.sample_codecs.specs.L16.{samples_of}
 use Rattle.sample_codecs.proofs.l16.decode_l16.Given as goal
 
 abbrev pub invariant-loop-i : goal.invariant-loop-i
-invariant-loop-i l = (length l.octets ≡ 2 * length l.samples) × (take l.i l.samples ≡ samples_of (take (2 * l.i) l.octets))
+invariant-loop-i l =
+    (length l.octets ≡ 2 * length l.samples) × (take l.i l.samples ≡ samples_of (take (2 * l.i) l.octets))

@@ -1,4 +1,5 @@
-use Rattle.std.proofs.Common.{rules, arith, ◌≡◌, length, ◌+◌, ◌<◌, ◌++◌, ◌∷◌, [], ℤ, ℕ, add_assoc, slice_index_or, slice_set, take, pos, subst, sym}
+use Rattle.std.proofs.Common.{rules, arith, ◌≡◌, length, ◌+◌, ◌<◌, ◌++◌, ◌∷◌, [], ℤ, ℕ, add_assoc, slice_index_or}
+use Rattle.std.proofs.Common.{slice_set, take, pos, subst, sym}
 use Rattle.std.proofs.lemmas.List.{take_more, take_more_set}
 use Rattle.std.specs.List.{AllZip}
 use Rattle.sample_codecs.specs.MuLaw.{IsCode}
@@ -18,7 +19,9 @@ loop-i-preserved c =
       long,
       λ before.
           let held : AllZip IsCode (take i samples) (take i c.loop-i.out) = c.loop-i.invariant.1 before in
-          subst (λ (n : ℕ). AllZip IsCode (take n samples) (take n (slice_set c.loop-i.out i octet))) (add_assoc c.args.start c.loop-i.i 1)
+          subst (λ (n : ℕ). AllZip IsCode (take n samples) (take n (slice_set c.loop-i.out i octet)))
+          (add_assoc c.args.start c.loop-i.i 1)
           (subst (λ codes. AllZip IsCode (take (i + 1) samples) codes) (sym (take_more_set c.loop-i.out i octet within))
-          (subst (λ xs. AllZip IsCode xs (take i c.loop-i.out ++ octet ∷ [])) (sym (take_more samples i (pos 0) there)) (AllZip-more IsCode _ _ sample octet held one))),
+          (subst (λ xs. AllZip IsCode xs (take i c.loop-i.out ++ octet ∷ [])) (sym (take_more samples i (pos 0) there))
+          (AllZip-more IsCode _ _ sample octet held one))),
     )

@@ -11,7 +11,8 @@ returns-clause-same c = λ other.
     let lt : c.args.code < 256 = search rules in
     let fits : SFits w16 c.decode_sample.result = search rules in
     let is : to_z w16 (of_z w16 c.decode_sample.result) ≡ decoded c.args.code = grind (arith, to_z-of_z) in
-    sym (c.encode_sample.ensures.one c.args.code (subst (λ (z : ℤ). Holds z c.args.code) (sym is) (holds_decoded c.args.code lt other)))
+    sym (c.encode_sample.ensures.one c.args.code
+    (subst (λ (z : ℤ). Holds z c.args.code) (sym is) (holds_decoded c.args.code lt other)))
 
 pub returns-clause-zero : goal.returns-clause-zero
 returns-clause-zero c = λ is.

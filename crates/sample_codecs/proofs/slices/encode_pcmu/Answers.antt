@@ -1,4 +1,5 @@
-use Rattle.std.proofs.Common.{rules, arith, ◌≡◌, length, ◌+◌, ◌<◌, ◌++◌, ◌∷◌, [], ℤ, slice_index_or, slice_set, take, pos, subst, sym, to_z, of_z}
+use Rattle.std.proofs.Common.{rules, arith, ◌≡◌, length, ◌+◌, ◌<◌, ◌++◌, ◌∷◌, [], ℤ, slice_index_or, slice_set, take}
+use Rattle.std.proofs.Common.{pos, subst, sym, to_z, of_z}
 use mir.Syntax.{w16}
 use mir.Val.{SFits}
 use Rattle.std.proofs.lemmas.Int.{to_z-of_z}
@@ -20,11 +21,15 @@ loop-i-preserved c =
     let within : i < length c.loop-i.out = search rules in
     let fits : SFits w16 sample = search rules in
     let is : to_z w16 (of_z w16 sample) ≡ sample = grind (arith, to_z-of_z) in
-    let one : IsCode sample c.encode_sample.result = subst (λ (z : ℤ). IsCode z c.encode_sample.result) is c.encode_sample.ensures in (
+    let one : IsCode sample c.encode_sample.result =
+    subst (λ (z : ℤ). IsCode z c.encode_sample.result) is c.encode_sample.ensures in (
       long,
-      subst (λ codes. AllZip IsCode (take (i + 1) samples) codes) (sym (take_more_set c.loop-i.out i c.encode_sample.result within))
-          (subst (λ xs. AllZip IsCode xs (take i c.loop-i.out ++ c.encode_sample.result ∷ [])) (sym (take_more samples i (pos 0) there)) (AllZip-more IsCode _ _ sample c.encode_sample.result held one)),
+      subst (λ codes. AllZip IsCode (take (i + 1) samples) codes)
+          (sym (take_more_set c.loop-i.out i c.encode_sample.result within))
+          (subst (λ xs. AllZip IsCode xs (take i c.loop-i.out ++ c.encode_sample.result ∷ []))
+          (sym (take_more samples i (pos 0) there)) (AllZip-more IsCode _ _ sample c.encode_sample.result held one)),
     )
 
 pub returns-clause-codes : goal.returns-clause-codes
-returns-clause-codes c = codes_of_all c.args.samples.now c.loop-i.out c.loop-i.i c.loop-i.invariant.0 (omega arith) c.loop-i.invariant.1
+returns-clause-codes c =
+    codes_of_all c.args.samples.now c.loop-i.out c.loop-i.i c.loop-i.invariant.0 (omega arith) c.loop-i.invariant.1

@@ -8,6 +8,8 @@ use Rattle.script_text.proofs.answer.answer_report.Goals as goal
 pub returns-clause-answer : goal.returns-clause-answer
 returns-clause-answer g c = on_ok c.answer_item.result _ _ c.answer_item.ensures.answer (λ hands.
     let up = map datagram_of c.in_ok-up.up.items in
-    let text : c.print_all_up.new.out.items ≡ flat_map up_text up = rw c.deref.ensures.value at c.in_ok-print_all_up.ensures ∙ rw c.requires.empty refl in
-    report_answered c.args.core.now c.reports.new.self c.answer_item.new.core c.args.moment up c.print_all_up.new.out.items c.answer_item.new.out.items
+    let text : c.print_all_up.new.out.items ≡ flat_map up_text up =
+    rw c.deref.ensures.value at c.in_ok-print_all_up.ensures ∙ rw c.requires.empty refl in
+    report_answered c.args.core.now c.reports.new.self c.answer_item.new.core c.args.moment up
+    c.print_all_up.new.out.items c.answer_item.new.out.items
     c.in_ok-up.ensures.tells c.reports.ensures.others c.reports.ensures.asker text hands)

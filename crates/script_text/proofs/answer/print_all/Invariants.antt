@@ -6,4 +6,5 @@ use Rattle.script_text.proofs.answer.print_all.Given as goal
 
 -- the lines of what went out so far stand behind what stood before
 abbrev pub invariant-loop-egress : goal.invariant-loop-egress
-invariant-loop-egress g l = l.out.items ≡ l.fn.out.items ++ flat_map sent_text (map sent_of (take l.egress-index l.egresses))
+invariant-loop-egress g l =
+    l.out.items ≡ l.fn.out.items ++ flat_map sent_text (map sent_of (take l.egress-index l.egresses))

@@ -12,7 +12,9 @@ returns-in_err-append_half-2 g c =
     let old = buffer_of c.args.out.now in
     let new = buffer_of c.append_half-2.new.out in
     grows_err old new _ _ e c.from_residual-in_err-append_half-2.ensures.0
-    (grows_same old new _ _ (Err e) (address_parts c.args.address) (grows_stop old new (front ++ back) (decimal c.args.address.port) e (grows_then old (buffer_of c.append_half.new.out) new front back (Err e) c.in_ok-append_half.ensures c.in_err-append_half-2.ensures)))
+    (grows_same old new _ _ (Err e) (address_parts c.args.address) (grows_stop old new (front ++ back)
+    (decimal c.args.address.port) e (grows_then old (buffer_of c.append_half.new.out) new front back (Err e)
+    c.in_ok-append_half.ensures c.in_err-append_half-2.ensures)))
 
 pub returns : goal.returns
 returns g c =
@@ -23,4 +25,7 @@ returns g c =
     let mid = buffer_of c.append_half-2.new.out in
     let new = buffer_of c.append_number.new.out in
     grows_same old new _ _ _ (address_parts c.args.address)
-    (grows_then old mid new (front ++ back) (decimal c.args.address.port) _ (grows_then old (buffer_of c.append_half.new.out) mid front back (Ok tt) c.in_ok-append_half.ensures c.in_ok-append_half-2.ensures) (rw c.from.ensures at c.append_number.ensures))
+    (grows_then old mid new (front ++ back) (decimal c.args.address.port) _
+    (grows_then old (buffer_of c.append_half.new.out) mid front back (Ok tt) c.in_ok-append_half.ensures
+    c.in_ok-append_half-2.ensures)
+    (rw c.from.ensures at c.append_number.ensures))

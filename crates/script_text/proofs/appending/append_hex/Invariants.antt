@@ -5,4 +5,5 @@ use Rattle.script_text.proofs.appending.append_hex.Given as goal
 
 -- the octets so far are out
 abbrev pub invariant-loop-octet : goal.invariant-loop-octet
-invariant-loop-octet g l = Grows (buffer_of l.fn.out) (buffer_of l.out) (encode_lower (take l.octet-index l.octets)) (Ok tt)
+invariant-loop-octet g l =
+    Grows (buffer_of l.fn.out) (buffer_of l.out) (encode_lower (take l.octet-index l.octets)) (Ok tt)

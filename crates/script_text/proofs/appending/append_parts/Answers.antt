@@ -12,7 +12,8 @@ returns-in_err-append_hex g c =
     let new = buffer_of c.append_hex.new.out in
     let e = c.in_err-append_hex.field-0.0 in
     grows_err old new _ _ e c.from_residual.ensures.0
-    (grows_same old new _ _ (Err e) (sym (encode_append first rest)) (grows_stop old new (encode_lower first) (encode_lower rest) e c.in_err-append_hex.ensures))
+    (grows_same old new _ _ (Err e) (sym (encode_append first rest))
+    (grows_stop old new (encode_lower first) (encode_lower rest) e c.in_err-append_hex.ensures))
 
 pub returns : goal.returns
 returns g c =
@@ -20,4 +21,6 @@ returns g c =
     let rest = c.args.rest.now in
     let old = buffer_of c.args.out.now in
     let new = buffer_of c.append_hex-2.new.out in
-    grows_same old new _ _ c.append_hex-2.result (sym (encode_append first rest)) (grows_then old (buffer_of c.append_hex.new.out) new (encode_lower first) (encode_lower rest) c.append_hex-2.result c.in_ok-append_hex.ensures c.append_hex-2.ensures)
+    grows_same old new _ _ c.append_hex-2.result (sym (encode_append first rest))
+    (grows_then old (buffer_of c.append_hex.new.out) new (encode_lower first) (encode_lower rest) c.append_hex-2.result
+    c.in_ok-append_hex.ensures c.append_hex-2.ensures)

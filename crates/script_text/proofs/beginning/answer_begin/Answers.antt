@@ -6,7 +6,8 @@ use Rattle.script_text.proofs.BridgeLemmas.{on_ok}
 use Rattle.script_text.proofs.beginning.answer_begin.Goals as goal
 
 pub returns-then-renews-clause-answer : goal.returns-then-renews-clause-answer
-returns-then-renews-clause-answer g c = on_ok c.answer_item.result _ _ c.answer_item.ensures.answer (λ hands bridge heard stands.
+returns-then-renews-clause-answer g c =
+    on_ok c.answer_item.result _ _ c.answer_item.ensures.answer (λ hands bridge heard stands.
     let who = asker_in c.args.named.settings in
     let h = hands (begun_bridge bridge.decoding who) (c.in_ok-core.ensures.stands bridge.decoding) in
     rw c.if-renews.true (h.0, h.1 ∙ rw c.requires.empty refl))

@@ -7,7 +7,8 @@ use Rattle.script_text.proofs.calling.commands.Goals as goal
 pub returns-in-Err : goal.returns-in-Err
 returns-in-Err g c =
     let so_far = rw (c.in-Some.is, c.first_part-part.ensures.parts) at c.loop-left.invariant.commands in
-    fails_on _ _ c.loop-left.at (words_in c.first_part-part.result.words) (parts_in c.first_part-part.result.later) c.in-Err.fault so_far c.in-Err.ensures
+    fails_on _ _ c.loop-left.at (words_in c.first_part-part.result.words) (parts_in c.first_part-part.result.later)
+    c.in-Err.fault so_far c.in-Err.ensures
 
 pub loop-left-preserved : goal.loop-left-preserved
 loop-left-preserved g c =
@@ -20,7 +21,9 @@ loop-left-preserved g c =
     record {
       place = omega (arith, left, c.first_part-part.ensures.shorter);
       short = omega (arith, short, c.first_part-part.ensures.shorter);
-      commands = rw (c.first_part-part.ensures.count, next) (goes_on _ _ _ c.loop-left.at part (parts_in c.first_part-part.result.later) h.0 so_far h.1 h.2);
+      commands =
+          rw (c.first_part-part.ensures.count, next)
+          (goes_on _ _ _ c.loop-left.at part (parts_in c.first_part-part.result.later) h.0 so_far h.1 h.2);
     }
 
 pub returns : goal.returns

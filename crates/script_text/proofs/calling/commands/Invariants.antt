@@ -10,7 +10,8 @@ abbrev pub invariant-loop-left : goal.invariant-loop-left
 invariant-loop-left g l = record {
   place : l.at + size_of_parts l.left ≤ l.fn.place + size_of l.fn.words + 2;
   short : size_of_parts l.left ≤ size_of l.fn.words + 2;
-  commands : commands_of l.fn.place (parts_in (Some l.fn.words)) ≡ behind l.commands.items (commands_of l.at (parts_in l.left));
+  commands : commands_of l.fn.place (parts_in (Some l.fn.words))
+      ≡ behind l.commands.items (commands_of l.at (parts_in l.left));
 }
 
 abbrev pub decreases-loop-left : goal.decreases-loop-left

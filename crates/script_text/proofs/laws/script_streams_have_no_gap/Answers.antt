@@ -9,4 +9,5 @@ returns-clause-good c = steps_good c.good_desks_stay_good.ensures
 pub returns-clause-no_gap : goal.returns-clause-no_gap
 returns-clause-no_gap c decoding input name =
     let who = speaker_of input in
-    c.streams_have_no_gap.ensures who 1 (first_desk who) (steps_of decoding input) name (first_good who) (steps_good c.good_desks_stay_good.ensures decoding input)
+    c.streams_have_no_gap.ensures who 1 (first_desk who) (steps_of decoding input) name (first_good who)
+    (steps_good c.good_desks_stay_good.ensures decoding input)

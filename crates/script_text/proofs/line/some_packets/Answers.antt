@@ -6,4 +6,6 @@ use Rattle.script_text.proofs.PacketLemmas.{some_same}
 use Rattle.script_text.proofs.line.some_packets.Goals as goal
 
 pub returns-in-Some : goal.returns-in-Some
-returns-in-Some g c = subst (λ (r : Result (List SourcePacket) (ℕ × Fault)). Gives (λ v. v.items) c.packets.result r) (some_same 7 c.args.words _ c.in-Some.is) c.packets.ensures
+returns-in-Some g c =
+    subst (λ (r : Result (List SourcePacket) (ℕ × Fault)). Gives (λ v. v.items) c.packets.result r)
+    (some_same 7 c.args.words _ c.in-Some.is) c.packets.ensures

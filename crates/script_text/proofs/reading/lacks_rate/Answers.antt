@@ -4,4 +4,5 @@ use Rattle.script_text.proofs.Cuts.{only_one}
 use Rattle.script_text.proofs.reading.lacks_rate.Goals as goal
 
 pub returns-in-AddRoom-clause-lacking : goal.returns-in-AddRoom-clause-lacking
-returns-in-AddRoom-clause-lacking c is = let one = only_one (words_in c.args.words) (sym c.is_one_word.ensures ∙ is) in (one.0, c.in-AddRoom.is, one.1)
+returns-in-AddRoom-clause-lacking c is =
+    let one = only_one (words_in c.args.words) (sym c.is_one_word.ensures ∙ is) in (one.0, c.in-AddRoom.is, one.1)

@@ -10,6 +10,7 @@ invariant-loop-field l = record {
   place : l.at ≡ l.fn.place + l.field-index;
   count : length l.values.items ≡ l.field-index;
   shape : map field_of l.values.items ≡ take l.field-index l.shape;
-  values : values_of l.fn.place l.shape (words_in l.fn.words) ≡ behind l.values.items (values_of l.at (drop l.field-index l.shape) (words_in l.rest));
+  values : values_of l.fn.place l.shape (words_in l.fn.words)
+      ≡ behind l.values.items (values_of l.at (drop l.field-index l.shape) (words_in l.rest));
   shorter : size_of l.rest ≤ size_of l.fn.words;
 }

@@ -7,4 +7,5 @@ returns-clause-ok g c = on_wires c.scripts_are_heard.ensures (lines_of c.args.sc
 
 pub returns-clause-fault : goal.returns-clause-fault
 returns-clause-fault g c = λ line word fault e.
-    on_wires c.scripts_are_heard.ensures (lines_of c.args.script.now) _ (λ decoding heard. c.script_output.ensures.fault decoding line word fault heard e)
+    on_wires c.scripts_are_heard.ensures (lines_of c.args.script.now) _
+    (λ decoding heard. c.script_output.ensures.fault decoding line word fault heard e)

@@ -7,4 +7,5 @@ returns-clause-run g c =
     let left = g.S.ScriptSource.rest c.run_script.new.reader in
     let before = g.T.TextSink.held c.args.writer.now in
     let now = g.T.TextSink.held c.run_script.new.writer in
-    input_on_wires c.scripts_are_heard.ensures (g.S.ScriptSource.rest c.args.reader.now) (λ input decoding. RunEnds decoding input left before now c.run_script.result) c.run_script.ensures.run
+    input_on_wires c.scripts_are_heard.ensures (g.S.ScriptSource.rest c.args.reader.now)
+    (λ input decoding. RunEnds decoding input left before now c.run_script.result) c.run_script.ensures.run

@@ -11,5 +11,9 @@ invariant-loop g l = record {
   midline : IsMidLine l.script;
   calls : g.S.ScriptSource.goes_on l.counter l.fn.reader l.reader;
   line : l.script.line ≤ 1 + 4096 * l.counter;
-  so_far : (decoding : Decoding) (input : List ℕ) → DecodesLines decoding (lines_of input) → g.S.ScriptSource.rest l.fn.reader ≡ Some input → SoFar decoding input (g.S.ScriptSource.rest l.reader) (g.T.TextSink.held l.fn.writer) (g.T.TextSink.held l.writer) l.script;
+  so_far : (decoding : Decoding) (input : List ℕ) → DecodesLines decoding (lines_of input)
+      → g.S.ScriptSource.rest l.fn.reader ≡ Some input
+      → SoFar decoding input (g.S.ScriptSource.rest l.reader) (g.T.TextSink.held l.fn.writer)
+      (g.T.TextSink.held l.writer)
+      l.script;
 }

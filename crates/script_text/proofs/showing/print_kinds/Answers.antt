@@ -17,7 +17,8 @@ loop-kind-preserved g c =
     let old = buffer_of c.args.out.now in
     let new = buffer_of c.print_kind.new.out in
     grows_same old new _ _ (Ok tt) (sym (one_more lines all_kinds k kinds.Room c.loop-kind-test.true))
-    (grows_then old (buffer_of c.loop-kind.out) new (flat_map lines (take k all_kinds)) (lines (get_or all_kinds k kinds.Room)) (Ok tt) c.loop-kind.invariant c.in_ok-print_kind.ensures)
+    (grows_then old (buffer_of c.loop-kind.out) new (flat_map lines (take k all_kinds))
+    (lines (get_or all_kinds k kinds.Room)) (Ok tt) c.loop-kind.invariant c.in_ok-print_kind.ensures)
 
 pub returns-in_err-print_kind : goal.returns-in_err-print_kind
 returns-in_err-print_kind g c =
@@ -27,6 +28,8 @@ returns-in_err-print_kind g c =
     let old = buffer_of c.args.out.now in
     let new = buffer_of c.print_kind.new.out in
     grows_err old new _ _ e c.from_residual.ensures.0
-    (grows_same old new _ _ (Err e) (others lines all_kinds (k + 1)) (grows_stop old new (flat_map lines (take (k + 1) all_kinds)) (flat_map lines (drop (k + 1) all_kinds)) e
+    (grows_same old new _ _ (Err e) (others lines all_kinds (k + 1))
+    (grows_stop old new (flat_map lines (take (k + 1) all_kinds)) (flat_map lines (drop (k + 1) all_kinds)) e
     (grows_same old new _ _ (Err e) (sym (one_more lines all_kinds k kinds.Room c.loop-kind-test.true))
-    (grows_then old (buffer_of c.loop-kind.out) new (flat_map lines (take k all_kinds)) (lines (get_or all_kinds k kinds.Room)) (Err e) c.loop-kind.invariant c.in_err-print_kind.ensures))))
+    (grows_then old (buffer_of c.loop-kind.out) new (flat_map lines (take k all_kinds))
+    (lines (get_or all_kinds k kinds.Room)) (Err e) c.loop-kind.invariant c.in_err-print_kind.ensures))))

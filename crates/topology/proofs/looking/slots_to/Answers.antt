@@ -8,4 +8,5 @@ pub returns : goal.returns
 returns g c =
     let d = c.args.rows.now in
     let member = c.args.member in
-    rising_by_index (filter (λ s. nat_eq s.member member) (slots_of d)) c.slots_of.result.now (slots_to_few d member c.slots_of.ensures.good) c.slots_of.ensures.rising c.slots_of.ensures.exactly
+    rising_by_index (filter (λ s. nat_eq s.member member) (slots_of d)) c.slots_of.result.now
+    (slots_to_few d member c.slots_of.ensures.good) c.slots_of.ensures.rising c.slots_of.ensures.exactly

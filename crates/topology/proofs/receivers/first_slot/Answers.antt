@@ -14,14 +14,17 @@ pub returns-in-Some : goal.returns-in-Some
 returns-in-Some g c =
     let slot = c.in-Some.slot.now in
     sym (ap (λ b. cond b (Some slot) None) (is_zero slot.index c.if-slot-eq0.true))
-    ∙ first_of_member c.args.rows.now c.args.member c.slots_of.result.now c.slots_of.ensures.rising (c.slots_of.ensures.exactly 0) (Some slot) (sym (ap option_copied c.in-Some.is) ∙ c.first.ensures.value)
+    ∙ first_of_member c.args.rows.now c.args.member c.slots_of.result.now c.slots_of.ensures.rising
+    (c.slots_of.ensures.exactly 0) (Some slot) (sym (ap option_copied c.in-Some.is) ∙ c.first.ensures.value)
 
 pub returns-in_default : goal.returns-in_default
 returns-in_default g c =
     let slot = c.in-Some.slot.now in
     sym (ap (λ b. cond b (Some slot) None) (not_zero slot.index c.if-slot-eq0.false))
-    ∙ first_of_member c.args.rows.now c.args.member c.slots_of.result.now c.slots_of.ensures.rising (c.slots_of.ensures.exactly 0) (Some slot) (sym (ap option_copied c.in-Some.is) ∙ c.first.ensures.value)
+    ∙ first_of_member c.args.rows.now c.args.member c.slots_of.result.now c.slots_of.ensures.rising
+    (c.slots_of.ensures.exactly 0) (Some slot) (sym (ap option_copied c.in-Some.is) ∙ c.first.ensures.value)
 
 pub returns-in_default-2 : goal.returns-in_default-2
 returns-in_default-2 g c =
-    first_of_member c.args.rows.now c.args.member c.slots_of.result.now c.slots_of.ensures.rising (c.slots_of.ensures.exactly 0) None (sym (ap option_copied c.in_default.is) ∙ c.first.ensures.value)
+    first_of_member c.args.rows.now c.args.member c.slots_of.result.now c.slots_of.ensures.rising
+    (c.slots_of.ensures.exactly 0) None (sym (ap option_copied c.in_default.is) ∙ c.first.ensures.value)

@@ -10,6 +10,12 @@ returns g c =
     let seats = c.args.seats.now.items in
     let sorted = c.sort_by_key.new.self.items in
     let place = λ (t : Seated g.row.T.Denot). t.place in
-    let up = IsNonDecreasingBy-from_sort_by_key place sorted c.in_ok-sort_by_key.ensures.sorted (λ a r f' k. search rules) in
+    let up =
+    IsNonDecreasingBy-from_sort_by_key place sorted c.in_ok-sort_by_key.ensures.sorted (λ a r f' k. search rules) in
     let same = same_groups place seats sorted c.sort_by_key.ensures.stable (λ a r f' k. search rules) in
-    IfOk-weaker c.things.result _ _ (λ v is n within. is ∙ ap (map (λ (t : Seated g.row.T.Denot). t.thing)) c.deref.ensures.value ∙ sorted_by_place n seats sorted within up c.sort_by_key.ensures.permutation same) c.things.ensures
+    IfOk-weaker c.things.result _ _
+    (λ v is n within.
+    is
+    ∙ ap (map (λ (t : Seated g.row.T.Denot). t.thing)) c.deref.ensures.value
+    ∙ sorted_by_place n seats sorted within up c.sort_by_key.ensures.permutation same)
+    c.things.ensures

@@ -6,5 +6,6 @@ use Rattle.udp_wire.proofs.wire.send_all.Given as goal
 abbrev pub invariant-loop-egress : goal.invariant-loop-egress
 invariant-loop-egress g l = record {
   few : l.failed ≤ l.egress-index;
-  tried : GrewBy (map (λ e. e.1) (take l.egress-index l.egresses)) (g.W.Wire.attempts l.fn.wire) (g.W.Wire.attempts l.wire) l.failed;
+  tried : GrewBy (map (λ e. e.1) (take l.egress-index l.egresses)) (g.W.Wire.attempts l.fn.wire)
+      (g.W.Wire.attempts l.wire) l.failed;
 }

@@ -5,5 +5,7 @@ use Rattle.undo_log.proofs.walking.invert_all.Given as goal
 abbrev pub invariant-loop-place : goal.invariant-loop-place
 invariant-loop-place g l = record {
   len : vec_len l.items ≡ vec_len l.fn.items;
-  so_far : l.items.items ≡ inverses g.S.Reversible.inverse (drop (length l.fn.items.items - l.place) l.fn.items.items) ++ take (length l.fn.items.items - l.place) l.fn.items.items;
+  so_far : l.items.items
+      ≡ inverses g.S.Reversible.inverse (drop (length l.fn.items.items - l.place) l.fn.items.items)
+      ++ take (length l.fn.items.items - l.place) l.fn.items.items;
 }

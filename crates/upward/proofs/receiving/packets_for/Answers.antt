@@ -20,8 +20,11 @@ loop-place-preserved g c =
 pub returns-clause-packets : goal.returns-clause-packets
 returns-clause-packets g c =
     let f = λ (i : ℕ). Receiver c.args.ssrc (blocks_at c.args.blocks.now i) in
-    let all : c.loop-place.place ≡ count_of_reports (length c.args.blocks.now) = omega (arith, c.loop-place.auto.place-end, c.loop-place-test.false, c.count_of_reports-count.ensures) in
+    let all : c.loop-place.place ≡ count_of_reports (length c.args.blocks.now) =
+    omega (arith, c.loop-place.auto.place-end, c.loop-place-test.false, c.count_of_reports-count.ensures) in
     ap packets_of c.in_ok-push-2.ensures.items
     ∙ map-append packet_of c.loop-place.packets.items (c.in_ok-named.field-0 ∷ [])
-    ∙ ap (λ (ps : List Packet). ps ++ packet_of c.in_ok-named.field-0 ∷ []) (c.loop-place.invariant ∙ ap (λ n. map f (range_with_len 0 n)) all)
-    ∙ ap (λ p. map f (range_with_len 0 (count_of_reports (length c.args.blocks.now))) ++ p ∷ []) c.in_ok-named.ensures.packet
+    ∙ ap (λ (ps : List Packet). ps ++ packet_of c.in_ok-named.field-0 ∷ [])
+    (c.loop-place.invariant ∙ ap (λ n. map f (range_with_len 0 n)) all)
+    ∙ ap (λ p. map f (range_with_len 0 (count_of_reports (length c.args.blocks.now))) ++ p ∷ [])
+    c.in_ok-named.ensures.packet

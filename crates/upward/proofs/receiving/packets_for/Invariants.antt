@@ -7,4 +7,5 @@ use Rattle.upward.specs.ReceiverReports.{blocks_at}
 use Rattle.upward.proofs.receiving.packets_for.Given as goal
 
 abbrev pub invariant-loop-place : goal.invariant-loop-place
-invariant-loop-place g l = packets_of l.packets.items ≡ map (λ place. Receiver l.ssrc (blocks_at l.blocks place)) (range_with_len 0 l.place)
+invariant-loop-place g l =
+    packets_of l.packets.items ≡ map (λ place. Receiver l.ssrc (blocks_at l.blocks place)) (range_with_len 0 l.place)

@@ -15,9 +15,11 @@ returns-clause-octets g c =
 pub returns-clause-compound : goal.returns-clause-compound
 returns-clause-compound g c =
     let all = ap packets_of c.deref.ensures.value ∙ c.in_ok-packets.ensures.packets in
-    IfOk-weaker c.compound_of.result _ _ (λ v k. subst (λ (ps : List Packet). IsCompound ps v.items) all k) c.compound_of.ensures.compound
+    IfOk-weaker c.compound_of.result _ _ (λ v k. subst (λ (ps : List Packet). IsCompound ps v.items) all k)
+    c.compound_of.ensures.compound
 
 pub compound_of-requires : goal.compound_of-requires
 compound_of-requires g c =
     let all = ap packets_of c.deref.ensures.value ∙ c.in_ok-packets.ensures.packets in
-    subst AreWritable (sym all) (packets_writable c.args.bridge_ssrc c.args.blocks.now c.args.cname.now c.requires.losses c.in_ok-packets.ensures.name)
+    subst AreWritable (sym all) (packets_writable c.args.bridge_ssrc c.args.blocks.now c.args.cname.now
+    c.requires.losses c.in_ok-packets.ensures.name)

@@ -10,6 +10,9 @@ publish_as-next-requires g c next is =
     let edits = c.args.edits.now in
     let leads : next ≡ c.args.edition = is ∙ ap (fold (λ (x y : Page). y) c.loop.writer.desk.shown.value) waits in
     shows after_list _ _ c.loop.writer.desk.shown.value next edits
-    (ap (λ (p : Page). p.notice.publisher) leads ∙ (c.requires.publisher ∙ ap (λ (p : Page). p.notice.publisher) (sym shown)))
-    (ap (λ (p : Page). p.notice.lists) leads ∙ (c.requires.lists ∙ ap (λ (p : Page). p.notice.lists ++ edits ∷ []) (sym shown)))
-    (ap (λ (p : Page). p.desk) leads ∙ (ap (λ (p : Page). p.desk) c.requires.page ∙ ap (λ (p : Page). after_list p.desk edits) (sym shown)))
+    (ap (λ (p : Page). p.notice.publisher) leads
+    ∙ (c.requires.publisher ∙ ap (λ (p : Page). p.notice.publisher) (sym shown)))
+    (ap (λ (p : Page). p.notice.lists) leads
+    ∙ (c.requires.lists ∙ ap (λ (p : Page). p.notice.lists ++ edits ∷ []) (sym shown)))
+    (ap (λ (p : Page). p.desk) leads
+    ∙ (ap (λ (p : Page). p.desk) c.requires.page ∙ ap (λ (p : Page). after_list p.desk edits) (sym shown)))

@@ -4,5 +4,7 @@ use Rattle.versions.proofs.showing.published.Given as goal
 
 -- the edition waits to be shown
 abbrev pub invariant-loop : goal.invariant-loop
-invariant-loop g l = (l.writer.desk.shown.value ≡ l.fn.writer.desk.shown.value) × (sight_of l.writer.desk.place ≡ sight_of l.fn.writer.desk.place)
+invariant-loop g l =
+    (l.writer.desk.shown.value ≡ l.fn.writer.desk.shown.value)
+    × (sight_of l.writer.desk.place ≡ sight_of l.fn.writer.desk.place)
     × (drop l.writer.behind l.writer.log.items ≡ l.fn.edition ∷ [])

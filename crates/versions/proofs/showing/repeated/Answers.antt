@@ -12,5 +12,6 @@ publish_as-next-requires g c next is =
     let (shown, seen, waits) = c.loop.invariant in
     let w = c.loop.writer in
     let same : next ≡ w.desk.shown.value = is ∙ (ap (fold (λ (x y : Page). y) w.desk.shown.value) waits ∙ sym shown) in
-    let P : Page → Type 0 = λ y. TurnsAt (Kept after_list) w.desk.place.id (sight_of w.desk.place) w.desk.shown.value y (Sees after_list) in
+    let P : Page → Type 0 = λ y.
+    TurnsAt (Kept after_list) w.desk.place.id (sight_of w.desk.place) w.desk.shown.value y (Sees after_list) in
     subst P (sym same) (looks after_list _ _ _)

@@ -17,5 +17,7 @@ use Rattle.worked_bridge.proofs.Wires.{no_wire}
 use Rattle.worked_bridge.proofs.answering.a_script_sends_a_frame.Goals as goal
 
 pub returns : goal.returns
-unfolding digits encode_with decode_pairs desk_after after_call refused outcome_of line_request first_request words_request call_of single command_of values_of address_of field_of ext_of packet_from source_packets_of fault_of by_index receivers frame_of
+unfolding digits encode_with decode_pairs desk_after after_call refused outcome_of line_request first_request
+    words_request call_of single command_of values_of address_of field_of ext_of packet_from source_packets_of fault_of
+    by_index receivers frame_of
 returns c = (c.in_ok-out.ensures.ok.each no_wire (tt, (tt, (tt, (tt, (tt, (tt, (tt, (tt, tt))))))))).1

@@ -12,5 +12,6 @@ use Rattle.worked_bridge.proofs.Wires.{no_wire}
 use Rattle.worked_bridge.proofs.answering.a_script_sets_up.Goals as goal
 
 pub returns : goal.returns
-unfolding digits desk_after after_call refused outcome_of line_request first_request words_request call_of single command_of values_of address_of field_of
+unfolding digits desk_after after_call refused outcome_of line_request first_request words_request call_of single
+    command_of values_of address_of field_of
 returns c = (c.in_ok-out.ensures.ok.each no_wire (tt, (tt, (tt, (tt, (tt, (tt, (tt, tt)))))))).1

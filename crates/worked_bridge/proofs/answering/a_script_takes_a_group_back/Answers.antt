@@ -11,5 +11,6 @@ use Rattle.worked_bridge.proofs.Wires.{no_wire}
 use Rattle.worked_bridge.proofs.answering.a_script_takes_a_group_back.Goals as goal
 
 pub returns : goal.returns
-unfolding digits desk_after after_call reason_against outcome_of line_request first_request words_request call_of headed last_of commands_of command_of values_of
+unfolding digits desk_after after_call reason_against outcome_of line_request first_request words_request call_of headed
+    last_of commands_of command_of values_of
 returns c = (c.in_ok-out.ensures.ok.each no_wire (tt, (tt, (tt, (tt, tt))))).1

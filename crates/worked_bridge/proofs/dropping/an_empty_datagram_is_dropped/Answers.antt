@@ -7,5 +7,6 @@ use Rattle.worked_bridge.proofs.dropping.an_empty_datagram_is_dropped.Goals as g
 pub returns : goal.returns
 returns c = IfOk-weaker c.datagram.result _ _ (λ ingest takes.
     let voice = c.voices_are_there.ensures c.in_ok-intake.intake.asker in
-    (takes neither (record { length_fits = omega arith; its_class = refl }) voice.0 no_sources voice.1 voice.2 c.in_ok-intake.ensures.knows).0)
+    (takes neither (record { length_fits = omega arith; its_class = refl }) voice.0 no_sources voice.1 voice.2
+    c.in_ok-intake.ensures.knows).0)
     c.datagram.ensures.takes

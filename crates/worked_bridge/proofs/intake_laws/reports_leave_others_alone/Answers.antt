@@ -13,5 +13,7 @@ returns c = IfOk-weaker c.reports.result _ _ (λ up tells s knows.
       (reported asker d moment s).1,
       (tells s knows).1,
       c.reports_begin_intervals.ensures.order asker d moment s,
-      λ o other. c.reports_begin_intervals.ensures.just asker d moment s o c.reports.ensures.good ∙ ap (λ (b : Bool). if b then option_map renewed (story_at o s.known) else story_at o s.known) other,
+      λ o other.
+          c.reports_begin_intervals.ensures.just asker d moment s o c.reports.ensures.good
+          ∙ ap (λ (b : Bool). if b then option_map renewed (story_at o s.known) else story_at o s.known) other,
     )) c.reports.ensures.tells

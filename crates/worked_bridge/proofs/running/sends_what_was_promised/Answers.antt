@@ -38,7 +38,15 @@ returns-in-Ok-item c =
       lanes = c.in-Ok-item.ensures.lanes;
       who = ap (λ (i : IntakeOf). i.asker) c.in-Ok-item.ensures.intake;
     } in
-    let plays : Plays first events (sent ∷ []) last = (first, middle, at_rest first, accepts, (middle, last, sent, [], refl, at_rest middle, sends, (refl, at_rest last))) in
+    let plays : Plays first events (sent ∷ []) last = (
+      first,
+      middle,
+      at_rest first,
+      accepts,
+      (middle, last, sent, [], refl, at_rest middle, sends, (refl, at_rest last)),
+    ) in
     subst (λ (who : Asker). Holds who 3 start (steps_of (no_calls start) events) (sent ∷ [])) c.in-Ok.ensures.asker
-    (subst (λ (n : ℕ). Holds first.intake.asker n start (steps_of (no_calls start) events) (sent ∷ [])) c.in-Ok.ensures.lanes
-    (c.the_headline.ensures.holds start events (sent ∷ []) first last begins c.in-Ok.ensures.fresh c.in-Ok.ensures.history plays))
+    (subst (λ (n : ℕ). Holds first.intake.asker n start (steps_of (no_calls start) events) (sent ∷ []))
+    c.in-Ok.ensures.lanes
+    (c.the_headline.ensures.holds start events (sent ∷ []) first last begins c.in-Ok.ensures.fresh
+    c.in-Ok.ensures.history plays))

@@ -67,8 +67,25 @@ returns-in-Ok-item-2 c =
       lanes = c.in-Ok-item-2.ensures.lanes;
       who = ap (λ (i : IntakeOf). i.asker) c.in-Ok-item-2.ensures.intake;
     } in
-    let plays : Plays core events (sent ∷ later ∷ []) last =
-    (core, called, at_rest core, accepts, (heard, between, sent, later ∷ [], refl, hears, sends, (told, last, later, [], refl, reports, sends_more, (refl, at_rest last)))) in
-    subst (λ (who : Asker). Holds who 3 start (steps_of (no_calls start) events) (sent ∷ later ∷ [])) c.in-Ok.ensures.asker
-    (subst (λ (n : ℕ). Holds core.intake.asker n start (steps_of (no_calls start) events) (sent ∷ later ∷ [])) c.in-Ok.ensures.lanes
-    (c.the_headline.ensures.holds start events (sent ∷ later ∷ []) core last begins c.in-Ok.ensures.fresh c.in-Ok.ensures.history plays))
+    let plays : Plays core events (sent ∷ later ∷ []) last = (
+      core,
+      called,
+      at_rest core,
+      accepts,
+      (
+        heard,
+        between,
+        sent,
+        later ∷ [],
+        refl,
+        hears,
+        sends,
+        (told, last, later, [], refl, reports, sends_more, (refl, at_rest last)),
+      ),
+    ) in
+    subst (λ (who : Asker). Holds who 3 start (steps_of (no_calls start) events) (sent ∷ later ∷ []))
+    c.in-Ok.ensures.asker
+    (subst (λ (n : ℕ). Holds core.intake.asker n start (steps_of (no_calls start) events) (sent ∷ later ∷ []))
+    c.in-Ok.ensures.lanes
+    (c.the_headline.ensures.holds start events (sent ∷ later ∷ []) core last begins c.in-Ok.ensures.fresh
+    c.in-Ok.ensures.history plays))

@@ -7,5 +7,9 @@ use Rattle.worked_bridge.proofs.script_laws.reads_back_the_number_of_a_call.Goal
 
 pub returns : goal.returns
 returns c = on_ok c.print_reply.result (λ told.
-    let no = c.args.no in
-    (decimal no, told ∙ ap (λ (front : List ℕ). front ++ reply_text (Accepted no)) c.requires, c.number_words.ensures.read 18446744073709551615 no (omega arith) (omega (arith, c.ranges.no.fits)))) c.print_reply.ensures.ok
+    let no = c.args.no in (
+      decimal no,
+      told ∙ ap (λ (front : List ℕ). front ++ reply_text (Accepted no)) c.requires,
+      c.number_words.ensures.read 18446744073709551615 no (omega arith) (omega (arith, c.ranges.no.fits)),
+    ))
+    c.print_reply.ensures.ok

@@ -14,8 +14,12 @@ returns-clause-heard c =
     let who = c.args.core.now.intake.asker in
     let lanes = length c.args.core.now.lanes in
     IfOk-weaker c.item.result _ _ (λ sent takes start before moment taken good is.
-    let at = (takes start before taken).0 ∙ ap (λ input. sent_at who lanes start before (Step.item c.args.lane input)) is in
-    of_each (IsMixOf (given_of (visits c.args.lane start before)) (visit_after start before c.args.lane (Input.tick moment))) (map sent_of sent.items) _ at (c.mixes_are_heard.ensures who lanes c.args.lane start before moment good)) c.item.ensures.takes
+    let at =
+    (takes start before taken).0 ∙ ap (λ input. sent_at who lanes start before (Step.item c.args.lane input)) is in
+    of_each
+    (IsMixOf (given_of (visits c.args.lane start before)) (visit_after start before c.args.lane (Input.tick moment)))
+    (map sent_of sent.items) _ at (c.mixes_are_heard.ensures who lanes c.args.lane start before moment good))
+    c.item.ensures.takes
 
 pub returns-clause-all : goal.returns-clause-all
 returns-clause-all c =
@@ -23,6 +27,10 @@ returns-clause-all c =
     let lanes = length c.args.core.now.lanes in
     IfOk-weaker c.item.result _ _ (λ sent takes start before moment m sound taken good is mine mixes hears.
     let visit = visit_after start before c.args.lane (Input.tick moment) in
-    let at = (takes start before taken).0 ∙ ap (λ input. sent_at who lanes start before (Step.item c.args.lane input)) is in
-    let same = only (map sent_of sent.items) (sends_at who c.args.lane lanes (visits c.args.lane start before) visit) at in
-    subst (λ (list : List Sent). GoesOnce visit m sound (filter (is_on m.out_audio) list)) (sym same) (c.all_who_hear_get_it.ensures who lanes c.args.lane start before moment m sound good mine mixes hears)) c.item.ensures.takes
+    let at =
+    (takes start before taken).0 ∙ ap (λ input. sent_at who lanes start before (Step.item c.args.lane input)) is in
+    let same =
+    only (map sent_of sent.items) (sends_at who c.args.lane lanes (visits c.args.lane start before) visit) at in
+    subst (λ (list : List Sent). GoesOnce visit m sound (filter (is_on m.out_audio) list)) (sym same)
+    (c.all_who_hear_get_it.ensures who lanes c.args.lane start before moment m sound good mine mixes hears))
+    c.item.ensures.takes

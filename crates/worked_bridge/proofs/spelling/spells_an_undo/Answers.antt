@@ -9,16 +9,26 @@ use Rattle.worked_bridge.proofs.spelling.spells_an_undo.Goals as goal
 
 pub returns-clause-undo : goal.returns-clause-undo
 unfolding call_of headed last_of single command_of commands_of values_of address_of field_of
-returns-clause-undo c = λ is. given _ _ _ (Undo 18) (only_undo 18) (needs_none c.parse_desk.result _ _ c.parse_desk.ensures.memory is undo_is_other) (ap spoken_call is) c.parse_desk.ensures.call
+returns-clause-undo c = λ is.
+    given _ _ _ (Undo 18) (only_undo 18)
+    (needs_none c.parse_desk.result _ _ c.parse_desk.ensures.memory is undo_is_other) (ap spoken_call is)
+    c.parse_desk.ensures.call
 
 pub returns-clause-most : goal.returns-clause-most
 unfolding call_of headed last_of single command_of commands_of values_of address_of field_of
-returns-clause-most c = λ is. given _ _ _ (Undo 18446744073709551615) (only_undo 18446744073709551615) (needs_none c.parse_desk.result _ _ c.parse_desk.ensures.memory is undo_is_other) (ap spoken_call is) c.parse_desk.ensures.call
+returns-clause-most c = λ is.
+    given _ _ _ (Undo 18446744073709551615) (only_undo 18446744073709551615)
+    (needs_none c.parse_desk.result _ _ c.parse_desk.ensures.memory is undo_is_other) (ap spoken_call is)
+    c.parse_desk.ensures.call
 
 pub returns-clause-more : goal.returns-clause-more
 unfolding call_of headed last_of single command_of commands_of values_of address_of field_of
-returns-clause-more c = λ is. refused _ _ 2 BadNumber (needs_none c.parse_desk.result _ _ c.parse_desk.ensures.memory is undo_is_other) (ap spoken_call is) c.parse_desk.ensures.call
+returns-clause-more c = λ is.
+    refused _ _ 2 BadNumber (needs_none c.parse_desk.result _ _ c.parse_desk.ensures.memory is undo_is_other)
+    (ap spoken_call is) c.parse_desk.ensures.call
 
 pub returns-clause-behind : goal.returns-clause-behind
 unfolding call_of headed last_of single command_of commands_of values_of address_of field_of
-returns-clause-behind c = λ is. refused _ _ 3 ExtraWord (needs_none c.parse_desk.result _ _ c.parse_desk.ensures.memory is undo_is_other) (ap spoken_call is) c.parse_desk.ensures.call
+returns-clause-behind c = λ is.
+    refused _ _ 3 ExtraWord (needs_none c.parse_desk.result _ _ c.parse_desk.ensures.memory is undo_is_other)
+    (ap spoken_call is) c.parse_desk.ensures.call

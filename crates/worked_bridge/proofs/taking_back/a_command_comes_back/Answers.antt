@@ -23,8 +23,23 @@ returns-in-Accepted c = λ few.
     let done = c.in-Accepted.ensures.answer in
     let number : no ≡ first.version + 1 = done.0 in
     let version : middle.version ≡ no = done.1 in
-    let accepts : AcceptsAll first (Apply c.args.command ∷ []) middle = (middle, subst (λ (n : ℕ). Answers first middle (Apply c.args.command) (Accepted n)) number done, tt, refl) in
-    let undoes : UndoesInARow middle 1 (reply ∷ []) last =
-    (fits no middle.version first.version number version few, (last, reply, [], refl, subst (λ (n : ℕ). Answers middle last (Undo n) reply) (sym version) c.desk-in-Accepted.ensures.answer, (refl, refl))) in
-    let law = c.commands_come_back.ensures.back first middle last (Apply c.args.command ∷ []) (reply ∷ []) accepts undoes in
-    (only reply (Accepted (middle.version + 1)) law.0 ∙ ap Accepted (two_on no middle.version first.version number version), law.1, law.2)
+    let accepts : AcceptsAll first (Apply c.args.command ∷ []) middle =
+    (middle, subst (λ (n : ℕ). Answers first middle (Apply c.args.command) (Accepted n)) number done, tt, refl) in
+    let undoes : UndoesInARow middle 1 (reply ∷ []) last = (
+      fits no middle.version first.version number version few,
+      (
+        last,
+        reply,
+        [],
+        refl,
+        subst (λ (n : ℕ). Answers middle last (Undo n) reply) (sym version) c.desk-in-Accepted.ensures.answer,
+        (refl, refl),
+      ),
+    ) in
+    let law =
+    c.commands_come_back.ensures.back first middle last (Apply c.args.command ∷ []) (reply ∷ []) accepts undoes in (
+      only reply (Accepted (middle.version + 1)) law.0
+          ∙ ap Accepted (two_on no middle.version first.version number version),
+      law.1,
+      law.2,
+    )

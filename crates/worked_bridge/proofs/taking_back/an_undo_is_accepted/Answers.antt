@@ -11,6 +11,16 @@ returns c = λ some few.
     let first = c.args.core.now in
     let last = c.desk.new.self in
     let reply = c.desk.result in
-    let undoes : UndoesInARow first 1 (reply ∷ []) last =
-    (few, (last, reply, [], refl, subst (λ (n : ℕ). Answers first last (Undo n) reply) c.version-last.ensures c.desk.ensures.answer, (refl, refl))) in
-    only reply (Accepted (first.version + 1)) (c.undos_and_redos_are_accepted.ensures.undos first last 1 (reply ∷ []) some undoes)
+    let undoes : UndoesInARow first 1 (reply ∷ []) last = (
+      few,
+      (
+        last,
+        reply,
+        [],
+        refl,
+        subst (λ (n : ℕ). Answers first last (Undo n) reply) c.version-last.ensures c.desk.ensures.answer,
+        (refl, refl),
+      ),
+    ) in
+    only reply (Accepted (first.version + 1))
+    (c.undos_and_redos_are_accepted.ensures.undos first last 1 (reply ∷ []) some undoes)

@@ -26,10 +26,26 @@ returns c = λ some few.
     let redone = c.desk-2.result in
     let v = first.version in
     let answer = subst (λ (n : ℕ). Answers first back (Undo n) undone) c.version-last.ensures c.desk.ensures.answer in
-    let undoes : UndoesInARow first 1 (undone ∷ []) back = (before v few, (back, undone, [], refl, answer, (refl, refl))) in
-    let accepted = only undone (Accepted (v + 1)) (c.undos_and_redos_are_accepted.ensures.undos first back 1 (undone ∷ []) some undoes) in
+    let undoes : UndoesInARow first 1 (undone ∷ []) back =
+    (before v few, (back, undone, [], refl, answer, (refl, refl))) in
+    let accepted =
+    only undone (Accepted (v + 1))
+    (c.undos_and_redos_are_accepted.ensures.undos first back 1 (undone ∷ []) some undoes) in
     let version : back.version ≡ v + 1 = (subst (λ (r : Reply). Answers first back (Undo v) r) accepted answer).1 in
-    let redoes : RedoesInARow back 1 (redone ∷ []) last =
-    (behind back.version v version few, (last, redone, [], refl, subst (λ (n : ℕ). Answers back last (Redo n) redone) c.version-last-2.ensures c.desk-2.ensures.answer, (refl, refl))) in
-    let law = c.undos_are_redone.ensures first back last 1 (undone ∷ []) (redone ∷ []) some undoes redoes in
-    (only redone (Accepted (back.version + 1)) law.0 ∙ ap Accepted (two_on back.version v version), law.1.0, law.1.1, law.1.2)
+    let redoes : RedoesInARow back 1 (redone ∷ []) last = (
+      behind back.version v version few,
+      (
+        last,
+        redone,
+        [],
+        refl,
+        subst (λ (n : ℕ). Answers back last (Redo n) redone) c.version-last-2.ensures c.desk-2.ensures.answer,
+        (refl, refl),
+      ),
+    ) in
+    let law = c.undos_are_redone.ensures first back last 1 (undone ∷ []) (redone ∷ []) some undoes redoes in (
+      only redone (Accepted (back.version + 1)) law.0 ∙ ap Accepted (two_on back.version v version),
+      law.1.0,
+      law.1.1,
+      law.1.2,
+    )

@@ -17,8 +17,11 @@ start h (Redo last) = refl
 pub returns-in-Accepted-clause-leads : goal.returns-in-Accepted-clause-leads
 returns-in-Accepted-clause-leads c = λ called h from.
     ap (λ (d : Desk). fold after d c.desk.new.self.done) (sym (start h (asked_by c.args.call)))
-    ∙ c.edits_lead_back.ensures.leads c.desk.new.self (after_call h (asked_by c.args.call)) (c.in-Accepted.ensures.history h from).2
+    ∙ c.edits_lead_back.ensures.leads c.desk.new.self (after_call h (asked_by c.args.call))
+    (c.in-Accepted.ensures.history h from).2
 
 pub returns-in-Accepted-clause-back : goal.returns-in-Accepted-clause-back
 returns-in-Accepted-clause-back c = λ called h from.
-    c.edits_lead_back.ensures.back c.desk.new.self (after_call h (asked_by c.args.call)) (c.in-Accepted.ensures.history h from).2 ∙ start h (asked_by c.args.call)
+    c.edits_lead_back.ensures.back c.desk.new.self (after_call h (asked_by c.args.call))
+    (c.in-Accepted.ensures.history h from).2
+    ∙ start h (asked_by c.args.call)

@@ -16,7 +16,16 @@ returns-in-Ok-item-clause-given c =
     let sent : List (List Sent) = map sent_of c.in-Ok-item.sent.items ∷ [] in
     let steps : List Step = Step.item 2 (input_of c.args.item.now) ∷ [] in
     let who : Asker = record { ssrc = c.args.settings.bridge_ssrc; cname = c.args.settings.cname } in
-    let runs : Runs first steps sent last = (last, sent, [], refl, c.in-Ok-item.ensures.takes, c.in-Ok-item.ensures.lanes, ap (λ (i : IntakeOf). i.asker) c.in-Ok-item.ensures.intake, (refl, refl)) in
+    let runs : Runs first steps sent last = (
+      last,
+      sent,
+      [],
+      refl,
+      c.in-Ok-item.ensures.takes,
+      c.in-Ok-item.ensures.lanes,
+      ap (λ (i : IntakeOf). i.asker) c.in-Ok-item.ensures.intake,
+      (refl, refl),
+    ) in
     (c.all_that_is_sent.ensures start steps sent first last c.in-Ok.ensures.fresh runs).0
     ∙ ap (λ (w : Asker). sends w (length first.lanes) start steps) c.in-Ok.ensures.asker
     ∙ ap (λ (n : ℕ). sends who n start steps) c.in-Ok.ensures.lanes
@@ -25,10 +34,12 @@ pub returns-in-Ok-item-clause-videos : goal.returns-in-Ok-item-clause-videos
 returns-in-Ok-item-clause-videos c = λ ssrc.
     let start = blank c.args.settings.bridge_ssrc in
     let begins : good start ≡ true = ap good (sym c.in-Ok.ensures.fresh.desk) ∙ c.in-Ok.ensures.begins in
-    c.streams_are_routed_lists.ensures (record { ssrc = c.args.settings.bridge_ssrc; cname = c.args.settings.cname }) 3 start (Step.item 2 (input_of c.args.item.now) ∷ []) ssrc begins (tt, tt)
+    c.streams_are_routed_lists.ensures (record { ssrc = c.args.settings.bridge_ssrc; cname = c.args.settings.cname }) 3
+    start (Step.item 2 (input_of c.args.item.now) ∷ []) ssrc begins (tt, tt)
 
 pub returns-in-Ok-item-clause-mixes : goal.returns-in-Ok-item-clause-mixes
 returns-in-Ok-item-clause-mixes c = λ ssrc.
     let start = blank c.args.settings.bridge_ssrc in
     let begins : good start ≡ true = ap good (sym c.in-Ok.ensures.fresh.desk) ∙ c.in-Ok.ensures.begins in
-    c.mixes_are_mix_lists.ensures (record { ssrc = c.args.settings.bridge_ssrc; cname = c.args.settings.cname }) 3 start (Step.item 2 (input_of c.args.item.now) ∷ []) ssrc begins (tt, tt)
+    c.mixes_are_mix_lists.ensures (record { ssrc = c.args.settings.bridge_ssrc; cname = c.args.settings.cname }) 3 start
+    (Step.item 2 (input_of c.args.item.now) ∷ []) ssrc begins (tt, tt)

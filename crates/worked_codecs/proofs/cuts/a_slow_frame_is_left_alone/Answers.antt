@@ -13,7 +13,8 @@ returns-clause-frames c =
     let step_1 = c.in_ok-give.ensures (epoch_of []) c.in_ok-gate.ensures in
     let step_2 = c.in_ok-give-2.ensures (epoch_of (one ∷ [])) step_1.1 in
     let step_3 = c.in_ok-give-3.ensures (epoch_of (one ∷ two ∷ [])) step_2.1 in
-    let x = c.in_ok-prepared.ensures c.give_up.new.self c.give_up.ensures.gate (epoch_of (one ∷ two ∷ three ∷ [])) step_3.1 in
+    let x =
+    c.in_ok-prepared.ensures c.give_up.new.self c.give_up.ensures.gate (epoch_of (one ∷ two ∷ three ∷ [])) step_3.1 in
     ap (λ (a : GaveUp). a.frames) c.give_up.ensures.answer ∙ sym x.0.frames
 
 pub returns-clause-pli : goal.returns-clause-pli
@@ -24,5 +25,6 @@ returns-clause-pli c =
     let step_1 = c.in_ok-give.ensures (epoch_of []) c.in_ok-gate.ensures in
     let step_2 = c.in_ok-give-2.ensures (epoch_of (one ∷ [])) step_1.1 in
     let step_3 = c.in_ok-give-3.ensures (epoch_of (one ∷ two ∷ [])) step_2.1 in
-    let x = c.in_ok-prepared.ensures c.give_up.new.self c.give_up.ensures.gate (epoch_of (one ∷ two ∷ three ∷ [])) step_3.1 in
+    let x =
+    c.in_ok-prepared.ensures c.give_up.new.self c.give_up.ensures.gate (epoch_of (one ∷ two ∷ three ∷ [])) step_3.1 in
     ap (λ (a : GaveUp). a.pli) c.give_up.ensures.answer ∙ x.0.pli

@@ -1,5 +1,6 @@
 -- A receiver report without blocks is a packet, and what stands behind it has the fault.
-use Rattle.std.proofs.Common.{◌≡◌, ℕ, ◌<◌, List, [], ◌∷◌, ◌++◌, take, drop, length, refl, sym, ◌∙◌, ap, inr, arith, length-drop, false}
+use Rattle.std.proofs.Common.{◌≡◌, ℕ, ◌<◌, List, [], ◌∷◌, ◌++◌, take, drop, length, refl, sym, ◌∙◌, ap, inr, arith}
+use Rattle.std.proofs.Common.{length-drop, false}
 use Rattle.std.proofs.lemmas.List.{take-append-drop}
 use Rattle.rtcp_codec.specs.declared.fault.RtcpFault.{RtcpFault}
 use Rattle.rtcp_codec.specs.Packet.{Receiver, IsPacket}
@@ -41,5 +42,7 @@ later_fault fault octets e more h = record {
 
 pub returns : goal.returns
 returns c =
-    let t = c.read_compound.ensures.told c.args._fault (inr (later_fault c.args._fault c.args.octets.now c.requires.report c.requires.more c.requires.fault)) in
+    let t =
+    c.read_compound.ensures.told c.args._fault
+    (inr (later_fault c.args._fault c.args.octets.now c.requires.report c.requires.more c.requires.fault)) in
     grind (arith, t, c.err.ensures.value)

@@ -5,4 +5,6 @@ use Rattle.worked_codecs.proofs.nacking.a_full_word.Goals as goal
 
 pub returns : goal.returns
 unfolding numbers_of
-returns c = c.nack_words.ensures.only (word 1 0xffff ∷ word 18 0 ∷ []) (record { names = refl; packed = search rules; fits = search rules })
+returns c =
+    c.nack_words.ensures.only (word 1 0xffff ∷ word 18 0 ∷ [])
+    (record { names = refl; packed = search rules; fits = search rules })

@@ -4,4 +4,5 @@ use Rattle.worked_codecs.proofs.nacking.no_numbers.Goals as goal
 
 pub returns-clause-same : goal.returns-clause-same
 unfolding numbers_of
-returns-clause-same c = c.nack_words.ensures.only ([]) (record { names = refl; packed = search rules; fits = search rules })
+returns-clause-same c =
+    c.nack_words.ensures.only ([]) (record { names = refl; packed = search rules; fits = search rules })

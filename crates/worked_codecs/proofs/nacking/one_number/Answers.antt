@@ -5,4 +5,5 @@ use Rattle.worked_codecs.proofs.nacking.one_number.Goals as goal
 
 pub returns : goal.returns
 unfolding numbers_of
-returns c = c.nack_words.ensures.only (word 7 0 ∷ []) (record { names = refl; packed = search rules; fits = search rules })
+returns c =
+    c.nack_words.ensures.only (word 7 0 ∷ []) (record { names = refl; packed = search rules; fits = search rules })

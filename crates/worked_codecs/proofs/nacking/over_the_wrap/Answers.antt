@@ -5,4 +5,6 @@ use Rattle.worked_codecs.proofs.nacking.over_the_wrap.Goals as goal
 
 pub returns : goal.returns
 unfolding numbers_of
-returns c = c.nack_words.ensures.only (word 65535 0x8001 ∷ word 16 0 ∷ []) (record { names = refl; packed = search rules; fits = search rules })
+returns c =
+    c.nack_words.ensures.only (word 65535 0x8001 ∷ word 16 0 ∷ [])
+    (record { names = refl; packed = search rules; fits = search rules })

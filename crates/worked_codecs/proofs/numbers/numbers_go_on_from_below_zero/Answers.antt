@@ -13,4 +13,5 @@ returns c =
     let step_1 = c.in_ok-give.ensures (epoch_of []) c.in_ok-gate.ensures in
     let step_2 = c.in_ok-give-2.ensures (epoch_of (one ∷ [])) step_1.1 in
     let step_3 = c.in_ok-give-3.ensures (epoch_of (one ∷ two ∷ [])) step_2.1 in
-    IfOk-weaker c.give-4.result _ _ (λ a admits. sym (admits (epoch_of (one ∷ two ∷ three ∷ [])) step_3.1).0.frames) c.give-4.ensures
+    IfOk-weaker c.give-4.result _ _ (λ a admits. sym (admits (epoch_of (one ∷ two ∷ three ∷ [])) step_3.1).0.frames)
+    c.give-4.ensures

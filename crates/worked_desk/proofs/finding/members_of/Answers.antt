@@ -5,7 +5,9 @@ use Rattle.desk_rows.specs.Naming.{members_in}
 use Rattle.worked_desk.specs.TwoRooms.{two_rooms}
 use Rattle.worked_desk.proofs.finding.members_of.Goals as goal
 
-at : (d : Desk) (room number member : ℕ) → d ≡ two_rooms → room ≡ number → filter (λ (m : Member). nat_eq m.member member) (members_in d room) ≡ filter (λ (m : Member). nat_eq m.member member) (members_in two_rooms number)
+at : (d : Desk) (room number member : ℕ) → d ≡ two_rooms → room ≡ number
+    → filter (λ (m : Member). nat_eq m.member member) (members_in d room)
+    ≡ filter (λ (m : Member). nat_eq m.member member) (members_in two_rooms number)
 at d room number member is same = (λ i. filter (λ (m : Member). nat_eq m.member member) (members_in (is i) (same i)))
 
 pub returns-clause-one : goal.returns-clause-one

@@ -4,7 +4,9 @@ use Rattle.desk_rows.specs.Naming.{slots_naming}
 use Rattle.worked_desk.specs.TwoRooms.{two_rooms}
 use Rattle.worked_desk.proofs.finding.slots_of.Goals as goal
 
-at : (d : Desk) (member number index : ℕ) → d ≡ two_rooms → member ≡ number → filter (λ s. nat_eq s.index index) (slots_naming d member) ≡ filter (λ s. nat_eq s.index index) (slots_naming two_rooms number)
+at : (d : Desk) (member number index : ℕ) → d ≡ two_rooms → member ≡ number
+    → filter (λ s. nat_eq s.index index) (slots_naming d member)
+    ≡ filter (λ s. nat_eq s.index index) (slots_naming two_rooms number)
 at d member number index is same = (λ i. filter (λ s. nat_eq s.index index) (slots_naming (is i) (same i)))
 
 pub returns-clause-one : goal.returns-clause-one

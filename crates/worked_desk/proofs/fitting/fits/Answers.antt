@@ -3,7 +3,8 @@ use Rattle.desk_rows.specs.Exchange.{fits, is_apt, exchanged}
 use Rattle.desk_rows.specs.Desk.{good}
 use Rattle.worked_desk.proofs.Computed.{answers}
 use Rattle.worked_desk.specs.TwoRooms.{two_rooms}
-use Rattle.worked_desk.specs.FitCases.{taking, taking_members, putting_members, putting, putting_subs, replacing, moving}
+use Rattle.worked_desk.specs.FitCases.{taking, taking_members, putting_members, putting, putting_subs, replacing}
+use Rattle.worked_desk.specs.FitCases.{moving}
 use Rattle.worked_desk.proofs.fitting.fits.Goals as goal
 
 pub returns-clause-taking : goal.returns-clause-taking

@@ -25,4 +25,5 @@ returns-clause-empty c = λ same has. answers against (blank 1) grouping_at_once
 
 pub returns-clause-rooms : goal.returns-clause-rooms
 unfolding reason_against desk_after
-returns-clause-rooms c = λ same has. answers against (of_rooms 63) grouping_at_63_rooms refl same (c.group_refusal.ensures has)
+returns-clause-rooms c = λ same has.
+    answers against (of_rooms 63) grouping_at_63_rooms refl same (c.group_refusal.ensures has)

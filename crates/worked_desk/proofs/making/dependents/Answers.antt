@@ -12,4 +12,5 @@ pub returns-clause-sub : goal.returns-clause-sub
 returns-clause-sub c = second (λ e. cc) (c.dependent_rows_go.ensures.only two_rooms (Room 1) (sub 501 101) refl)
 
 pub returns-clause-other_source : goal.returns-clause-other_source
-returns-clause-other_source c = λ depends. let goes = c.dependent_rows_go.ensures.all two_rooms (Room 1) (video 103 12) depends in cc
+returns-clause-other_source c = λ depends.
+    let goes = c.dependent_rows_go.ensures.all two_rooms (Room 1) (video 103 12) depends in cc

@@ -2,7 +2,8 @@ use Rattle.std.proofs.Common.{refl}
 use Rattle.desk_edit.specs.Refusals.{refused}
 use Rattle.worked_desk.proofs.Computed.{answers}
 use Rattle.worked_desk.specs.TwoRooms.{two_rooms}
-use Rattle.worked_desk.specs.RefusalCases.{adding_rooms, adding_members, adding_sources, adding_slots, removing_slots, subscribing}
+use Rattle.worked_desk.specs.RefusalCases.{adding_rooms, adding_members, adding_sources, adding_slots, removing_slots}
+use Rattle.worked_desk.specs.RefusalCases.{subscribing}
 use Rattle.worked_desk.proofs.refusing.refuses.Goals as goal
 
 pub returns-clause-adding_rooms : goal.returns-clause-adding_rooms

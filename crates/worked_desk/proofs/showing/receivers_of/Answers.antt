@@ -13,4 +13,6 @@ asked d q = receivers d q.0 q.1
 
 pub returns : goal.returns
 unfolding receivers by_index
-returns c = IfOk-weaker c.receivers_of.result _ _ (λ v is. answers asked shown_rooms who_gets refl c.requires is) c.receivers_of.ensures.receivers
+returns c =
+    IfOk-weaker c.receivers_of.result _ _ (λ v is. answers asked shown_rooms who_gets refl c.requires is)
+    c.receivers_of.ensures.receivers

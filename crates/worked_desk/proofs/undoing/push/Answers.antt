@@ -10,4 +10,5 @@ push-requires c = simp (c.requires.state, c.requires.edit) refl
 
 pub returns-clause-state : goal.returns-clause-state
 unfolding after fits is_apt exchanged good
-returns-clause-state c = on_ok_weaker c.push.result (λ is. is.0 ∙ simp (c.requires.state, c.requires.edit) refl) c.push.ensures.ok
+returns-clause-state c =
+    on_ok_weaker c.push.result (λ is. is.0 ∙ simp (c.requires.state, c.requires.edit) refl) c.push.ensures.ok

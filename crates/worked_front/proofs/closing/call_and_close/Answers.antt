@@ -10,7 +10,10 @@ none_knew_more-requires g c =
     let ports = c.tell-in-Accepted.new.bridge in
     let lanes = c.tell-in-Accepted.ensures.lanes ∙ c.tell.ensures.lanes in
     let read = subst (AllRead g.H.DeskBrand.publisher) (sym lanes) c.requires.read in
-    record { ended = (ports, c.close-ends.ensures.ended, subst (λ b. AllRead b (lanes_of ports)) (sym accepted.tells.0) read) }
+    record {
+      ended =
+          (ports, c.close-ends.ensures.ended, subst (λ b. AllRead b (lanes_of ports)) (sym accepted.tells.0) read);
+    }
 
 pub returns-then-none_knew_more : goal.returns-then-none_knew_more
 returns-then-none_knew_more g c =
@@ -29,5 +32,7 @@ returns-then-none_knew_more g c =
       new = subst AreNew (sym lanes) c.requires.new;
       begin = subst (AllBegin start) (sym lanes) c.requires.begin;
       ended = ended;
-      seen = c.lanes_saw_what_they_know.ensures ports ends ended c.in-Accepted.notice.lists c.if-none_knew_more.ensures.known;
+      seen =
+          c.lanes_saw_what_they_know.ensures ports ends ended c.in-Accepted.notice.lists
+          c.if-none_knew_more.ensures.known;
     }

@@ -7,4 +7,7 @@ pub returns : goal.returns
 returns c =
     let from = c.args.member.now in
     let before = c.args.limiter.now in
-    when_good c.refill.result c.refill.ensures.after (λ is. is ∙ (entered 100 from before c.requires.new ∙ all_stay (refilled 100 (opened from)) before (omega (arith, c.requires.many))))
+    when_good c.refill.result c.refill.ensures.after (λ is.
+    is
+    ∙ (entered 100 from before c.requires.new
+    ∙ all_stay (refilled 100 (opened from)) before (omega (arith, c.requires.many))))

@@ -19,7 +19,9 @@ pub returns : goal.returns
 returns g c =
     let limiter : List Bucket = c.args.media.now.limiter in
     on_ok c.wait.result (λ w.
-    subst (λ (ds : List (Address × List ℕ)). WereTried ds (g.W.Wire.attempts c.args.wire.now) (g.W.Wire.attempts c.wait.new.wire))
-    (ap (paid_of w.ingested.up) (ap (λ (o : Outcome). refilled_by o c.args.member.now 0 limiter) w.became ∙ c.requires) ∙ none_paid w.ingested.up)
+    subst (λ (ds : List (Address × List ℕ)).
+    WereTried ds (g.W.Wire.attempts c.args.wire.now) (g.W.Wire.attempts c.wait.new.wire))
+    (ap (paid_of w.ingested.up) (ap (λ (o : Outcome). refilled_by o c.args.member.now 0 limiter) w.became ∙ c.requires)
+    ∙ none_paid w.ingested.up)
     w.handled.up)
     c.wait.ensures.waited

@@ -14,4 +14,6 @@ returns-in-None c =
     let slot : slot_at d c.args.out_ssrc ≡ Some c.in-Some.slot = search rules in
     let chose : choice d c.args.out_ssrc ≡ Some c.in-Some-choice.source = search rules in
     let asks = ap (is_of_member_at d from) slot ∙ ap (is_this c.in-Some.slot.member) member ∙ same in
-    ap is_some (sym c.in-None.is ∙ c.pli_up.ensures) ∙ c.picture_losses_reach_a_sender.ensures d from c.args.out_ssrc c.in-Some-choice.source c.slot_at.ensures.good asks chose
+    ap is_some (sym c.in-None.is ∙ c.pli_up.ensures)
+    ∙ c.picture_losses_reach_a_sender.ensures d from c.args.out_ssrc c.in-Some-choice.source c.slot_at.ensures.good asks
+    chose

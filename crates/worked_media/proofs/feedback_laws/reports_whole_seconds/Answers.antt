@@ -22,10 +22,18 @@ pub returns : goal.returns
 returns c =
     let m = c.args.seconds * second in
     let n = c.args.counts.now in
-    let low : ntp_of m % 2 ^ 32 * second ≤ 0 = subst (λ part. ntp_of m % 2 ^ 32 * second ≤ part * 2 ^ 32) (rest c.args.seconds) (c.times_of_reports.ensures.not_later m) in
-    let high : ntp_of m / 2 ^ 32 ≡ (c.args.seconds + from_1900_to_1970) % 2 ^ 32 = c.times_of_reports.ensures.seconds m ∙ ap (λ s. (s + from_1900_to_1970) % 2 ^ 32) (whole c.args.seconds) in
+    let low : ntp_of m % 2 ^ 32 * second ≤ 0 =
+    subst (λ part. ntp_of m % 2 ^ 32 * second ≤ part * 2 ^ 32) (rest c.args.seconds)
+    (c.times_of_reports.ensures.not_later m) in
+    let high : ntp_of m / 2 ^ 32 ≡ (c.args.seconds + from_1900_to_1970) % 2 ^ 32 =
+    c.times_of_reports.ensures.seconds m ∙ ap (λ s. (s + from_1900_to_1970) % 2 ^ 32) (whole c.args.seconds) in
     let ntp = halves (ntp_of m) ((c.args.seconds + from_1900_to_1970) % 2 ^ 32) high low in
     IfOk-weaker c.sender_report.result _ _ (λ v is.
     is
-    ∙ ap (λ s. written (Sender n.ssrc (ntp_of (s * second)) (ts_at n (s * second)) n.packets n.octets [] ∷ named n.ssrc bridge ∷ [])) c.from.ensures
-    ∙ ap (λ ntp. written (Sender n.ssrc ntp (ts_at n m) n.packets n.octets [] ∷ named n.ssrc bridge ∷ [])) ntp) c.sender_report.ensures.octets
+    ∙ ap
+    (λ s.
+    written
+    (Sender n.ssrc (ntp_of (s * second)) (ts_at n (s * second)) n.packets n.octets [] ∷ named n.ssrc bridge ∷ []))
+    c.from.ensures
+    ∙ ap (λ ntp. written (Sender n.ssrc ntp (ts_at n m) n.packets n.octets [] ∷ named n.ssrc bridge ∷ [])) ntp)
+    c.sender_report.ensures.octets

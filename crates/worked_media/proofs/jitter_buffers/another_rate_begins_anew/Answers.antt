@@ -8,5 +8,10 @@ use Rattle.worked_media.proofs.jitter_buffers.another_rate_begins_anew.Goals as 
 
 pub returns : goal.returns
 returns c =
-    let events : List AudioEvent = PutOf 21 (owner 1 7).address 100 1000 (pos 5 ∷ pos 6 ∷ []) ∷ PutOf 21 (owner 1 7).address 50 1000 (pos 7 ∷ []) ∷ TakeAll ∷ TakeAll ∷ TakeAll ∷ [] in
-    (subst (λ (a : Address). PlaysOut (at_rate 50 (play_on 21 a events)) c.peek.new.out c.peek.result) c.requires.address (c.peek.ensures events c.requires.had)).1 ∙ ap (λ (n : ℕ). present (begun_by 50 1000 (pos 7 ∷ [])).pairs ((begun_by 50 1000 (pos 7 ∷ [])).position + 3) n) c.peek.auto.out
+    let events : List AudioEvent =
+    PutOf 21 (owner 1 7).address 100 1000 (pos 5 ∷ pos 6 ∷ []) ∷ PutOf 21 (owner 1 7).address 50 1000 (pos 7 ∷ [])
+    ∷ TakeAll ∷ TakeAll ∷ TakeAll ∷ [] in
+    (subst (λ (a : Address). PlaysOut (at_rate 50 (play_on 21 a events)) c.peek.new.out c.peek.result)
+    c.requires.address (c.peek.ensures events c.requires.had)).1
+    ∙ ap (λ (n : ℕ). present (begun_by 50 1000 (pos 7 ∷ [])).pairs ((begun_by 50 1000 (pos 7 ∷ [])).position + 3) n)
+    c.peek.auto.out

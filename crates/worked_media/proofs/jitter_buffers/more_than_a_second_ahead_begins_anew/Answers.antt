@@ -6,5 +6,7 @@ use Rattle.worked_media.proofs.jitter_buffers.more_than_a_second_ahead_begins_an
 pub returns : goal.returns
 returns c =
     let play = begun_by 50 1000 (pos 5 ∷ pos 6 ∷ []) in
-    let step_1 = subst (λ (rate : ℕ). Holds c.put.new.self (Some (begun_by rate 1000 (pos 5 ∷ pos 6 ∷ [])))) c.in-Ok.ensures.rate (c.put.ensures.puts None c.in-Ok.ensures.blank).1 in
+    let step_1 =
+    subst (λ (rate : ℕ). Holds c.put.new.self (Some (begun_by rate 1000 (pos 5 ∷ pos 6 ∷ [])))) c.in-Ok.ensures.rate
+    (c.put.ensures.puts None c.in-Ok.ensures.blank).1 in
     (c.put-2.ensures.puts (Some play) step_1).0

@@ -8,5 +8,7 @@ use Rattle.worked_media.proofs.jitter_buffers.none_is_heard_at_another_rate.Goal
 
 pub returns : goal.returns
 returns c =
-    let events : List AudioEvent = PutOf 21 (owner 1 7).address 50 1000 (pos 5 ∷ pos 6 ∷ []) ∷ TakeAll ∷ TakeAll ∷ TakeAll ∷ [] in
-    (subst (λ (a : Address). PlaysOut (at_rate 100 (play_on 21 a events)) c.peek.new.out c.peek.result) c.requires.address (c.peek.ensures events c.requires.had)).1
+    let events : List AudioEvent =
+    PutOf 21 (owner 1 7).address 50 1000 (pos 5 ∷ pos 6 ∷ []) ∷ TakeAll ∷ TakeAll ∷ TakeAll ∷ [] in
+    (subst (λ (a : Address). PlaysOut (at_rate 100 (play_on 21 a events)) c.peek.new.out c.peek.result)
+    c.requires.address (c.peek.ensures events c.requires.had)).1

@@ -7,5 +7,7 @@ use Rattle.worked_media.proofs.jitter_buffers.what_was_taken_is_late.Goals as go
 pub returns : goal.returns
 returns c =
     let play = begun_by 50 1000 (pos 5 ∷ pos 6 ∷ []) in
-    let step_1 = subst (λ (rate : ℕ). Holds c.put.new.self (Some (begun_by rate 1000 (pos 5 ∷ pos 6 ∷ [])))) c.in-Ok.ensures.rate (c.put.ensures.puts None c.in-Ok.ensures.blank).1 in
+    let step_1 =
+    subst (λ (rate : ℕ). Holds c.put.new.self (Some (begun_by rate 1000 (pos 5 ∷ pos 6 ∷ [])))) c.in-Ok.ensures.rate
+    (c.put.ensures.puts None c.in-Ok.ensures.blank).1 in
     (c.put-2.ensures.puts (play_taken 5 (Some play)) (c.take.ensures.taken (Some play) step_1)).0

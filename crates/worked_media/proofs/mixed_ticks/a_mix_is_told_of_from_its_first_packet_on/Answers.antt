@@ -6,7 +6,8 @@ use Rattle.worked_media.proofs.mixed_ticks.a_mix_is_told_of_from_its_first_packe
 not_begun : counts_of 9001 (turns 9001 (three_ticks_later (three_with []))) ≡ None
 not_begun = refl
 
-begun : counts_of 9001 (turns 9001 (four_ticks_later (three_with []))) ≡ Some (record { ssrc = 9001; packets = 1; octets = 320; ts = 1000; moment = 60000000; rate = 8000 })
+begun : counts_of 9001 (turns 9001 (four_ticks_later (three_with [])))
+    ≡ Some (record { ssrc = 9001; packets = 1; octets = 320; ts = 1000; moment = 60000000; rate = 8000 })
 begun = refl
 
 pub returns-clause-before : goal.returns-clause-before

@@ -12,7 +12,12 @@ heard = refl
 pub returns : goal.returns
 returns c =
     IfOk-weaker c.tick.result
-    (λ sent. Ticks c.args.place.now.lane c.args.place.now.lanes c.args.mixer.now c.tick.new.self c.args.rows.now 40000000 sent.items)
+    (λ sent.
+    Ticks c.args.place.now.lane c.args.place.now.lanes c.args.mixer.now c.tick.new.self c.args.rows.now 40000000
+    sent.items)
     (λ sent. sent.items ≡ [])
-    (λ sent ticks. sends c.args.place.now.lane c.args.place.now.lanes c.args.mixer.now c.tick.new.self c.args.rows.now (three_with []) 40000000 sent.items two_ticks_later c.requires.lane c.requires.lanes c.requires.rows c.requires.given ticks ∙ heard)
+    (λ sent ticks.
+    sends c.args.place.now.lane c.args.place.now.lanes c.args.mixer.now c.tick.new.self c.args.rows.now (three_with [])
+    40000000 sent.items two_ticks_later c.requires.lane c.requires.lanes c.requires.rows c.requires.given ticks
+    ∙ heard)
     c.tick.ensures.ticks

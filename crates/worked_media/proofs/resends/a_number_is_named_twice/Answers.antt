@@ -12,5 +12,9 @@ asked = refl
 
 pub returns : goal.returns
 returns c =
-    let words = c.in_ok-push-2.ensures.items ∙ ap (λ (ws : List NackWord). ws ++ word 0 2 ∷ []) (c.in_ok-push.ensures.items ∙ ap (λ (ws : List NackWord). ws ++ word 65535 1 ∷ []) c.new-words.ensures.items) in
-    subst (λ (ns : List ℕ). IfOk c.numbers_of.result (λ numbers. numbers.items ≡ ns)) (ap numbers_named words ∙ asked) c.numbers_of.ensures
+    let words =
+    c.in_ok-push-2.ensures.items
+    ∙ ap (λ (ws : List NackWord). ws ++ word 0 2 ∷ [])
+    (c.in_ok-push.ensures.items ∙ ap (λ (ws : List NackWord). ws ++ word 65535 1 ∷ []) c.new-words.ensures.items) in
+    subst (λ (ns : List ℕ). IfOk c.numbers_of.result (λ numbers. numbers.items ≡ ns)) (ap numbers_named words ∙ asked)
+    c.numbers_of.ensures

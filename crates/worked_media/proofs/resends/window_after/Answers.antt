@@ -9,8 +9,10 @@ pub push-requires : goal.push-requires
 push-requires c =
     let before = packets c.args.first c.loop-i.i in
     let number = (c.args.first + c.loop-i.i) % 2 ^ 16 in
-    let follows : MayFollow (latest window_size before) (packet number) = (c.so_far.ensures.may_follow before (packet number)).1 (packets-follow c.args.first c.loop-i.i) in
-    subst (MayFollow c.loop-i.window) (sym c.packet.ensures) (subst (λ (ps : List SentPacket). MayFollow ps (packet number)) (sym c.loop-i.invariant) follows)
+    let follows : MayFollow (latest window_size before) (packet number) =
+    (c.so_far.ensures.may_follow before (packet number)).1 (packets-follow c.args.first c.loop-i.i) in
+    subst (MayFollow c.loop-i.window) (sym c.packet.ensures)
+    (subst (λ (ps : List SentPacket). MayFollow ps (packet number)) (sym c.loop-i.invariant) follows)
 
 pub loop-i-preserved : goal.loop-i-preserved
 loop-i-preserved c =

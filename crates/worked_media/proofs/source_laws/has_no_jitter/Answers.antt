@@ -11,4 +11,6 @@ pub returns : goal.returns
 returns c = IfSome_then c.block.result c.block.ensures (λ b told before s transit arrived valid untimed even given.
     let block = told (before ++ arrivals arrived) s given (standing-arrivals before arrived ∙ valid) in
     let timing = timing-arrivals before arrived ∙ ap (λ (t : Timing). fold timing_after t (arrivals arrived)) untimed in
-    ap (λ (b : ReportBlock). b.jitter) block ∙ ap (λ (t : Timing). t.jitter / 16) timing ∙ ap (λ n. n / 16) (c.steady.ensures transit arrived even))
+    ap (λ (b : ReportBlock). b.jitter) block
+    ∙ ap (λ (t : Timing). t.jitter / 16) timing
+    ∙ ap (λ n. n / 16) (c.steady.ensures transit arrived even))

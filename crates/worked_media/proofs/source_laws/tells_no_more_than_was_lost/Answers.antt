@@ -15,7 +15,12 @@ returns c = IfSome_then c.block.result c.block.ensures (λ b told before s later
     let then = expected_of s.base s.told in
     let received = received_of s.accepted - received_of s.told in
     let sum : then + (expected - then) ≡ expected =
-    subst (λ (all : List ℤ). expected_of s.base s.told + (expected_of s.base all - expected_of s.base s.told) ≡ expected_of s.base all) (sym parts) (c.intervals.ensures s.base s.told later) in
+    subst
+    (λ (all : List ℤ).
+    expected_of s.base s.told + (expected_of s.base all - expected_of s.base s.told) ≡ expected_of s.base all)
+    (sym parts) (c.intervals.ensures s.base s.told later) in
     let most : b.fraction * (expected - then) ≤ 256 * (expected - then - received) =
-    subst (λ n. n * (expected - then) ≤ 256 * (expected - then - received)) (sym block) (c.losses.ensures.not_more (expected - then) received) in
-    subst (λ n. b.fraction * n ≤ b.fraction * then + 256 * (expected - then - received)) sum (grow b.fraction then (expected - then) (256 * (expected - then - received)) most))
+    subst (λ n. n * (expected - then) ≤ 256 * (expected - then - received)) (sym block)
+    (c.losses.ensures.not_more (expected - then) received) in
+    subst (λ n. b.fraction * n ≤ b.fraction * then + 256 * (expected - then - received)) sum
+    (grow b.fraction then (expected - then) (256 * (expected - then - received)) most))

@@ -10,5 +10,8 @@ use Rattle.worked_media.proofs.source_laws.tells_the_greatest_true_number.Goals 
 pub returns : goal.returns
 returns c = IfSome_then c.block.result c.block.ensures (λ b told before s xs valid near given.
     let numbers : List ℕ = map (λ x. x % 2 ^ 16) xs in
-    let stands = standing-numbers before numbers ∙ ap (λ (st : Standing). fold after_number st numbers) valid ∙ c.true_numbers.ensures s xs near in
+    let stands =
+    standing-numbers before numbers
+    ∙ ap (λ (st : Standing). fold after_number st numbers) valid
+    ∙ c.true_numbers.ensures s xs near in
     ap (λ (b : ReportBlock). b.highest) (told (before ++ map Number numbers) (with_numbers s xs) given stands))

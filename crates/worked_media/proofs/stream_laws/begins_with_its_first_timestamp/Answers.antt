@@ -4,4 +4,5 @@ use Rattle.worked_media.proofs.stream_laws.begins_with_its_first_timestamp.Goals
 
 pub returns : goal.returns
 returns c = λ first_seq first_ts s sent.
-    subst (λ (o : Option Counts). IfSome o (λ n. n.ts ≡ first_ts % 2 ^ 32)) (sym (c.counts.ensures first_seq first_ts (s ∷ []) sent)) (c.time_goes_on.ensures.first first_ts (s ∷ []))
+    subst (λ (o : Option Counts). IfSome o (λ n. n.ts ≡ first_ts % 2 ^ 32))
+    (sym (c.counts.ensures first_seq first_ts (s ∷ []) sent)) (c.time_goes_on.ensures.first first_ts (s ∷ []))

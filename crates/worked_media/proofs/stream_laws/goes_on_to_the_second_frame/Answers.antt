@@ -9,5 +9,10 @@ pub returns : goal.returns
 returns c = λ first_seq first_ts s next sent.
     let both = s ∷ next ∷ [] in
     let law = c.time_goes_on.ensures in
-    let second = stamped_two (stamped first_ts both) s next (first_ts % 2 ^ 32) (law.all first_ts both) (law.first first_ts both) (law.neighbours first_ts both) in
-    subst (λ (o : Option Counts). IfSome o (λ n. n.ts ≡ ts_behind (record { sending = s; ts = first_ts % 2 ^ 32 }) next)) (sym (c.counts.ensures first_seq first_ts both sent)) (ts-told _ (λ x. refl) (last_of (stamped first_ts both)) _ second)
+    let second =
+    stamped_two (stamped first_ts both) s next (first_ts % 2 ^ 32) (law.all first_ts both) (law.first first_ts both)
+    (law.neighbours first_ts both) in
+    subst
+    (λ (o : Option Counts). IfSome o (λ n. n.ts ≡ ts_behind (record { sending = s; ts = first_ts % 2 ^ 32 }) next))
+    (sym (c.counts.ensures first_seq first_ts both sent))
+    (ts-told _ (λ x. refl) (last_of (stamped first_ts both)) _ second)

@@ -8,4 +8,5 @@ word pid blp = record { pid = pid; blp = blp }
 
 pub returns : goal.returns
 unfolding numbers_of
-returns c = c.upstream.ensures.packed (word 65535 1 ∷ []) (record { names = refl; packed = search rules; fits = search rules })
+returns c =
+    c.upstream.ensures.packed (word 65535 1 ∷ []) (record { names = refl; packed = search rules; fits = search rules })

@@ -5,4 +5,7 @@ use Rattle.x_bench_threads.proofs.Places.{long_if_ok}
 use Rattle.x_bench_threads.proofs.feeding.push_item.Goals as goal
 
 pub returns : goal.returns
-returns g c = long_if_ok c.push.result c.args.bridge.now c.push.new.self c.args.lane (λ p. p.closed ≡ false) (accept (Work c.args.item None)) (λ b. b ≡ Work c.args.item None) c.requires.lane c.push.ensures.ok c.push.ensures.err
+returns g c =
+    long_if_ok c.push.result c.args.bridge.now c.push.new.self c.args.lane (λ p. p.closed ≡ false)
+    (accept (Work c.args.item None)) (λ b. b ≡ Work c.args.item None) c.requires.lane c.push.ensures.ok
+    c.push.ensures.err

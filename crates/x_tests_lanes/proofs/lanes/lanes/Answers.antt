@@ -14,7 +14,9 @@ loop-lane-preserved g c =
     let lane = c.new.result in
     let reader = c.in-Some.reader in
     let state = c.in_ok-state.state in
-    let popped = All-pop (λ (r : ReaderOf). r ≡ new_reader h.publisher h.start) c.loop-lane.readers.items c.pop.new.self.items (Some reader) c.in-Some.ensures.items inv.readers in
+    let popped =
+    All-pop (λ (r : ReaderOf). r ≡ new_reader h.publisher h.start) c.loop-lane.readers.items c.pop.new.self.items
+    (Some reader) c.in-Some.ensures.items inv.readers in
     let at = c.in_ok-state.ensures in
     let one = is_new lane state reader many place c.new.ensures at.none at.place at.who in
     let read = is_read lane state reader h.publisher h.start c.new.ensures popped.1 in
@@ -29,4 +31,5 @@ loop-lane-preserved g c =
 pub returns-clause-new : goal.returns-clause-new
 returns-clause-new g c =
     let inv = c.loop-lane.invariant in
-    are_new c.len-many.result c.loop-lane.lanes.items inv.begun (omega (arith, inv.count, c.loop-lane-test.false, c.loop-lane.auto.lane-end))
+    are_new c.len-many.result c.loop-lane.lanes.items inv.begun
+    (omega (arith, inv.count, c.loop-lane-test.false, c.loop-lane.auto.lane-end))

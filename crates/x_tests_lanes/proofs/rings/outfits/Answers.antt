@@ -5,4 +5,5 @@ use Rattle.x_tests_lanes.proofs.rings.outfits.Goals as goal
 
 pub loop-pace-preserved : goal.loop-pace-preserved
 loop-pace-preserved g c =
-    subst (All (λ outfit. sent outfit.1 ≡ [])) (sym c.in_ok-push.ensures.items) (All-push (λ outfit. sent outfit.1 ≡ []) c.loop-pace.outfits.items _ c.loop-pace.invariant c.in_ok-sink.ensures.producer.0)
+    subst (All (λ outfit. sent outfit.1 ≡ [])) (sym c.in_ok-push.ensures.items) (All-push (λ outfit. sent outfit.1 ≡ [])
+    c.loop-pace.outfits.items _ c.loop-pace.invariant c.in_ok-sink.ensures.producer.0)

@@ -14,11 +14,16 @@ invariant_of-self g c = subst (HavePlaces c.self.inside.lanes.items) (sym c.data
 
 pub returns-clause-takes : goal.returns-clause-takes
 returns-clause-takes g c =
-    let takes = λ (core : CoreOf) (desk : Desk). IfOk c.datagram.result (λ ingest. TakesIn core.intake c.datagram.new.self (ingested_of ingest) c.args.octets.now (λ r. record { desk = desk; from = c.args.from.now; moment = c.args.moment; reading = r })) in
+    let takes = λ (core : CoreOf) (desk : Desk).
+    IfOk c.datagram.result (λ ingest.
+    TakesIn core.intake c.datagram.new.self (ingested_of ingest) c.args.octets.now
+    (λ r. record { desk = desk; from = c.args.from.now; moment = c.args.moment; reading = r })) in
     let was = c.self.inside in
-    subst (λ (core : CoreOf). takes core core.desk) c.self.view_is (subst (takes (core_with was.desk was.lanes.items was.intake)) c.rows-rows.ensures.rows c.datagram.ensures.takes)
+    subst (λ (core : CoreOf). takes core core.desk) c.self.view_is
+    (subst (takes (core_with was.desk was.lanes.items was.intake)) c.rows-rows.ensures.rows c.datagram.ensures.takes)
 
 pub returns-clause-err : goal.returns-clause-err
 returns-clause-err g c =
     let was = c.self.inside in
-    on_err_weaker c.datagram.result (λ same. ap (core_with was.desk was.lanes.items) same ∙ c.self.view_is) c.datagram.ensures.err
+    on_err_weaker c.datagram.result (λ same. ap (core_with was.desk was.lanes.items) same ∙ c.self.view_is)
+    c.datagram.ensures.err

@@ -7,7 +7,8 @@ use Rattle.bridge_core.proofs.bridge.Core.new.Goals as goal
 pub invariant_of-result : goal.invariant_of-result
 invariant_of-result g c =
     subst (HavePlaces c.in-Ok-lane_states.states.items) (sym c.in-Ok-new.ensures.asker)
-    (placed_at_first c.args.lanes _ c.in-Ok-lane_states.states.items c.in-Ok-lane_states.ensures.fresh c.in-Ok-lane_states.ensures.count)
+    (placed_at_first c.args.lanes _ c.in-Ok-lane_states.states.items c.in-Ok-lane_states.ensures.fresh
+    c.in-Ok-lane_states.ensures.count)
 
 pub returns-clause-good : goal.returns-clause-good
 returns-clause-good g c =

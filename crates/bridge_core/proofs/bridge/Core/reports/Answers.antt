@@ -13,6 +13,9 @@ invariant_of-self g c = subst (HavePlaces c.self.inside.lanes.items) (sym c.repo
 
 pub returns-clause-tells : goal.returns-clause-tells
 returns-clause-tells g c =
-    let tells = λ (core : CoreOf) (desk : Desk). IfOk c.reports.result (λ up. TellsSenders core.intake c.reports.new.self (map datagram_of up.items) desk c.args.moment) in
+    let tells = λ (core : CoreOf) (desk : Desk).
+    IfOk c.reports.result
+    (λ up. TellsSenders core.intake c.reports.new.self (map datagram_of up.items) desk c.args.moment) in
     let was = c.self.inside in
-    subst (λ (core : CoreOf). tells core core.desk) c.self.view_is (subst (tells (core_with was.desk was.lanes.items was.intake)) c.rows-rows.ensures.rows c.reports.ensures.tells)
+    subst (λ (core : CoreOf). tells core core.desk) c.self.view_is
+    (subst (tells (core_with was.desk was.lanes.items was.intake)) c.rows-rows.ensures.rows c.reports.ensures.tells)

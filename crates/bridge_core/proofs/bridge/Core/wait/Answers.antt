@@ -14,11 +14,16 @@ invariant_of-self g c = subst (HavePlaces c.self.inside.lanes.items) (sym c.wait
 
 pub returns-clause-waits : goal.returns-clause-waits
 returns-clause-waits g c =
-    let waits = λ (core : CoreOf) (desk : Desk). IfOk c.wait.result (λ answer. WaitsFor core.intake c.wait.new.self (answered_of answer) desk (record { address = c.args.from.now; ssrc = c.args.ssrc }) c.args.moment) in
+    let waits = λ (core : CoreOf) (desk : Desk).
+    IfOk c.wait.result (λ answer.
+    WaitsFor core.intake c.wait.new.self (answered_of answer) desk
+    (record { address = c.args.from.now; ssrc = c.args.ssrc }) c.args.moment) in
     let was = c.self.inside in
-    subst (λ (core : CoreOf). waits core core.desk) c.self.view_is (subst (waits (core_with was.desk was.lanes.items was.intake)) c.rows-rows.ensures.rows c.wait.ensures.waits)
+    subst (λ (core : CoreOf). waits core core.desk) c.self.view_is
+    (subst (waits (core_with was.desk was.lanes.items was.intake)) c.rows-rows.ensures.rows c.wait.ensures.waits)
 
 pub returns-clause-err : goal.returns-clause-err
 returns-clause-err g c =
     let was = c.self.inside in
-    on_err_weaker c.wait.result (λ same. ap (core_with was.desk was.lanes.items) same ∙ c.self.view_is) c.wait.ensures.err
+    on_err_weaker c.wait.result (λ same. ap (core_with was.desk was.lanes.items) same ∙ c.self.view_is)
+    c.wait.ensures.err

@@ -8,4 +8,6 @@ pub returns : goal.returns
 returns g c = λ before left.
     let due = c.args.self.now in
     let slots = slot_reports due before c.args.to.now in
-    ok_joined c.tell_slots.result _ _ _ (mix_report due before c.args.to.now) (slots c.slots_to-slots.result.now) (slots (slots_to due.visit.rows.now c.args.to.now.member)) (c.in_ok-tell_mix.ensures before left) (ap slots c.slots_to-slots.ensures) (c.tell_slots.ensures before left)
+    ok_joined c.tell_slots.result _ _ _ (mix_report due before c.args.to.now) (slots c.slots_to-slots.result.now)
+    (slots (slots_to due.visit.rows.now c.args.to.now.member)) (c.in_ok-tell_mix.ensures before left)
+    (ap slots c.slots_to-slots.ensures) (c.tell_slots.ensures before left)

@@ -14,4 +14,5 @@ returns g c = λ before left.
     let same : say c.video_counts.result ≡ slot_report due before c.args.to.now c.args.slot.now =
     ap say (c.video_counts.ensures before mine left)
     ∙ sym (ap (λ b. cond b (say (video_counts ssrc (routed ssrc before))) []) mine) in
-    ok_alike c.tell.result _ _ (say c.video_counts.result) (slot_report due before c.args.to.now c.args.slot.now) same c.tell.ensures
+    ok_alike c.tell.result _ _ (say c.video_counts.result) (slot_report due before c.args.to.now c.args.slot.now) same
+    c.tell.ensures

@@ -27,6 +27,7 @@ returns-in-Some-pop-clause-lists g c =
     let less = c.pop-in-Redo.new.self.items in
     let pushed = c.push_reserved-in-Some-pop in
     let last = c.in-Redo.last in
-    redone_one lists less pushed.new.self.items c.in-Some-pop.last made last c.in-Some-pop.ensures.items pushed.ensures.items
+    redone_one lists less pushed.new.self.items c.in-Some-pop.last made last c.in-Some-pop.ensures.items
+    pushed.ensures.items
     ∙ (ap (λ (h : CallListsOf g.row.T.Denot). with_call h.lists (Redo last) made) c.self.view_is
     ∙ ap (λ k. with_call now k made) (sym (ap asked_by c.in-Redo.is)))

@@ -11,7 +11,13 @@ invariant_of-self g c =
     let was = c.self.inside in
     let does = of_ok _ c.push.result c.if-is_err.ensures.value c.push.ensures.ok in
     record {
-      good = ap good {x = c.push.new.self.state} does.0 ∙ still_good was.history.state c.args.edits c.self.invariant.good;
-      fewer = omega (arith, ap length {x = c.push.new.self.done} does.1 ∙ length_push was.history.done c.args.edits, c.self.invariant.fewer);
+      good =
+          ap good {x = c.push.new.self.state} does.0 ∙ still_good was.history.state c.args.edits c.self.invariant.good;
+      fewer =
+          omega (
+            arith,
+            ap length {x = c.push.new.self.done} does.1 ∙ length_push was.history.done c.args.edits,
+            c.self.invariant.fewer,
+          );
       limit = omega (arith, c.requires.capacity.1, ap (λ (d : DeskOf). d.version) c.self.view_is);
     }

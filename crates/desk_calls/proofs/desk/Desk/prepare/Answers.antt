@@ -13,4 +13,6 @@ pub returns-clause-told : goal.returns-clause-told
 returns-clause-told g c =
     let old = c.args.self.now in
     let call = asked_by c.args.call.now in
-    IfErr-weaker c.judge.result (λ why. IsReason old call why) (λ why. (h : CallHistory) → HasCalled old h → IsTold h call why) (λ why reason h called. told_by old h call why called reason) c.judge.ensures.why
+    IfErr-weaker c.judge.result (λ why. IsReason old call why)
+    (λ why. (h : CallHistory) → HasCalled old h → IsTold h call why)
+    (λ why reason h called. told_by old h call why called reason) c.judge.ensures.why

@@ -5,4 +5,6 @@ use Rattle.desk_edit.proofs.GoingLemmas.{name_goes}
 pub returns-in-None : goal.returns-in-None
 returns-in-None g c =
     let x = c.args.self.now in
-    c.finds_member.ensures ∙ ap (finds (goes_within 1 x.rows.now x.key)) c.look.ensures.found ∙ sym (name_goes x.rows.now c.look.ensures.keyed 1 x.key c.args.name)
+    c.finds_member.ensures
+    ∙ ap (finds (goes_within 1 x.rows.now x.key)) c.look.ensures.found
+    ∙ sym (name_goes x.rows.now c.look.ensures.keyed 1 x.key c.args.name)

@@ -8,7 +8,8 @@ returns g c =
     let x = c.args.self.now in
     let d = x.going.rows.now in
     let p : Row → Bool = goes_with d x.going.key in
-    let gains = one_kind_more d p x.going.good kinds.Gain _ _ (c.new-out.ensures.items ∙ first_kind d p) c.in_ok-append.ensures in
+    let gains =
+    one_kind_more d p x.going.good kinds.Gain _ _ (c.new-out.ensures.items ∙ first_kind d p) c.in_ok-append.ensures in
     let rooms = one_kind_more d p x.going.good kinds.Room _ _ gains c.in_ok-append-2.ensures in
     let members = members_more d p x.going.good _ rooms in
     let sources = one_kind_more d p x.going.good kinds.Source _ _ members c.in_ok-append-3.ensures in

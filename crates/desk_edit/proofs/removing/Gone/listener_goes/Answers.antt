@@ -15,4 +15,5 @@ returns-else-number-member g c =
 pub returns-else-not-self : goal.returns-else-not-self
 returns-else-not-self g c =
     let x = c.args.self.now in
-    ap not c.if-not-self.false ∙ sym (no_member_goes x.going.rows.now x.going.key x.going.good x.low (x.members c.if-not-self.false) c.args.member)
+    ap not c.if-not-self.false
+    ∙ sym (no_member_goes x.going.rows.now x.going.key x.going.good x.low (x.members c.if-not-self.false) c.args.member)

@@ -6,4 +6,8 @@ use Rattle.desk_rows.proofs.exchange.RowExchange.is_good.Goals as goal
 pub invariant_of-later : goal.invariant_of-later
 invariant_of-later g c =
     let x = c.args.self in
-    record { keyed = keyed_later x.rows.now x.edit.now x.good (apt_parts x.rows.now x.edit.now x.apt) (sym c.is_plain.ensures ∙ c.if-not-is_plain.false) (sym c.keys_are_new.ensures ∙ c.if-not-keys_are_new.false) }
+    record {
+      keyed =
+          keyed_later x.rows.now x.edit.now x.good (apt_parts x.rows.now x.edit.now x.apt)
+          (sym c.is_plain.ensures ∙ c.if-not-is_plain.false) (sym c.keys_are_new.ensures ∙ c.if-not-keys_are_new.false);
+    }

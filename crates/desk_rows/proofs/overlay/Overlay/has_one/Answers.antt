@@ -1,5 +1,6 @@
 use Rattle.std.specs.Prelude.{◌+◌}
-use Rattle.desk_rows.specs.laws.Words.{nat_eq, ap, sym, ◌∙◌, count_by, Member, MemberRow, Makes, passes, go_count, come_count}
+use Rattle.desk_rows.specs.laws.Words.{nat_eq, ap, sym, ◌∙◌, count_by, Member, MemberRow, Makes, passes, go_count}
+use Rattle.desk_rows.specs.laws.Words.{come_count}
 use Rattle.desk_rows.proofs.Counts.{rows_count}
 use Rattle.desk_rows.proofs.OverlayLemmas.{one_is}
 use Rattle.desk_rows.proofs.overlay.Overlay.has_one.Goals as goal

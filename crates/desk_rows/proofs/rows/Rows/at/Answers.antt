@@ -15,5 +15,8 @@ pub returns-in_default : goal.returns-in_default
 returns-in_default g c =
     let self = c.self.inside in
     let d = desk_of self.bridge_ssrc self.members.items self.others.items in
-    c.other_row.ensures ∙ ap (λ rs. slice_get rs c.args.i) (c.others_of.ensures.rows ∙ ap (λ x. filter (is_of c.args.kind) x.others) (sym c.self.view_is)
-    ∙ sym (others_only c.args.kind c.in_default.not-Member d.members d.others) ∙ ap (rows_of_kind c.args.kind) c.self.view_is)
+    c.other_row.ensures
+    ∙ ap (λ rs. slice_get rs c.args.i)
+    (c.others_of.ensures.rows ∙ ap (λ x. filter (is_of c.args.kind) x.others) (sym c.self.view_is)
+    ∙ sym (others_only c.args.kind c.in_default.not-Member d.members d.others)
+    ∙ ap (rows_of_kind c.args.kind) c.self.view_is)

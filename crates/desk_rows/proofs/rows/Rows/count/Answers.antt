@@ -5,7 +5,9 @@ use Rattle.desk_rows.proofs.rows.Rows.count.Goals as goal
 pub returns-in-Member : goal.returns-in-Member
 returns-in-Member g c =
     let d = c.args.self.now in
-    ap length c.members.ensures.members ∙ members_counted d.members d.others (plain_others d c.members.ensures.good) ∙ ap (λ kind. count_of kind d) (sym c.in-Member.is)
+    ap length c.members.ensures.members
+    ∙ members_counted d.members d.others (plain_others d c.members.ensures.good)
+    ∙ ap (λ kind. count_of kind d) (sym c.in-Member.is)
 
 pub returns-in_default : goal.returns-in_default
 returns-in_default g c =

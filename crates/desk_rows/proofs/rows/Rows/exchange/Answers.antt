@@ -1,5 +1,7 @@
 use Rattle.std.specs.Prelude.{◌≡◌}
-use Rattle.desk_rows.specs.laws.Words.{true, length, filter, ap, subst, ◌∙◌, arith, count_by, is_of, in_order, slot_in, sub_in, passes_in, IsTableOf, Desk, good, EditOf, exchanged, fits, after, desk_of}
+use Rattle.desk_rows.specs.laws.Words.{true, length, filter, ap, subst, ◌∙◌, arith, count_by, is_of, in_order, slot_in}
+use Rattle.desk_rows.specs.laws.Words.{sub_in, passes_in, IsTableOf, Desk, good, EditOf, exchanged, fits, after}
+use Rattle.desk_rows.specs.laws.Words.{desk_of}
 use Rattle.desk_rows.specs.declared.key.Kind.TheVariants as kinds
 use Rattle.desk_rows.specs.laws.Laws.{good_order}
 use Rattle.desk_rows.proofs.ExchangeLemmas.{few_rows}
@@ -53,7 +55,8 @@ follow-requires g c =
       rows = ap in_order now ∙ good_order _ found.good_after;
       orders = found.orders;
       there = λ p. omega (arith, own.6.same p, found.go (passes_in sub_in p));
-      before = λ p. omega (arith, own.6.same p, ap (count_by (passes_in sub_in p)) now, found.balance (passes_in sub_in p));
+      before = λ p.
+          omega (arith, own.6.same p, ap (count_by (passes_in sub_in p)) now, found.balance (passes_in sub_in p));
       capacity = omega (arith, ap (λ rows. length (filter (is_of kinds.Sub) rows)) now, found.subs_few, own.7);
     }
 
@@ -68,15 +71,35 @@ follow-requires-2 g c =
       rows = ap in_order now ∙ good_order _ found.good_after;
       orders = found.orders;
       there = λ p. omega (arith, own.8.same p, found.go (passes_in slot_in p));
-      before = λ p. omega (arith, own.8.same p, ap (count_by (passes_in slot_in p)) now, found.balance (passes_in slot_in p));
+      before = λ p.
+          omega (arith, own.8.same p, ap (count_by (passes_in slot_in p)) now, found.balance (passes_in slot_in p));
       capacity = omega (arith, ap (λ rows. length (filter (is_of kinds.Slot) rows)) now, found.slots_few, own.9);
     }
 
 pub invariant_of-self : goal.invariant_of-self
 unfolding exchanged
 invariant_of-self g c =
-    let found = at _ _ c.args.edit.now c.self.view_is c.requires in
-    ((λ i. good (desk_of c.self.inside.bridge_ssrc (c.exchange_members.ensures.items i) (c.exchange_rows.ensures.items i))) ∙ found.good_after, c.exchange_members.ensures.index, c.exchange_members.ensures.capacity.0, c.exchange_members.ensures.capacity.1, c.exchange_rows.ensures.capacity.0, c.exchange_rows.ensures.capacity.1, subst (λ others. IsTableOf sub_in (λ s. s.source) (λ s. s.out_ssrc) others c.follow.new.table.items) c.deref.ensures.value c.follow.ensures.table, omega (arith, c.follow.ensures.capacity, c.self.invariant.7), subst (λ others. IsTableOf slot_in (λ s. s.member) (λ s. s.index) others c.follow-2.new.table.items) c.deref-2.ensures.value c.follow-2.ensures.table, omega (arith, c.follow-2.ensures.capacity, c.self.invariant.9), c.exchange_members.ensures.addresses, c.exchange_members.ensures.capacity.2, c.exchange_members.ensures.rooms, c.exchange_members.ensures.capacity.3)
+    let found = at _ _ c.args.edit.now c.self.view_is c.requires in (
+      (λ i.
+          good
+          (desk_of c.self.inside.bridge_ssrc (c.exchange_members.ensures.items i) (c.exchange_rows.ensures.items i)))
+          ∙ found.good_after,
+      c.exchange_members.ensures.index,
+      c.exchange_members.ensures.capacity.0,
+      c.exchange_members.ensures.capacity.1,
+      c.exchange_rows.ensures.capacity.0,
+      c.exchange_rows.ensures.capacity.1,
+      subst (λ others. IsTableOf sub_in (λ s. s.source) (λ s. s.out_ssrc) others c.follow.new.table.items)
+          c.deref.ensures.value c.follow.ensures.table,
+      omega (arith, c.follow.ensures.capacity, c.self.invariant.7),
+      subst (λ others. IsTableOf slot_in (λ s. s.member) (λ s. s.index) others c.follow-2.new.table.items)
+          c.deref-2.ensures.value c.follow-2.ensures.table,
+      omega (arith, c.follow-2.ensures.capacity, c.self.invariant.9),
+      c.exchange_members.ensures.addresses,
+      c.exchange_members.ensures.capacity.2,
+      c.exchange_members.ensures.rooms,
+      c.exchange_members.ensures.capacity.3,
+    )
 
 pub returns : goal.returns
 unfolding exchanged

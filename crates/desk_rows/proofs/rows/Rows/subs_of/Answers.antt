@@ -6,4 +6,5 @@ pub returns-clause-subs : goal.returns-clause-subs
 returns-clause-subs g c =
     let source = c.args.source in
     c.group_of.ensures ∙ ap (filter (λ s. nat_eq s.source source)) c.deref.ensures.value
-    ∙ subs_in_table _ source c.self.inside.subs.items c.self.invariant.0 c.self.invariant.6 ∙ ap (λ d. subs_naming d source) c.self.view_is
+    ∙ subs_in_table _ source c.self.inside.subs.items c.self.invariant.0 c.self.invariant.6
+    ∙ ap (λ d. subs_naming d source) c.self.view_is

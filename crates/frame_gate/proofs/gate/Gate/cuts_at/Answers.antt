@@ -15,8 +15,10 @@ returns-then-not-is_missing g c =
     let k = c.args.self.now in
     let n = c.args.number in
     λ new commits e h.
-    let is : is_missing e n ≡ false = sym (knows_missing k e n h) ∙ sym c.is_missing.ensures ∙ c.if-not-is_missing.true in
-    gave_nothing k new e n c.no_cuts.result h is c.no_cuts.ensures.walk c.no_cuts.ensures.frames c.no_cuts.ensures.pli commits
+    let is : is_missing e n ≡ false =
+    sym (knows_missing k e n h) ∙ sym c.is_missing.ensures ∙ c.if-not-is_missing.true in
+    gave_nothing k new e n c.no_cuts.result h is c.no_cuts.ensures.walk c.no_cuts.ensures.frames c.no_cuts.ensures.pli
+    commits
 
 pub returns : goal.returns
 returns g c =
@@ -28,14 +30,21 @@ returns g c =
     let out = c.resync.new.frames.items in
     let r : PreparedCutsOf = record { walk = w; answer = record { frames = out; pli = true } } in
     λ new commits e h.
-    let is : is_missing e n ≡ true = sym (knows_missing k e n h) ∙ sym c.is_missing.ensures ∙ c.if-not-is_missing.false in
+    let is : is_missing e n ≡ true =
+    sym (knows_missing k e n h) ∙ sym c.is_missing.ensures ∙ c.if-not-is_missing.false in
     let begun : Tied (held c.deref.result.now None) (frames_of e) e c.self.inside.walk c.new-frames.result.items =
-    subst (λ (cs : List (Option NumberedPacket)). Tied (held cs None) (frames_of e) e c.self.inside.walk c.new-frames.result.items) (sym cells)
+    subst
+    (λ (cs : List (Option NumberedPacket)).
+    Tied (held cs None) (frames_of e) e c.self.inside.walk c.new-frames.result.items)
+    (sym cells)
     (subst (λ (v : Walk). Tied (held k.cells None) (frames_of e) e v c.new-frames.result.items) (sym walk)
-    (subst (λ (fs : List WholeFrame). Tied (held k.cells None) (frames_of e) e k.walk fs) (sym c.new-frames.ensures.items) h.tied)) in
+    (subst (λ (fs : List WholeFrame). Tied (held k.cells None) (frames_of e) e k.walk fs)
+    (sym c.new-frames.ensures.items) h.tied)) in
     let lt : n + 256 < c.self.inside.walk.next + 256 + (n + 256) = omega arith in
     let tied : Tied (held k.cells None) (frames_of e) (resynced (n + 256) e (n + 256)) w out =
-    subst (λ (cs : List (Option NumberedPacket)). Tied (held cs None) (frames_of e) (resynced (n + 256) e (n + 256)) w out) cells
+    subst
+    (λ (cs : List (Option NumberedPacket)). Tied (held cs None) (frames_of e) (resynced (n + 256) e (n + 256)) w out)
+    cells
     (c.in_ok-walk.ensures.tied (frames_of e) e (n + 256) begun lt) in
     let over : n < w.next = omega (arith, c.in_ok-walk.ensures.capacity) in
     gave_up k new e n r h is tied refl over commits

@@ -13,7 +13,8 @@ returns-clause-gate g c =
     let old = c.prepared.inside.walk.next in
     let to = c.args.prepared.walk.next in
     let new = c.forget_between.new.cells in
-    let cells : c.deref_mut.result.now ≡ k.cells = c.deref_mut.ensures.value ∙ ap (λ (x : Kept). x.cells) c.self.view_is in
+    let cells : c.deref_mut.result.now ≡ k.cells =
+    c.deref_mut.ensures.value ∙ ap (λ (x : Kept). x.cells) c.self.view_is in
     let from : c.self.inside.walk.next ≡ k.walk.next = ap (λ (x : Kept). x.walk.next) c.self.view_is in
     let same : old ≡ to = ap (λ (r : PreparedCutsOf). r.walk.next) c.prepared.view_is in
     let vec = c.self.inside.cells in
@@ -30,5 +31,6 @@ returns-clause-gate g c =
           subst (Forgets k.walk.next to k.cells) whole
           (subst (λ (n : ℕ). Forgets k.walk.next n k.cells new) same
           (subst (λ (n : ℕ). Forgets n old k.cells new) from
-          (subst (λ (cs : List (Option NumberedPacket)). Forgets c.self.inside.walk.next old cs new) cells c.forget_between.ensures.gone)));
+          (subst (λ (cs : List (Option NumberedPacket)). Forgets c.self.inside.walk.next old cs new) cells
+          c.forget_between.ensures.gone)));
     }

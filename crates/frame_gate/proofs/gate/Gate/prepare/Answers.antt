@@ -9,5 +9,6 @@ pub returns-clause-ok : goal.returns-clause-ok
 returns-clause-ok g c =
     let k = c.args.self.now in
     let same : to_z w64 (of_z w64 c.args.ext) ≡ c.args.ext = grind (arith, to_z-of_z) in
-    let is : c.new.result ≡ numbered c.args.ext c.args.packet = c.new.ensures ∙ ap (λ (ext : ℤ). numbered ext c.args.packet) same in
+    let is : c.new.result ≡ numbered c.args.ext c.args.packet =
+    c.new.ensures ∙ ap (λ (ext : ℤ). numbered ext c.args.packet) same in
     subst (λ (p : NumberedPacket). IfOk c.judge.result (λ r. Prepares k p r)) is c.judge.ensures.ok

@@ -13,11 +13,13 @@ returns-clause-ok g c =
     let p = numbered c.args.ext c.args.packet in
     let prepared = c.in_ok-prepared.prepared in
     let same : to_z w64 (of_z w64 c.args.ext) ≡ c.args.ext = grind (arith, to_z-of_z) in
-    let num : c.number_of-number.result ≡ number_of c.args.ext = c.number_of-number.ensures.number ∙ ap number_of same in
+    let num : c.number_of-number.result ≡ number_of c.args.ext =
+    c.number_of-number.ensures.number ∙ ap number_of same in
     let seen : c.self.inside.gate ≡ k.gate = ap (λ (x : WatchedOf). x.gate) c.self.view_is in
     let ok : Prepares k.gate p prepared =
     subst (λ (x : Kept). Prepares x p prepared) seen
-    (subst (λ (ext : ℤ). Prepares c.self.inside.gate (numbered ext c.args.packet) prepared) same c.in_ok-prepared.ensures.ok) in
+    (subst (λ (ext : ℤ). Prepares c.self.inside.gate (numbered ext c.args.packet) prepared) same
+    c.in_ok-prepared.ensures.ok) in
     λ new commits w h.
     let x = ok new.gate commits.gate w.epoch h.gate in (
       x.0,

@@ -31,7 +31,8 @@ returns-clause-ok g c =
     answered k new r w c.last_lost-lost.result h
     (c.last_lost-lost.ensures.last
     ∙ (λ i. fold later None (filter (gone (cells_again i) (limit i) (marks_again i)) (between (next i) to)))
-    ∙ ap (λ (ns : List ℕ). fold later None ns) (passing k.gate w.epoch to (is_lost (limit_of k.answers) k.marks) h.gate end)
+    ∙ ap (λ (ns : List ℕ). fold later None ns)
+    (passing k.gate w.epoch to (is_lost (limit_of k.answers) k.marks) h.gate end)
     ∙ (λ i. fold later None (filter (is_lost (limit_of (h.answers i)) (h.marks i)) (missing_in w.epoch))))
     (subst (λ (x : Kept). PreparesMaybe x c.last_lost-lost.result c.in_ok-cuts.cuts) seen c.in_ok-cuts.ensures)
     (c.in_ok-nacks.ensures.items

@@ -12,7 +12,8 @@ returns-in-None g c = ([], refl, subst (λ e. AsksFirst c.args.from.now e []) (s
 pub returns-in_err-want-in-Some : goal.returns-in_err-want-in-Some
 returns-in_err-want-in-Some g c = (
   [],
-  sym (ap (λ s. history s.media (g.I.Inlet.came s.inlet) (g.C.Watch.told s.watch) (g.W.Wire.attempts s.wire) s.ticked) c.want.ensures),
+  sym (ap (λ s. history s.media (g.I.Inlet.came s.inlet) (g.C.Watch.told s.watch) (g.W.Wire.attempts s.wire) s.ticked)
+      c.want.ensures),
   err_on_ok _ c.from_residual.result c.from_residual.ensures.0,
 )
 
@@ -24,8 +25,17 @@ returns-in_ok-want-in-Some g c =
     let source : VideoSource = c.at-source.result in (
       p.0,
       subst (λ (h : History g.row.P.Denot g.row.S.Denot). HaveDone p.0 h new)
-          (ap (λ s. history s.media (g.I.Inlet.came s.inlet) (g.C.Watch.told s.watch) (g.W.Wire.attempts s.wire) s.ticked) c.want.ensures) p.1,
+          (ap
+          (λ s. history s.media (g.I.Inlet.came s.inlet) (g.C.Watch.told s.watch) (g.W.Wire.attempts s.wire) s.ticked)
+          c.want.ensures)
+          p.1,
       on_ok_map c.ask_picture.result
-          (λ k. subst (λ e. AsksFirst c.args.from.now e p.0) (sym c.in-Some.is)
-          (k.0, k.1 ∙ ap (λ (s : VideoSource). asked_picture (record { address = member_address s; ssrc = s.ssrc }) k.0 ∷ []) c.at-source.ensures)) p.3,
+          (λ k. subst (λ e. AsksFirst c.args.from.now e p.0) (sym c.in-Some.is) (
+            k.0,
+            k.1
+                ∙ ap
+                (λ (s : VideoSource). asked_picture (record { address = member_address s; ssrc = s.ssrc }) k.0 ∷ [])
+                c.at-source.ensures,
+          ))
+          p.3,
     )

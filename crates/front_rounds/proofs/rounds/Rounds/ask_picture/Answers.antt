@@ -16,7 +16,9 @@ returns g c =
     let mid = history c.ask_picture.new.self came told (g.W.Wire.attempts c.ask_picture.new.wire) a.ticked in (
       asked_picture o sent ∷ [],
       subst (λ (h : History g.row.P.Denot g.row.S.Denot). HaveDone (asked_picture o sent ∷ []) old h)
-          (sym (ap (λ s. history s.media (g.I.Inlet.came s.inlet) (g.C.Watch.told s.watch) (g.W.Wire.attempts s.wire) s.ticked) c.note.ensures))
+          (sym (ap
+          (λ s. history s.media (g.I.Inlet.came s.inlet) (g.C.Watch.told s.watch) (g.W.Wire.attempts s.wire) s.ticked)
+          c.note.ensures))
           (done_one (asked_picture o sent) old mid (record { asked = c.in_ok-sent.ensures.asked; same = refl })),
       (tt, tt),
       (

@@ -8,6 +8,8 @@ use Rattle.front_rounds.proofs.rounds.Rounds.ask_pictures.Given as goal
 abbrev pub invariant-loop-source : goal.invariant-loop-source
 invariant-loop-source g l =
     (turns : List Turn)
-    × HaveDone turns (history l.fn.self.media (g.I.Inlet.came l.fn.self.inlet) (g.C.Watch.told l.fn.self.watch) (g.W.Wire.attempts l.fn.self.wire) l.fn.self.ticked)
-    (history l.self.media (g.I.Inlet.came l.self.inlet) (g.C.Watch.told l.self.watch) (g.W.Wire.attempts l.self.wire) l.self.ticked)
+    × HaveDone turns (history l.fn.self.media (g.I.Inlet.came l.fn.self.inlet) (g.C.Watch.told l.fn.self.watch)
+    (g.W.Wire.attempts l.fn.self.wire) l.fn.self.ticked)
+    (history l.self.media (g.I.Inlet.came l.self.inlet) (g.C.Watch.told l.self.watch) (g.W.Wire.attempts l.self.wire)
+    l.self.ticked)
     × AllByRecursion IsPicture turns

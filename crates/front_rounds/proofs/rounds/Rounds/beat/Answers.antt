@@ -18,13 +18,25 @@ returns-then-tick_at g c =
         record {
           right = c.tick_at.ensures.due;
           given = c.tick_at.ensures.did;
-          same = ap (λ s. history b.media (g.I.Inlet.came s.inlet) (g.C.Watch.told s.watch) (g.W.Wire.attempts s.wire) b.ticked) c.tick_at.ensures.same
-              ∙ ap (λ (k : ℕ). history b.media (g.I.Inlet.came a.inlet) (g.C.Watch.told a.watch) (g.W.Wire.attempts a.wire) k) c.tick_at.ensures.last;
+          same =
+              ap
+              (λ s.
+              history b.media (g.I.Inlet.came s.inlet) (g.C.Watch.told s.watch) (g.W.Wire.attempts s.wire) b.ticked)
+              c.tick_at.ensures.same
+              ∙ ap
+              (λ (k : ℕ).
+              history b.media (g.I.Inlet.came a.inlet) (g.C.Watch.told a.watch) (g.W.Wire.attempts a.wire) k)
+              c.tick_at.ensures.last;
         },
         w.1,
       ),
       on_ok_map c.wait_all.result
-          (λ is. (due, ap (λ (l : List Turn). gave_ticks due now ∷ l) (is ∙ ap (λ (k : Bool). waits k c.args.rows.now now) (sym c.if-tick_at.true)))) w.2,
+          (λ is. (
+            due,
+            ap (λ (l : List Turn). gave_ticks due now ∷ l)
+                (is ∙ ap (λ (k : Bool). waits k c.args.rows.now now) (sym c.if-tick_at.true)),
+          ))
+          w.2,
     )
 
 pub returns : goal.returns
@@ -40,8 +52,15 @@ returns g c =
         record {
           right = c.tick_at.ensures.due;
           given = c.tick_at.ensures.did;
-          same = ap (λ s. history b.media (g.I.Inlet.came s.inlet) (g.C.Watch.told s.watch) (g.W.Wire.attempts s.wire) b.ticked) c.tick_at.ensures.same
-              ∙ ap (λ (k : ℕ). history b.media (g.I.Inlet.came a.inlet) (g.C.Watch.told a.watch) (g.W.Wire.attempts a.wire) k) c.tick_at.ensures.last;
+          same =
+              ap
+              (λ s.
+              history b.media (g.I.Inlet.came s.inlet) (g.C.Watch.told s.watch) (g.W.Wire.attempts s.wire) b.ticked)
+              c.tick_at.ensures.same
+              ∙ ap
+              (λ (k : ℕ).
+              history b.media (g.I.Inlet.came a.inlet) (g.C.Watch.told a.watch) (g.W.Wire.attempts a.wire) k)
+              c.tick_at.ensures.last;
         },
         refl,
       ),

@@ -15,11 +15,13 @@ returns-in-Ok-clause-run g c start had =
     let n = c.wait.new.self in
     let old = history a.media (g.I.Inlet.came a.inlet) (g.C.Watch.told a.watch) (g.W.Wire.attempts a.wire) a.ticked in
     let new = history n.media (g.I.Inlet.came n.inlet) (g.C.Watch.told n.watch) (g.W.Wire.attempts n.wire) n.ticked in
-    let k : HasRun Whole start (front_at old a.reader) = subst (λ (s : RoundStage). HasRun s start (front_at old a.reader)) c.requires had in
+    let k : HasRun Whole start (front_at old a.reader) =
+    subst (λ (s : RoundStage). HasRun s start (front_at old a.reader)) c.requires had in
     let w = c.in-Ok.ensures.done in (
       k.0,
       w.2.0,
-      subst (λ (l : List Turn). HaveDone (k.0 ++ l) start.history new) w.2.1 (done_both k.0 w.0 start.history old new k.1 w.1),
+      subst (λ (l : List Turn). HaveDone (k.0 ++ l) start.history new) w.2.1
+          (done_both k.0 w.0 start.history old new k.1 w.1),
       subst (λ (r : Option ReaderOf). AreRounds start.reader r k.0) (sym c.wait.ensures.reader) k.2,
     )
 
@@ -29,7 +31,8 @@ returns-in-Err-clause-run g c start had =
     let n = c.wait.new.self in
     let old = history a.media (g.I.Inlet.came a.inlet) (g.C.Watch.told a.watch) (g.W.Wire.attempts a.wire) a.ticked in
     let new = history n.media (g.I.Inlet.came n.inlet) (g.C.Watch.told n.watch) (g.W.Wire.attempts n.wire) n.ticked in
-    let k : HasRun Whole start (front_at old a.reader) = subst (λ (s : RoundStage). HasRun s start (front_at old a.reader)) c.requires had in
+    let k : HasRun Whole start (front_at old a.reader) =
+    subst (λ (s : RoundStage). HasRun s start (front_at old a.reader)) c.requires had in
     let w = c.wait.ensures.done in (
       k.0 ++ w.0,
       done_both k.0 w.0 start.history old new k.1 w.1,

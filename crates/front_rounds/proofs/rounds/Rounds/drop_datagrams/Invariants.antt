@@ -9,8 +9,10 @@ use Rattle.front_rounds.proofs.rounds.Rounds.drop_datagrams.Given as goal
 abbrev pub invariant-loop : goal.invariant-loop
 invariant-loop g l = record {
   done : (reads : List (List Turn))
-      × HaveDone (turns_of reads) (history l.fn.self.media (g.I.Inlet.came l.fn.self.inlet) (g.C.Watch.told l.fn.self.watch) (g.W.Wire.attempts l.fn.self.wire) l.fn.self.ticked)
-      (history l.self.media (g.I.Inlet.came l.self.inlet) (g.C.Watch.told l.self.watch) (g.W.Wire.attempts l.self.wire) l.self.ticked)
+      × HaveDone (turns_of reads) (history l.fn.self.media (g.I.Inlet.came l.fn.self.inlet)
+      (g.C.Watch.told l.fn.self.watch) (g.W.Wire.attempts l.fn.self.wire) l.fn.self.ticked)
+      (history l.self.media (g.I.Inlet.came l.self.inlet) (g.C.Watch.told l.self.watch) (g.W.Wire.attempts l.self.wire)
+      l.self.ticked)
       × AllByRecursion IsPassed reads × (length reads ≡ l.counter);
   few : l.counter ≤ 64;
   reader : l.self.reader ≡ l.fn.self.reader;

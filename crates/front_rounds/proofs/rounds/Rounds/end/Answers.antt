@@ -15,7 +15,8 @@ returns-in-Ok-clause-run g c start had =
     let n = c.round.new.self in
     let old = history a.media (g.I.Inlet.came a.inlet) (g.C.Watch.told a.watch) (g.W.Wire.attempts a.wire) a.ticked in
     let new = history n.media (g.I.Inlet.came n.inlet) (g.C.Watch.told n.watch) (g.W.Wire.attempts n.wire) n.ticked in
-    let k : HasRun Begun start (front_at old a.reader) = subst (λ (s : RoundStage). HasRun s start (front_at old a.reader)) c.requires.stage had in
+    let k : HasRun Begun start (front_at old a.reader) =
+    subst (λ (s : RoundStage). HasRun s start (front_at old a.reader)) c.requires.stage had in
     let r = c.in-Ok.ensures in
     let slept : List Turn = looked k.1 ∷ [] in (
       (k.0 ++ slept) ++ r.0,
@@ -30,7 +31,8 @@ returns-in-Err-clause-run g c start had =
     let n = c.round.new.self in
     let old = history a.media (g.I.Inlet.came a.inlet) (g.C.Watch.told a.watch) (g.W.Wire.attempts a.wire) a.ticked in
     let new = history n.media (g.I.Inlet.came n.inlet) (g.C.Watch.told n.watch) (g.W.Wire.attempts n.wire) n.ticked in
-    let k : HasRun Begun start (front_at old a.reader) = subst (λ (s : RoundStage). HasRun s start (front_at old a.reader)) c.requires.stage had in
+    let k : HasRun Begun start (front_at old a.reader) =
+    subst (λ (s : RoundStage). HasRun s start (front_at old a.reader)) c.requires.stage had in
     let r = c.round.ensures in
     let slept : List Turn = looked k.1 ∷ [] in (
       (k.0 ++ slept) ++ r.0,

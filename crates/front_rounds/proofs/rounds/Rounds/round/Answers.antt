@@ -16,9 +16,16 @@ returns-in-Ok g c =
     let w = c.wake.ensures.done in
     let entered = on_ok c.take_in.result _ c.in-Ok.is e.2 in (
       owed c.args.notice ∷ (e.0 ++ w.0),
-      (history c.tell.new.self came told tried a.ticked, ap (λ f. history f came told tried a.ticked) c.tell.ensures, done_both e.0 w.0 _ _ _ e.1 w.1),
+      (
+        history c.tell.new.self came told tried a.ticked,
+        ap (λ f. history f came told tried a.ticked) c.tell.ensures,
+        done_both e.0 w.0 _ _ _ e.1 w.1,
+      ),
       on_ok_map c.wake.result
-          (λ k. round_of c.args.notice a.reader c.wake.new.self.reader e.0 w.0 (subst (λ (r : Option ReaderOf). IsTakenIn a.reader r e.0) (sym c.wake.ensures.reader) entered) k.0 k.1 k.2) w.2,
+          (λ k.
+          round_of c.args.notice a.reader c.wake.new.self.reader e.0 w.0
+          (subst (λ (r : Option ReaderOf). IsTakenIn a.reader r e.0) (sym c.wake.ensures.reader) entered) k.0 k.1 k.2)
+          w.2,
     )
 
 pub returns-in-Err : goal.returns-in-Err
@@ -30,6 +37,10 @@ returns-in-Err g c =
     let e = c.take_in.ensures in
     let w = c.wake-in-Err.ensures.done in (
       owed c.args.notice ∷ (e.0 ++ w.0),
-      (history c.tell.new.self came told tried a.ticked, ap (λ f. history f came told tried a.ticked) c.tell.ensures, done_both e.0 w.0 _ _ _ e.1 w.1),
+      (
+        history c.tell.new.self came told tried a.ticked,
+        ap (λ f. history f came told tried a.ticked) c.tell.ensures,
+        done_both e.0 w.0 _ _ _ e.1 w.1,
+      ),
       tt,
     )

@@ -11,8 +11,11 @@ pub returns-in-Other : goal.returns-in-Other
 returns-in-Other g c =
     let a = c.args.self.now in (
       passed other ∷ [],
-      passed_at a.media (g.I.Inlet.came a.inlet) (g.I.Inlet.came c.read.new.self) (g.C.Watch.told a.watch) (g.C.Watch.told a.watch) (g.W.Wire.attempts a.wire) a.ticked other
-          (c.in_ok-from.ensures.ok ∙ ap (λ r. g.I.Inlet.came a.inlet ++ came_by r c.read.new.chunk.items ∷ []) c.in-Other.is) refl,
+      passed_at a.media (g.I.Inlet.came a.inlet) (g.I.Inlet.came c.read.new.self) (g.C.Watch.told a.watch)
+          (g.C.Watch.told a.watch) (g.W.Wire.attempts a.wire) a.ticked other
+          (c.in_ok-from.ensures.ok
+          ∙ ap (λ r. g.I.Inlet.came a.inlet ++ came_by r c.read.new.chunk.items ∷ []) c.in-Other.is)
+          refl,
       inr refl,
     )
 
@@ -20,8 +23,11 @@ pub returns-in-Nothing : goal.returns-in-Nothing
 returns-in-Nothing g c =
     let a = c.args.self.now in (
       passed nothing ∷ [],
-      passed_at a.media (g.I.Inlet.came a.inlet) (g.I.Inlet.came c.read.new.self) (g.C.Watch.told a.watch) (g.C.Watch.told a.watch) (g.W.Wire.attempts a.wire) a.ticked nothing
-          (c.in_ok-from.ensures.ok ∙ ap (λ r. g.I.Inlet.came a.inlet ++ came_by r c.read.new.chunk.items ∷ []) c.in-Nothing.is) refl,
+      passed_at a.media (g.I.Inlet.came a.inlet) (g.I.Inlet.came c.read.new.self) (g.C.Watch.told a.watch)
+          (g.C.Watch.told a.watch) (g.W.Wire.attempts a.wire) a.ticked nothing
+          (c.in_ok-from.ensures.ok
+          ∙ ap (λ r. g.I.Inlet.came a.inlet ++ came_by r c.read.new.chunk.items ∷ []) c.in-Nothing.is)
+          refl,
       refl,
     )
 
@@ -30,8 +36,11 @@ returns-in_err-moment g c =
     let a = c.args.self.now in
     let came = datagram c.in-Datagram.from (take c.in-Datagram.octets c.read.new.chunk.items) in (
       passed came ∷ [],
-      passed_at a.media (g.I.Inlet.came a.inlet) (g.I.Inlet.came c.read.new.self) (g.C.Watch.told a.watch) (g.C.Watch.told c.now.new.self) (g.W.Wire.attempts a.wire) a.ticked came
-          (c.in_ok-from.ensures.ok ∙ ap (λ r. g.I.Inlet.came a.inlet ++ came_by r c.read.new.chunk.items ∷ []) c.in-Datagram.is) c.in_err-moment.ensures.err,
+      passed_at a.media (g.I.Inlet.came a.inlet) (g.I.Inlet.came c.read.new.self) (g.C.Watch.told a.watch)
+          (g.C.Watch.told c.now.new.self) (g.W.Wire.attempts a.wire) a.ticked came
+          (c.in_ok-from.ensures.ok
+          ∙ ap (λ r. g.I.Inlet.came a.inlet ++ came_by r c.read.new.chunk.items ∷ []) c.in-Datagram.is)
+          c.in_err-moment.ensures.err,
       err_if_ok _ c.from_residual-in_err-moment.result c.from_residual-in_err-moment.ensures.0,
     )
 
@@ -41,21 +50,37 @@ returns-in_err-taken g c =
     let b = c.catch_up.new.self in
     let same = c.catch_up.ensures.same in
     let chunk : c.deref.result.now ≡ c.read.new.chunk.items = c.deref.ensures.value ∙ ap (λ s. s.chunk.items) same in
-    let arrival : Arrival = record { desk = c.args.rows.now; from = c.in-Datagram.from; moment = c.in_ok-moment.moment; octets = take c.in-Datagram.octets c.deref.result.now } in
+    let arrival : Arrival =
+    record {
+      desk = c.args.rows.now;
+      from = c.in-Datagram.from;
+      moment = c.in_ok-moment.moment;
+      octets = take c.in-Datagram.octets c.deref.result.now;
+    } in
     let late = c.catch_up.result in (
       lost late arrival ∷ [],
-      done_one (lost late arrival) (history a.media (g.I.Inlet.came a.inlet) (g.C.Watch.told a.watch) (g.W.Wire.attempts a.wire) a.ticked)
-          (history c.take_in.new.self (g.I.Inlet.came b.inlet) (g.C.Watch.told b.watch) (g.W.Wire.attempts c.take_in.new.wire) b.ticked)
+      done_one (lost late arrival)
+          (history a.media (g.I.Inlet.came a.inlet) (g.C.Watch.told a.watch) (g.W.Wire.attempts a.wire) a.ticked)
+          (history c.take_in.new.self (g.I.Inlet.came b.inlet) (g.C.Watch.told b.watch)
+          (g.W.Wire.attempts c.take_in.new.wire) b.ticked)
           (record {
             read = record {
               came = ap (λ s. g.I.Inlet.came s.inlet) same
                   ∙ (c.in_ok-from.ensures.ok
                   ∙ (ap (λ r. g.I.Inlet.came a.inlet ++ came_by r c.read.new.chunk.items ∷ []) c.in-Datagram.is
-                  ∙ ap (λ (l : List ℕ). g.I.Inlet.came a.inlet ++ datagram c.in-Datagram.from (take c.in-Datagram.octets l) ∷ []) (sym chunk)));
+                  ∙ ap
+                  (λ (l : List ℕ).
+                  g.I.Inlet.came a.inlet ++ datagram c.in-Datagram.from (take c.in-Datagram.octets l) ∷ [])
+                  (sym chunk)));
               told = ap (λ s. g.C.Watch.told s.watch) same ∙ c.in_ok-moment.ensures.ok;
             };
             mid = b.media;
-            time = record { right = c.catch_up.ensures.late; ticked = c.catch_up.ensures.last; caught = c.catch_up.ensures.did };
+            time =
+                record {
+                  right = c.catch_up.ensures.late;
+                  ticked = c.catch_up.ensures.last;
+                  caught = c.catch_up.ensures.did;
+                };
             intake = c.in_err-taken.ensures.intake;
             same = c.in_err-taken.ensures.err;
             asker = c.take_in.ensures.asker;
@@ -70,54 +95,36 @@ returns-in_err-ask_first g c =
     let b = c.catch_up.new.self in
     let same = c.catch_up.ensures.same in
     let chunk : c.deref.result.now ≡ c.read.new.chunk.items = c.deref.ensures.value ∙ ap (λ s. s.chunk.items) same in
-    let arrival : Arrival = record { desk = c.args.rows.now; from = c.in-Datagram.from; moment = c.in_ok-moment.moment; octets = take c.in-Datagram.octets c.deref.result.now } in
-    let outcome = c.in_ok-taken.taken.0 in
-    let ended = c.in_ok-taken.taken.1 in
-    let turn = took c.catch_up.result arrival outcome ended in
-    let old = history a.media (g.I.Inlet.came a.inlet) (g.C.Watch.told a.watch) (g.W.Wire.attempts a.wire) a.ticked in
-    let mid = history c.take_in.new.self (g.I.Inlet.came b.inlet) (g.C.Watch.told b.watch) (g.W.Wire.attempts c.take_in.new.wire) b.ticked in
-    let does : TakesArrival c.catch_up.result arrival outcome ended old mid = record {
-      read = record {
-        came = ap (λ s. g.I.Inlet.came s.inlet) same
-            ∙ (c.in_ok-from.ensures.ok
-            ∙ (ap (λ r. g.I.Inlet.came a.inlet ++ came_by r c.read.new.chunk.items ∷ []) c.in-Datagram.is
-            ∙ ap (λ (l : List ℕ). g.I.Inlet.came a.inlet ++ datagram c.in-Datagram.from (take c.in-Datagram.octets l) ∷ []) (sym chunk)));
-        told = ap (λ s. g.C.Watch.told s.watch) same ∙ c.in_ok-moment.ensures.ok;
-      };
-      mid = b.media;
-      time = record { right = c.catch_up.ensures.late; ticked = c.catch_up.ensures.last; caught = c.catch_up.ensures.did };
-      takes = subst (λ (o : Option (List Attempt)). HasTaken arrival outcome b.media c.take_in.new.self o (g.W.Wire.attempts c.take_in.new.wire))
-          (ap (λ s. g.W.Wire.attempts s.wire) same) c.in_ok-taken.ensures.takes;
-      ends = c.in_ok-taken.ensures.ended;
-      same = c.take_in.ensures.same;
-      asker = c.take_in.ensures.asker;
+    let arrival : Arrival =
+    record {
+      desk = c.args.rows.now;
+      from = c.in-Datagram.from;
+      moment = c.in_ok-moment.moment;
+      octets = take c.in-Datagram.octets c.deref.result.now;
     } in
-    let k = c.ask_first.ensures in
-    (turn ∷ k.0, (mid, does, k.1), err_if_ok _ c.from_residual-in_err-ask_first.result c.from_residual-in_err-ask_first.ensures.0)
-
-pub returns : goal.returns
-returns g c =
-    let a = c.args.self.now in
-    let b = c.catch_up.new.self in
-    let same = c.catch_up.ensures.same in
-    let chunk : c.deref.result.now ≡ c.read.new.chunk.items = c.deref.ensures.value ∙ ap (λ s. s.chunk.items) same in
-    let arrival : Arrival = record { desk = c.args.rows.now; from = c.in-Datagram.from; moment = c.in_ok-moment.moment; octets = take c.in-Datagram.octets c.deref.result.now } in
     let outcome = c.in_ok-taken.taken.0 in
     let ended = c.in_ok-taken.taken.1 in
     let turn = took c.catch_up.result arrival outcome ended in
     let old = history a.media (g.I.Inlet.came a.inlet) (g.C.Watch.told a.watch) (g.W.Wire.attempts a.wire) a.ticked in
-    let mid = history c.take_in.new.self (g.I.Inlet.came b.inlet) (g.C.Watch.told b.watch) (g.W.Wire.attempts c.take_in.new.wire) b.ticked in
+    let mid =
+    history c.take_in.new.self (g.I.Inlet.came b.inlet) (g.C.Watch.told b.watch) (g.W.Wire.attempts c.take_in.new.wire)
+    b.ticked in
     let does : TakesArrival c.catch_up.result arrival outcome ended old mid = record {
       read = record {
         came = ap (λ s. g.I.Inlet.came s.inlet) same
             ∙ (c.in_ok-from.ensures.ok
             ∙ (ap (λ r. g.I.Inlet.came a.inlet ++ came_by r c.read.new.chunk.items ∷ []) c.in-Datagram.is
-            ∙ ap (λ (l : List ℕ). g.I.Inlet.came a.inlet ++ datagram c.in-Datagram.from (take c.in-Datagram.octets l) ∷ []) (sym chunk)));
+            ∙ ap
+            (λ (l : List ℕ). g.I.Inlet.came a.inlet ++ datagram c.in-Datagram.from (take c.in-Datagram.octets l) ∷ [])
+            (sym chunk)));
         told = ap (λ s. g.C.Watch.told s.watch) same ∙ c.in_ok-moment.ensures.ok;
       };
       mid = b.media;
-      time = record { right = c.catch_up.ensures.late; ticked = c.catch_up.ensures.last; caught = c.catch_up.ensures.did };
-      takes = subst (λ (o : Option (List Attempt)). HasTaken arrival outcome b.media c.take_in.new.self o (g.W.Wire.attempts c.take_in.new.wire))
+      time =
+          record { right = c.catch_up.ensures.late; ticked = c.catch_up.ensures.last; caught = c.catch_up.ensures.did };
+      takes =
+          subst (λ (o : Option (List Attempt)).
+          HasTaken arrival outcome b.media c.take_in.new.self o (g.W.Wire.attempts c.take_in.new.wire))
           (ap (λ s. g.W.Wire.attempts s.wire) same) c.in_ok-taken.ensures.takes;
       ends = c.in_ok-taken.ensures.ended;
       same = c.take_in.ensures.same;
@@ -126,5 +133,61 @@ returns g c =
     let k = c.ask_first.ensures in (
       turn ∷ k.0,
       (mid, does, k.1),
-      inl (record { late = c.catch_up.result; arrival = arrival; outcome = outcome; ended = ended; asked = k.0; rows = refl; first = on_ok c.ask_first.result (tt {0}) c.in_ok-ask_first.was k.2; are = refl }),
+      err_if_ok _ c.from_residual-in_err-ask_first.result c.from_residual-in_err-ask_first.ensures.0,
+    )
+
+pub returns : goal.returns
+returns g c =
+    let a = c.args.self.now in
+    let b = c.catch_up.new.self in
+    let same = c.catch_up.ensures.same in
+    let chunk : c.deref.result.now ≡ c.read.new.chunk.items = c.deref.ensures.value ∙ ap (λ s. s.chunk.items) same in
+    let arrival : Arrival =
+    record {
+      desk = c.args.rows.now;
+      from = c.in-Datagram.from;
+      moment = c.in_ok-moment.moment;
+      octets = take c.in-Datagram.octets c.deref.result.now;
+    } in
+    let outcome = c.in_ok-taken.taken.0 in
+    let ended = c.in_ok-taken.taken.1 in
+    let turn = took c.catch_up.result arrival outcome ended in
+    let old = history a.media (g.I.Inlet.came a.inlet) (g.C.Watch.told a.watch) (g.W.Wire.attempts a.wire) a.ticked in
+    let mid =
+    history c.take_in.new.self (g.I.Inlet.came b.inlet) (g.C.Watch.told b.watch) (g.W.Wire.attempts c.take_in.new.wire)
+    b.ticked in
+    let does : TakesArrival c.catch_up.result arrival outcome ended old mid = record {
+      read = record {
+        came = ap (λ s. g.I.Inlet.came s.inlet) same
+            ∙ (c.in_ok-from.ensures.ok
+            ∙ (ap (λ r. g.I.Inlet.came a.inlet ++ came_by r c.read.new.chunk.items ∷ []) c.in-Datagram.is
+            ∙ ap
+            (λ (l : List ℕ). g.I.Inlet.came a.inlet ++ datagram c.in-Datagram.from (take c.in-Datagram.octets l) ∷ [])
+            (sym chunk)));
+        told = ap (λ s. g.C.Watch.told s.watch) same ∙ c.in_ok-moment.ensures.ok;
+      };
+      mid = b.media;
+      time =
+          record { right = c.catch_up.ensures.late; ticked = c.catch_up.ensures.last; caught = c.catch_up.ensures.did };
+      takes =
+          subst (λ (o : Option (List Attempt)).
+          HasTaken arrival outcome b.media c.take_in.new.self o (g.W.Wire.attempts c.take_in.new.wire))
+          (ap (λ s. g.W.Wire.attempts s.wire) same) c.in_ok-taken.ensures.takes;
+      ends = c.in_ok-taken.ensures.ended;
+      same = c.take_in.ensures.same;
+      asker = c.take_in.ensures.asker;
+    } in
+    let k = c.ask_first.ensures in (
+      turn ∷ k.0,
+      (mid, does, k.1),
+      inl (record {
+        late = c.catch_up.result;
+        arrival = arrival;
+        outcome = outcome;
+        ended = ended;
+        asked = k.0;
+        rows = refl;
+        first = on_ok c.ask_first.result (tt {0}) c.in_ok-ask_first.was k.2;
+        are = refl;
+      }),
     )

@@ -19,14 +19,17 @@ returns-then-not-has_more g c =
     let t = c.in_ok-has_more.ensures in (
       turns_of k.done.0 ++ t.0,
       done_both (turns_of k.done.0) t.0 _ _ _ k.done.1 t.1,
-      read_dry (IsTaken c.args.rows.now) k.done.0 t.0 c.in_ok-has_more.has_more c.loop.counter k.done.2 k.done.3 k.few t.2 c.if-not-has_more.true,
+      read_dry (IsTaken c.args.rows.now) k.done.0 t.0 c.in_ok-has_more.has_more c.loop.counter k.done.2 k.done.3 k.few
+          t.2 c.if-not-has_more.true,
     )
 
 pub loop-preserved : goal.loop-preserved
 loop-preserved g c =
     let k = c.loop.invariant in
     let t = c.in_ok-has_more.ensures in
-    let one = read_one (IsTaken c.args.rows.now) k.done.0 t.0 c.in_ok-has_more.has_more c.loop.counter k.done.2 k.done.3 t.2 c.if-not-has_more.false in
+    let one =
+    read_one (IsTaken c.args.rows.now) k.done.0 t.0 c.in_ok-has_more.has_more c.loop.counter k.done.2 k.done.3 t.2
+    c.if-not-has_more.false in
     record {
       done = (k.done.0 ++ t.0 ∷ [], done_more k.done.0 t.0 _ _ _ k.done.1 t.1, one.0, one.1);
       few = omega (arith, c.loop-test.true);
@@ -34,5 +37,8 @@ loop-preserved g c =
 
 pub returns : goal.returns
 returns g c =
-    let k = c.loop.invariant in
-    (turns_of k.done.0, k.done.1, read_full (IsTaken c.args.rows.now) k.done.0 k.done.2 (omega (arith, k.done.3, k.few, c.loop-test.false)))
+    let k = c.loop.invariant in (
+      turns_of k.done.0,
+      k.done.1,
+      read_full (IsTaken c.args.rows.now) k.done.0 k.done.2 (omega (arith, k.done.3, k.few, c.loop-test.false)),
+    )

@@ -10,6 +10,9 @@ returns-in_ok-drop_datagrams-in-Err g c =
       d.0 ++ t.0,
       done_both d.0 t.0 _ _ _ d.1 t.1,
       on_ok_map c.tick.result
-          (λ k. kept_reader c.args.self.now.reader c.drop_datagrams.new.self.reader c.tick.new.self.reader c.in-Some.reader (d.0 ++ t.0) (sym c.take.ensures.value ∙ c.in-Some.is)
-          (c.drop_datagrams.ensures.reader ∙ ap Some c.in-Err.ensures.back) c.tick.ensures.reader (passing d.0 t.0 d.2 k.0 k.1 k.2)) t.2,
+          (λ k.
+          kept_reader c.args.self.now.reader c.drop_datagrams.new.self.reader c.tick.new.self.reader c.in-Some.reader
+          (d.0 ++ t.0) (sym c.take.ensures.value ∙ c.in-Some.is)
+          (c.drop_datagrams.ensures.reader ∙ ap Some c.in-Err.ensures.back) c.tick.ensures.reader
+          (passing d.0 t.0 d.2 k.0 k.1 k.2)) t.2,
     )

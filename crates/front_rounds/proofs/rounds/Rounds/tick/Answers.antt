@@ -22,7 +22,11 @@ returns-clause-done g c =
           record {
             right = c.tick_at.ensures.due;
             given = c.tick_at.ensures.did;
-            same = ap (λ s. history b.media (g.I.Inlet.came s.inlet) (g.C.Watch.told s.watch) (g.W.Wire.attempts s.wire) b.ticked) c.tick_at.ensures.same
+            same =
+                ap
+                (λ s.
+                history b.media (g.I.Inlet.came s.inlet) (g.C.Watch.told s.watch) (g.W.Wire.attempts s.wire) b.ticked)
+                c.tick_at.ensures.same
                 ∙ ap (λ (k : ℕ). history b.media came told tried k) c.tick_at.ensures.last;
           },
           refl,

@@ -8,7 +8,8 @@ returns-clause-done g c =
     let a = c.args.self.now in
     let now = c.in_ok-now.now in (
       looked now ∷ [],
-      looked_same a.media (g.I.Inlet.came a.inlet) (g.I.Inlet.came c.wait.new.self) (g.C.Watch.told a.watch) (g.C.Watch.told c.now.new.self) (g.W.Wire.attempts a.wire) a.ticked now
+      looked_same a.media (g.I.Inlet.came a.inlet) (g.I.Inlet.came c.wait.new.self) (g.C.Watch.told a.watch)
+          (g.C.Watch.told c.now.new.self) (g.W.Wire.attempts a.wire) a.ticked now
           c.wait.ensures c.in_ok-now.ensures.ok,
       is_ok c.wait.result (now, refl),
     )

@@ -8,6 +8,7 @@ returns g c =
     let a = c.args.self.now in
     let came = g.I.Inlet.came a.inlet in
     let told = g.C.Watch.told a.watch in
-    waits_by c.wait_all.result c.args.rows.now c.args.now (history a.media came told (g.W.Wire.attempts a.wire) a.ticked)
+    waits_by c.wait_all.result c.args.rows.now c.args.now
+    (history a.media came told (g.W.Wire.attempts a.wire) a.ticked)
     (history c.wait_all.new.self came told (g.W.Wire.attempts c.wait_all.new.wire) a.ticked)
     c.wait_all.ensures.waited c.wait_all.ensures.err c.wait_all.ensures.same c.wait_all.ensures.asker refl

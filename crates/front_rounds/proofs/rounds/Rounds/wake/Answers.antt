@@ -12,7 +12,11 @@ returns-then-is_due-clause-done g c =
     let mid = history a.media came told tried a.ticked in
     let new = history c.signal.new.self came told tried a.ticked in (
       looked now ∷ signalled ∷ [],
-      (mid, ap (λ (t : List ℕ). history a.media came t tried a.ticked) c.in_ok-now.ensures.ok, (new, ap (λ f. history f came told tried a.ticked) c.signal.ensures, refl)),
+      (
+        mid,
+        ap (λ (t : List ℕ). history a.media came t tried a.ticked) c.in_ok-now.ensures.ok,
+        (new, ap (λ f. history f came told tried a.ticked) c.signal.ensures, refl),
+      ),
       (now, true, refl),
     )
 

@@ -20,7 +20,12 @@ pub invariant_of-result : goal.invariant_of-result
 invariant_of-result g c =
     let origin : Origin = origin_in c.origin_of-origin.result in
     let frames = frames_from origin c.args.coming.moment c.epoch_for-epoch.result c.admitted.inside.frames.items in
-    record { sized = ap (list_all is_sized) (c.put_frames.ensures.items ∙ ap (λ xs. map input_of xs ++ frames) c.in_ok-items.ensures.items) ∙ sized_frames origin c.args.coming.moment c.epoch_for-epoch.result c.admitted.inside.frames.items }
+    record {
+      sized =
+          ap (list_all is_sized)
+          (c.put_frames.ensures.items ∙ ap (λ xs. map input_of xs ++ frames) c.in_ok-items.ensures.items)
+          ∙ sized_frames origin c.args.coming.moment c.epoch_for-epoch.result c.admitted.inside.frames.items;
+    }
 
 pub returns-clause-gates : goal.returns-clause-gates
 returns-clause-gates g c = λ p admits.
@@ -37,14 +42,27 @@ returns-clause-gates g c = λ p admits.
       admits = admits;
       advances = c.in_ok-admitted.ensures.advances;
       answers = λ voice is asker. given_is voice coming _ j.verdict answer _ _ _
-          (c.outcome_at-outcome.ensures ∙ ap (λ (x : JudgedOf). outcome_at x.verdict c.answer.inside.place) c.judged.view_is ∙ ap (λ (a : Answer). outcome_at j.verdict a.place) at)
-          (c.in_ok-up.ensures.asked voice is asker ∙ ap (λ n. asked_of voice parts n c.loses-pli.result) (c.deref.ensures.value ∙ ap (λ (a : Answer). a.nacks) at)
+          (c.outcome_at-outcome.ensures
+          ∙ ap (λ (x : JudgedOf). outcome_at x.verdict c.answer.inside.place) c.judged.view_is
+          ∙ ap (λ (a : Answer). outcome_at j.verdict a.place) at)
+          (c.in_ok-up.ensures.asked voice is asker
+          ∙ ap (λ n. asked_of voice parts n c.loses-pli.result)
+          (c.deref.ensures.value ∙ ap (λ (a : Answer). a.nacks) at)
           ∙ ap (λ (x : Origin). asked_of voice x answer.nacks c.loses-pli.result) same
-          ∙ ap (λ b. asked_of voice origin answer.nacks b) (c.loses-pli.ensures ∙ ap (λ (x : JudgedOf). restarts x.verdict || c.answer.inside.pli) c.judged.view_is ∙ ap (λ (a : Answer). restarts j.verdict || a.pli) at))
-          (c.put_frames.ensures.items ∙ ap (λ xs. map input_of xs ++ frames_from parts coming.moment c.epoch_for-epoch.result c.admitted.inside.frames.items) c.in_ok-items.ensures.items
-          ∙ ap (λ (x : Origin). frames_from x coming.moment c.epoch_for-epoch.result c.admitted.inside.frames.items) same
-          ∙ ap (λ fs. frames_from origin coming.moment c.epoch_for-epoch.result fs) (ap (λ (a : Answer). a.frames) (c.admitted.view_is ∙ told))
-          ∙ ap (λ e. frames_from origin coming.moment e answer.frames) (c.epoch_for-epoch.ensures ∙ ap (λ e. if j.begins then c.args.self.now.epochs + 1 else e) c.requires.epoch));
+          ∙ ap (λ b. asked_of voice origin answer.nacks b) (c.loses-pli.ensures
+          ∙ ap (λ (x : JudgedOf). restarts x.verdict || c.answer.inside.pli) c.judged.view_is
+          ∙ ap (λ (a : Answer). restarts j.verdict || a.pli) at))
+          (c.put_frames.ensures.items
+          ∙ ap
+          (λ xs.
+          map input_of xs ++ frames_from parts coming.moment c.epoch_for-epoch.result c.admitted.inside.frames.items)
+          c.in_ok-items.ensures.items
+          ∙ ap (λ (x : Origin). frames_from x coming.moment c.epoch_for-epoch.result c.admitted.inside.frames.items)
+          same
+          ∙ ap (λ fs. frames_from origin coming.moment c.epoch_for-epoch.result fs)
+          (ap (λ (a : Answer). a.frames) (c.admitted.view_is ∙ told))
+          ∙ ap (λ e. frames_from origin coming.moment e answer.frames)
+          (c.epoch_for-epoch.ensures ∙ ap (λ e. if j.begins then c.args.self.now.epochs + 1 else e) c.requires.epoch));
     }
 
 pub returns-clause-about : goal.returns-clause-about
@@ -54,5 +72,7 @@ returns-clause-about g c =
     let frames = c.admitted.inside.frames.items in
     let to = ap (λ (o : Origin). o.address) c.origin_of-origin.ensures in
     about_frames coming.from origin coming.moment c.epoch_for-epoch.result frames _ _ _
-    (c.put_frames.ensures.items ∙ ap (λ xs. map input_of xs ++ frames_from origin coming.moment c.epoch_for-epoch.result frames) c.in_ok-items.ensures.items)
+    (c.put_frames.ensures.items
+    ∙ ap (λ xs. map input_of xs ++ frames_from origin coming.moment c.epoch_for-epoch.result frames)
+    c.in_ok-items.ensures.items)
     (subst (λ a. AllByRecursion (λ d. d.0 ≡ a) (map datagram_of c.in_ok-up.up.items)) to c.in_ok-up.ensures.about)

@@ -18,9 +18,13 @@ returns-then-is_spent-clause-moves g c = λ voice s right asker knows.
     let format = c.args.format in
     let coming : Coming = coming_of c.args.coming in
     let j : JudgedOf = c.judged-judged.result in
-    let judges = named_so old j _ _ _ _ c.key_of-key.ensures (c.mark_of.ensures ∙ ap (λ r. mark_of r coming) c.rate.ensures) c.judged-judged.ensures.judges in
-    subst (λ (i : Ingested). Gives i old (sourced voice (rate_of format) (audio_course format coming) coming s)) (sym c.only.ensures)
-    (when_spent (rate_of format) (audio_course format coming) coming old j judges s knows voice (sym c.is_spent.ensures ∙ c.if-is_spent.true))
+    let judges =
+    named_so old j _ _ _ _ c.key_of-key.ensures (c.mark_of.ensures ∙ ap (λ r. mark_of r coming) c.rate.ensures)
+    c.judged-judged.ensures.judges in
+    subst (λ (i : Ingested). Gives i old (sourced voice (rate_of format) (audio_course format coming) coming s))
+    (sym c.only.ensures)
+    (when_spent (rate_of format) (audio_course format coming) coming old j judges s knows voice
+    (sym c.is_spent.ensures ∙ c.if-is_spent.true))
 
 pub returns-clause-moves : goal.returns-clause-moves
 returns-clause-moves g c =
@@ -28,15 +32,24 @@ returns-clause-moves g c =
     let format = c.args.format in
     let coming : Coming = coming_of c.args.coming in
     let j : JudgedOf = c.judged-judged.result in
-    let judges = named_so old j _ _ _ _ c.key_of-key.ensures (c.mark_of.ensures ∙ ap (λ r. mark_of r coming) c.rate.ensures) c.judged-judged.ensures.judges in
+    let judges =
+    named_so old j _ _ _ _ c.key_of-key.ensures (c.mark_of.ensures ∙ ap (λ r. mark_of r coming) c.rate.ensures)
+    c.judged-judged.ensures.judges in
     let same = c.in_ok-items.ensures.items ∙ ap (λ (x : JudgedOf). sounds format coming x.verdict) c.judged.view_is in
-    with_fact c.telling.result c.telling.ensures.advances c.telling.ensures.ingest (λ ingest advances is voice s right asker knows.
-    subst (λ (i : Ingested). Gives i c.telling.new.self (sourced voice (rate_of format) (audio_course format coming) coming s)) (sym is)
-    (when_telling (rate_of format) (audio_course format coming) coming old j judges s knows voice c.telling.new.self _ (sym c.is_spent.ensures ∙ c.if-is_spent.false) (λ st. ap (λ items. telling j.verdict items st) (sym same))
+    with_fact c.telling.result c.telling.ensures.advances c.telling.ensures.ingest
+    (λ ingest advances is voice s right asker knows.
+    subst
+    (λ (i : Ingested).
+    Gives i c.telling.new.self (sourced voice (rate_of format) (audio_course format coming) coming s))
+    (sym is)
+    (when_telling (rate_of format) (audio_course format coming) coming old j judges s knows voice c.telling.new.self _
+    (sym c.is_spent.ensures ∙ c.if-is_spent.false) (λ st. ap (λ items. telling j.verdict items st) (sym same))
     (subst (λ (key : OriginKey). Advances old c.telling.new.self key j None) c.key_of-key.ensures advances)))
 
 pub returns-then-is_spent-clause-about : goal.returns-then-is_spent-clause-about
 returns-then-is_spent-clause-about g c = about_only c.args.coming.from.now _ _ c.only.ensures
 
 pub returns-clause-about : goal.returns-clause-about
-returns-clause-about g c = from_fact c.telling.result c.telling.ensures.ingest (λ ingest is. about_sounds c.args.coming.from.now c.args.format (coming_of c.args.coming) _ _ _ _ is c.in_ok-items.ensures.items)
+returns-clause-about g c =
+    from_fact c.telling.result c.telling.ensures.ingest (λ ingest is.
+    about_sounds c.args.coming.from.now c.args.format (coming_of c.args.coming) _ _ _ _ is c.in_ok-items.ensures.items)

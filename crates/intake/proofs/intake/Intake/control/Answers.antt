@@ -10,12 +10,22 @@ use Rattle.intake.proofs.AboutLemmas.{about_only}
 use Rattle.intake.proofs.intake.Intake.control.Goals as goal
 
 pub returns-in-None-clause-moves : goal.returns-in-None-clause-moves
-returns-in-None-clause-moves g c = stays _ Unknown c.args.self.now (λ voice s. of_member (member_from c.args.rows.now c.args.from.now) c.args.from.now c.args.moment (packets_of c.args.packets.now) s) c.only.ensures
-    (λ voice s. ap (λ m. of_member m c.args.from.now c.args.moment (packets_of c.args.packets.now) s) (sym c.member_from.ensures ∙ c.in-None.is))
+returns-in-None-clause-moves g c =
+    stays _ Unknown c.args.self.now
+    (λ voice s.
+    of_member (member_from c.args.rows.now c.args.from.now) c.args.from.now c.args.moment
+    (packets_of c.args.packets.now) s)
+    c.only.ensures
+    (λ voice s.
+    ap (λ m. of_member m c.args.from.now c.args.moment (packets_of c.args.packets.now) s)
+    (sym c.member_from.ensures ∙ c.in-None.is))
 
 pub returns-in-Some-clause-moves : goal.returns-in-Some-clause-moves
 returns-in-Some-clause-moves g c =
-    subst (λ (m : Option ℕ). IfOk c.heard.result (λ ingest. Moves c.args.self.now c.heard.new.self (ingested_of ingest) (λ voice s. of_member m c.args.from.now c.args.moment (packets_of c.args.packets.now) s)))
+    subst (λ (m : Option ℕ).
+    IfOk c.heard.result (λ ingest.
+    Moves c.args.self.now c.heard.new.self (ingested_of ingest)
+    (λ voice s. of_member m c.args.from.now c.args.moment (packets_of c.args.packets.now) s)))
     (sym c.in-Some.is ∙ c.member_from.ensures) (c.heard.ensures.moves c.in-Some.field-0)
 
 pub returns-in-None-clause-about : goal.returns-in-None-clause-about

@@ -7,4 +7,6 @@ use Rattle.intake.proofs.intake.Intake.gated.Goals as goal
 pub returns-clause-gates : goal.returns-clause-gates
 returns-clause-gates g c =
     let same : to_z w64 (of_z w64 c.args.ext) ≡ c.args.ext = grind (arith, to_z-of_z) in
-    from_fact c.at_gate.result (c.at_gate.ensures.gates _ c.in_ok-admission.ensures.admits) (λ ingest gates. gates_from _ _ _ _ _ _ _ _ _ _ _ c.in_ok-packet.ensures.same c.in_ok-packet.ensures.packet same gates)
+    from_fact c.at_gate.result (c.at_gate.ensures.gates _ c.in_ok-admission.ensures.admits)
+    (λ ingest gates.
+    gates_from _ _ _ _ _ _ _ _ _ _ _ c.in_ok-packet.ensures.same c.in_ok-packet.ensures.packet same gates)

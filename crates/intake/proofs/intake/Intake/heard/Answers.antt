@@ -12,7 +12,11 @@ use Rattle.intake.proofs.AboutLemmas.{about_asks}
 use Rattle.intake.proofs.intake.Intake.heard.Goals as goal
 
 pub invariant_of-result : goal.invariant_of-result
-invariant_of-result g c = record { sized = ap (list_all is_sized) c.in_ok-items.ensures ∙ sized_asks c.args.from.now (packets_of c.args.packets.now) }
+invariant_of-result g c =
+    record {
+      sized =
+          ap (list_all is_sized) c.in_ok-items.ensures ∙ sized_asks c.args.from.now (packets_of c.args.packets.now);
+    }
 
 pub returns-clause-moves : goal.returns-clause-moves
 returns-clause-moves g c = λ member voice s right asker knows.
@@ -22,7 +26,9 @@ returns-clause-moves g c = λ member voice s right asker knows.
           ∙ ap (λ up. ingested (Rtcp (length (packets_of packets))) (map datagram_of up) items) c.new.ensures.items
           ∙ ap (λ x. ingested (Rtcp (length (packets_of packets))) [] x) c.in_ok-items.ensures,
       record {
-        holds = c.note_all.ensures s.known (subst (λ (i : IntakeOf). Holds i.entries s.known) (sym c.self.view_is) knows.holds);
+        holds =
+            c.note_all.ensures s.known
+            (subst (λ (i : IntakeOf). Holds i.entries s.known) (sym c.self.view_is) knows.holds);
         epochs = ap (λ (i : IntakeOf). i.epochs) c.self.view_is ∙ knows.epochs;
       },
     )

@@ -8,7 +8,9 @@ pub returns-clause-kept : goal.returns-clause-kept
 returns-clause-kept g c =
     let kept = c.in_ok-answer.ensures.becomes in (
       kept.0,
-      subst (λ (i : IntakeOf). Becomes (kept_for c.args.key c.args.next.rate i.entries) c.args.next kept.0) c.self.view_is kept.1,
+      subst (λ (i : IntakeOf). Becomes (kept_for c.args.key c.args.next.rate i.entries) c.args.next kept.0)
+          c.self.view_is kept.1,
       moved c.args.key kept.0 _ c.args.self.now c.args.next.begins _ _ c.self.view_is kept.2
-          (c.counted-self-inside.ensures ∙ ap (λ (n : NextOf). if n.begins then c.self.inside.epochs + 1 else c.self.inside.epochs) c.next.view_is),
+          (c.counted-self-inside.ensures
+          ∙ ap (λ (n : NextOf). if n.begins then c.self.inside.epochs + 1 else c.self.inside.epochs) c.next.view_is),
     )

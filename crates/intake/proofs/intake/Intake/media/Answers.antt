@@ -16,8 +16,11 @@ returns-in-Some-audio_format-clause-moves g c =
     let there = sym c.source_from.ensures ∙ c.in-Some.is in
     let heard = sym c.audio_format.ensures.format ∙ c.in-Some-audio_format.is in
     from_fact c.audio.result c.audio.ensures.moves (λ ingest moves voice s right asker knows.
-    let same = ap (λ r. of_row voice d r coming s) there ∙ ap (λ m. of_media voice m (room_rate d row) coming s) c.in-Audio.is
-    ∙ ap (λ r. of_format voice (audio_format r coming.packet.header.pt (length coming.packet.payload)) coming s) (sym c.room_rate-rate.ensures) ∙ ap (λ f. of_format voice f coming s) heard in
+    let same =
+    ap (λ r. of_row voice d r coming s) there ∙ ap (λ m. of_media voice m (room_rate d row) coming s) c.in-Audio.is
+    ∙ ap (λ r. of_format voice (audio_format r coming.packet.header.pt (length coming.packet.payload)) coming s)
+    (sym c.room_rate-rate.ensures)
+    ∙ ap (λ f. of_format voice f coming s) heard in
     subst (λ x. (ingested_of ingest ≡ x.0) × Knows c.audio.new.self x.1) (sym same) (moves voice s right asker knows))
 
 pub returns-in-None-clause-about : goal.returns-in-None-clause-about

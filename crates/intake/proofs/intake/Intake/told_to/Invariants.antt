@@ -7,4 +7,6 @@ use Rattle.intake.specs.inner.Holding.{Holds}
 use Rattle.intake.proofs.intake.Intake.told_to.Given as goal
 
 abbrev pub invariant-loop-member : goal.invariant-loop-member
-invariant-loop-member g l = (known : List Known) → Holds l.self.entries known → map datagram_of l.up.items ≡ told_to_members l.self.asker l.sources l.moment known (take l.member-index l.members)
+invariant-loop-member g l =
+    (known : List Known) → Holds l.self.entries known
+    → map datagram_of l.up.items ≡ told_to_members l.self.asker l.sources l.moment known (take l.member-index l.members)

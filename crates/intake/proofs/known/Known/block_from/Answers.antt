@@ -10,7 +10,10 @@ pub returns-in-None-clause-block : goal.returns-in-None-clause-block
 returns-in-None-clause-block g c = λ known h.
     let m = c.args.member.now in
     let s = c.args.source.now in
-    let at : kept_at (key_of (origin m s)) c.args.self.now ≡ None = ap (λ (k : OriginKey). kept_at k c.args.self.now) (sym c.key_of.ensures) ∙ sym c.at.ensures ∙ ap option_copied c.in-None.is in
+    let at : kept_at (key_of (origin m s)) c.args.self.now ≡ None =
+    ap (λ (k : OriginKey). kept_at k c.args.self.now) (sym c.key_of.ensures)
+    ∙ sym c.at.ensures
+    ∙ ap option_copied c.in-None.is in
     from_none c.args.moment c.args.self.now known m s c.if-source-member.false h at
 
 -- src/reporting.rt:52:5
@@ -18,5 +21,9 @@ pub returns-in-Some-clause-block : goal.returns-in-Some-clause-block
 returns-in-Some-clause-block g c = λ known h.
     let m = c.args.member.now in
     let s = c.args.source.now in
-    let at : kept_at (key_of (origin m s)) c.args.self.now ≡ Some c.in-Some.kept.now = ap (λ (k : OriginKey). kept_at k c.args.self.now) (sym c.key_of.ensures) ∙ sym c.at.ensures ∙ ap option_copied c.in-Some.is in
-    from_kept c.args.moment c.args.self.now known m s c.in-Some.kept.now c.block.result c.if-source-member.false h at c.block.ensures.block
+    let at : kept_at (key_of (origin m s)) c.args.self.now ≡ Some c.in-Some.kept.now =
+    ap (λ (k : OriginKey). kept_at k c.args.self.now) (sym c.key_of.ensures)
+    ∙ sym c.at.ensures
+    ∙ ap option_copied c.in-Some.is in
+    from_kept c.args.moment c.args.self.now known m s c.in-Some.kept.now c.block.result c.if-source-member.false h at
+    c.block.ensures.block

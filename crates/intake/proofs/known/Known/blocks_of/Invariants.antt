@@ -9,5 +9,6 @@ use Rattle.intake.proofs.known.Known.blocks_of.Given as goal
 
 abbrev pub invariant-loop-source : goal.invariant-loop-source
 invariant-loop-source g l =
-    ((known : List Known) → Holds l.self known → l.blocks.items ≡ blocks_of (take l.source-index l.sources) l.moment known l.member)
+    ((known : List Known) → Holds l.self known
+    → l.blocks.items ≡ blocks_of (take l.source-index l.sources) l.moment known l.member)
     × AllByRecursion (λ b. FitsLost b.lost) l.blocks.items

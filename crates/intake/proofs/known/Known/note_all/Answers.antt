@@ -7,5 +7,6 @@ use Rattle.intake.proofs.known.Known.note_all.Goals as goal
 pub loop-packet-preserved : goal.loop-packet-preserved
 loop-packet-preserved g c = λ known h.
     subst (λ (ks : List Known). Holds c.note_one.new.self ks)
-    (sym (noted_more c.args.from.now c.args.moment known c.args.packets.now c.loop-packet.packet-index c.packet-item.result c.loop-packet-test.true c.packet-item.is))
+    (sym (noted_more c.args.from.now c.args.moment known c.args.packets.now c.loop-packet.packet-index
+    c.packet-item.result c.loop-packet-test.true c.packet-item.is))
     (c.note_one.ensures _ (c.loop-packet.invariant known h))

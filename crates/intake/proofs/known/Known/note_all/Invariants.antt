@@ -7,4 +7,6 @@ use Rattle.intake.specs.inner.Holding.{Holds}
 use Rattle.intake.proofs.known.Known.note_all.Given as goal
 
 abbrev pub invariant-loop-packet : goal.invariant-loop-packet
-invariant-loop-packet g l = (known : List Known) → Holds l.fn.self known → Holds l.self (noted_all l.from l.moment known (packets_of (take l.packet-index l.packets)))
+invariant-loop-packet g l =
+    (known : List Known) → Holds l.fn.self known
+    → Holds l.self (noted_all l.from l.moment known (packets_of (take l.packet-index l.packets)))

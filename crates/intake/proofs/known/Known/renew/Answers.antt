@@ -13,14 +13,23 @@ use Rattle.intake.proofs.known.Known.renew.Goals as goal
 pub returns : goal.returns
 returns g c = λ known h.
     let o : Origin = record { address = c.args.from.now; ssrc = c.args.ssrc } in
-    let found = ap (kept_at (key_of o)) (sym c.self.view_is) ∙ ap (λ (k : OriginKey). kept_at k c.self.inside.cache.entries) (sym c.key_of.ensures) ∙ sym c.peek_mut.ensures.value in
+    let found =
+    ap (kept_at (key_of o)) (sym c.self.view_is)
+    ∙ ap (λ (k : OriginKey). kept_at k c.self.inside.cache.entries) (sym c.key_of.ensures)
+    ∙ sym c.peek_mut.ensures.value in
     elim c.match-peek_mut.branch [
       | in-Some w ↦
-          let at : kept_at (key_of o) c.args.self.now ≡ Some w.in-Some.kept.now = found ∙ ap option_copied_mut w.in-Some.is in
+          let at : kept_at (key_of o) c.args.self.now ≡ Some w.in-Some.kept.now =
+          found ∙ ap option_copied_mut w.in-Some.is in
           subst (λ (es : List (OriginKey × KeptOf)). Holds es (retold o renewed known))
-          (sym (ap (λ i. i.cache.entries) w.self-inside-is ∙ ap (λ (k : OriginKey). set_value (same_key k) c.self.inside.cache.entries w.renew.new.self) c.key_of.ensures ∙ ap (λ (es : List (OriginKey × KeptOf)). set_value (same_key (key_of o)) es w.renew.new.self) c.self.view_is))
+          (sym (ap (λ i. i.cache.entries) w.self-inside-is
+          ∙ ap (λ (k : OriginKey). set_value (same_key k) c.self.inside.cache.entries w.renew.new.self) c.key_of.ensures
+          ∙ ap (λ (es : List (OriginKey × KeptOf)). set_value (same_key (key_of o)) es w.renew.new.self)
+          c.self.view_is))
           (holds_retold o renewed w.in-Some.kept.now w.renew.new.self c.args.self.now known h at w.renew.ensures)
       | in-None w ↦
           let at : kept_at (key_of o) c.args.self.now ≡ None = found ∙ ap option_copied_mut w.in-None.is in
-          subst (λ (es : List (OriginKey × KeptOf)). Holds es (retold o renewed known)) (sym (ap (λ i. i.cache.entries) w.self-inside-is ∙ c.self.view_is)) (holds_same o renewed c.args.self.now known h at)
+          subst (λ (es : List (OriginKey × KeptOf)). Holds es (retold o renewed known))
+          (sym (ap (λ i. i.cache.entries) w.self-inside-is ∙ c.self.view_is))
+          (holds_same o renewed c.args.self.now known h at)
     ]

@@ -6,4 +6,6 @@ use Rattle.intake.specs.inner.Holding.{Holds}
 use Rattle.intake.proofs.known.Known.renew_all.Given as goal
 
 abbrev pub invariant-loop-source : goal.invariant-loop-source
-invariant-loop-source g l = (known : List Known) → Holds l.fn.self known → Holds l.self (all_renewed l.rows known (take l.source-index l.sources))
+invariant-loop-source g l =
+    (known : List Known) → Holds l.fn.self known
+    → Holds l.self (all_renewed l.rows known (take l.source-index l.sources))

@@ -11,7 +11,8 @@ returns-clause-sent g c =
     let trial = c.send_patiently-pauses in
     let answer = trial.result.answer in
     sent_one datagrams trial.result.pauses answer _ _ c.requires trial.ensures.steps
-    (omega (arith, trial.ensures.few, c.patience-most.ensures)) (λ unready. trial.ensures.limit unready ∙ c.patience-most.ensures)
+    (omega (arith, trial.ensures.few, c.patience-most.ensures))
+    (λ unready. trial.ensures.limit unready ∙ c.patience-most.ensures)
     (c.count_answer.ensures ∙ (ap (λ n. after_answer n answer c.count_pauses.new.self) c.octets_in.ensures
     ∙ ap (after_answer (octets_together datagrams) answer) c.count_pauses.ensures))
     c.is_unready-self.ensures

@@ -19,12 +19,14 @@ invariant_of-self g c =
     let same : length here.statuses.items ≡ length here.bridge = omega (arith, here.statuses.ok, c.self.invariant.0) in
     let long = length_beside lane_by here.bridge here.statuses.items same in
     let publisher = g.N.PublisherName.publisher in
-    let low : c.args.lane < length here.statuses.items = omega (arith, c.requires.lane, long, same, ap length c.self.view_is) in (
+    let low : c.args.lane < length here.statuses.items =
+    omega (arith, c.requires.lane, long, same, ap length c.self.view_is) in (
       c.self.invariant.0,
       c.self.invariant.1,
       c.self.invariant.2,
       subst (λ (v : LaneStatus). AreOf publisher (set here.statuses.items c.args.lane v)) (sym c.count.ensures)
-          (counted_in_book publisher here.statuses.items c.args.lane c.index_mut.result.now false false low c.index_mut.ensures.value c.self.invariant.3),
+          (counted_in_book publisher here.statuses.items c.args.lane c.index_mut.result.now false false low
+          c.index_mut.ensures.value c.self.invariant.3),
     )
 
 pub returns : goal.returns
@@ -33,6 +35,10 @@ returns g c x at =
     let same : length here.statuses.items ≡ length here.bridge = omega (arith, here.statuses.ok, c.self.invariant.0) in
     let long = length_beside lane_by here.bridge here.statuses.items same in
     let lane = c.args.lane in
-    let low : lane < length here.statuses.items = omega (arith, c.requires.lane, long, same, ap length c.self.view_is) in
-    let one = dropped_one here.bridge here.statuses.items lane false c.index_mut.result.now low c.index_mut.ensures.value x (ap (λ xs. slice_get xs lane) c.self.view_is ∙ at) in
-    ap (λ (v : LaneStatus). lanes_by here.bridge (set here.statuses.items lane v)) c.count.ensures ∙ (one ∙ ap (λ xs. slice_set xs lane (dropping x)) c.self.view_is)
+    let low : lane < length here.statuses.items =
+    omega (arith, c.requires.lane, long, same, ap length c.self.view_is) in
+    let one =
+    dropped_one here.bridge here.statuses.items lane false c.index_mut.result.now low c.index_mut.ensures.value x
+    (ap (λ xs. slice_get xs lane) c.self.view_is ∙ at) in
+    ap (λ (v : LaneStatus). lanes_by here.bridge (set here.statuses.items lane v)) c.count.ensures
+    ∙ (one ∙ ap (λ xs. slice_set xs lane (dropping x)) c.self.view_is)

@@ -20,13 +20,24 @@ returns-clause-asked g c =
     let before = g.W.Wire.attempts c.args.wire.now in
     let after = g.W.Wire.attempts c.try_one.new.wire in
     let limiter = c.try_one.new.limiter in
-    let old : FrontOf g.row.P.Denot g.row.S.Denot = record { intake = here.intake; feed = here.feed; limiter = here.limiter; ticks = here.ticks; reports = here.reports } in
+    let old : FrontOf g.row.P.Denot g.row.S.Denot =
+    record {
+      intake = here.intake;
+      feed = here.feed;
+      limiter = here.limiter;
+      ticks = here.ticks;
+      reports = here.reports;
+    } in
     let new : FrontOf g.row.P.Denot g.row.S.Denot = record old { limiter = limiter } in
-    let one : WereTried (paid_one p here.limiter) before after = subst (λ (x : Address × List ℕ). WereTried (paid_one x here.limiter) before after) is c.try_one.ensures.tried in
+    let one : WereTried (paid_one p here.limiter) before after =
+    subst (λ (x : Address × List ℕ). WereTried (paid_one x here.limiter) before after) is c.try_one.ensures.tried in
     subst (λ (f : FrontOf g.row.P.Denot g.row.S.Denot). HasAsked o c.try_one.result f new before after) c.self.view_is
     (record {
       handled = λ desk moment. record {
-        up = subst (λ (ds : List (Address × List ℕ)). WereTried ds before after) (sym (append-nil (paid_one p here.limiter))) one;
+        up =
+            subst (λ (ds : List (Address × List ℕ)). WereTried ds before after)
+            (sym (append-nil (paid_one p here.limiter)))
+            one;
         items = refl;
         limiter = c.try_one.ensures.limiter ∙ ap (λ (x : Address × List ℕ). after_one x here.limiter) is;
       };

@@ -17,27 +17,50 @@ use Rattle.media_front.proofs.front.MediaFront.handle.Goals as goal
 
 pub hand_out_all-requires : goal.hand_out_all-requires
 hand_out_all-requires g c =
-    record { sized = ap (λ (is : List Input). list_all is_sized is) (ap (map input_shared) c.deref-2.ensures.value ∙ c.in_ok-shared.ensures) ∙ c.in_ok-planned.planned.ingest.sized }
+    record {
+      sized =
+          ap (λ (is : List Input). list_all is_sized is)
+          (ap (map input_shared) c.deref-2.ensures.value ∙ c.in_ok-shared.ensures)
+          ∙ c.in_ok-planned.planned.ingest.sized;
+    }
 
 pub returns-clause-handled : goal.returns-clause-handled
 returns-clause-handled g c desk =
     let here = c.self.inside in
-    let arrival : Arrival = record { desk = desk; from = c.args.from.now; moment = c.args.moment; octets = c.args.octets.now } in
+    let arrival : Arrival =
+    record { desk = desk; from = c.args.from.now; moment = c.args.moment; octets = c.args.octets.now } in
     let ingest = c.args.ingest in
     let plan = c.in_ok-planned.planned in
     let is = c.in_ok-planned.ensures in
-    let new : FrontOf g.row.P.Denot g.row.S.Denot = record { intake = here.intake; feed = c.hand_out_all.new.self; limiter = c.put_back.new.self; ticks = here.ticks; reports = here.reports } in
+    let new : FrontOf g.row.P.Denot g.row.S.Denot =
+    record {
+      intake = here.intake;
+      feed = c.hand_out_all.new.self;
+      limiter = c.put_back.new.self;
+      ticks = here.ticks;
+      reports = here.reports;
+    } in
     let before = g.W.Wire.attempts c.args.wire.now in
     let after = g.W.Wire.attempts c.try_all.new.wire in
     let once : List Bucket = once_refilled arrival (ingested_of ingest) here.limiter in
     let sent : List Bucket = once_paid arrival (ingested_of ingest) here.limiter in
-    let up : map datagram_of plan.ingest.up.items ≡ paid_of (map datagram_of ingest.up.items) once = ap (λ (i : Ingested). i.up) is.ingest in
-    let given : map input_of plan.ingest.items.items ≡ granted_of here.pli_cost c.args.moment (map input_of ingest.items.items) sent = ap (λ (i : Ingested). i.items) is.ingest in
-    subst (λ (f : FrontOf g.row.P.Denot g.row.S.Denot). HasHandled arrival (ingested_of ingest) f new before after) c.self.view_is
+    let up : map datagram_of plan.ingest.up.items ≡ paid_of (map datagram_of ingest.up.items) once =
+    ap (λ (i : Ingested). i.up) is.ingest in
+    let given : map input_of plan.ingest.items.items
+    ≡ granted_of here.pli_cost c.args.moment (map input_of ingest.items.items) sent =
+    ap (λ (i : Ingested). i.items) is.ingest in
+    subst (λ (f : FrontOf g.row.P.Denot g.row.S.Denot). HasHandled arrival (ingested_of ingest) f new before after)
+    c.self.view_is
     (record {
       up = subst (λ (l : List (Address × List ℕ)). WereTried l before after) up
-          (subst (λ (xs : List (Address × Vec ℕ Global)). WereTried (map datagram_of xs) before after) c.deref.ensures.value c.try_all.ensures);
-      items = subst (λ (n : ℕ). AllAreGiven (granted_of n c.args.moment (map input_of ingest.items.items) sent) here.feed c.hand_out_all.new.self) c.self.invariant
+          (subst (λ (xs : List (Address × Vec ℕ Global)). WereTried (map datagram_of xs) before after)
+          c.deref.ensures.value c.try_all.ensures);
+      items =
+          subst
+          (λ (n : ℕ).
+          AllAreGiven (granted_of n c.args.moment (map input_of ingest.items.items) sent) here.feed
+          c.hand_out_all.new.self)
+          c.self.invariant
           (subst (λ (is : List Input). AllAreGiven is here.feed c.hand_out_all.new.self)
           (ap (map input_shared) c.deref-2.ensures.value ∙ (c.in_ok-shared.ensures ∙ given)) c.hand_out_all.ensures);
       limiter = c.in_ok-put_back.ensures.after ∙ ap (λ (d : DraftOf). d.after) is.draft

@@ -12,8 +12,10 @@ pub returns-in_err-handle-clause-intake : goal.returns-in_err-handle-clause-inta
 returns-in_err-handle-clause-intake g c =
     let o : Origin = record { address = c.args.from.now; ssrc = c.args.ssrc } in
     on_err c.from_residual-in_err-handle.result
-    (subst (λ (i : IntakeOf). MayHaveWaited c.args.rows.now o c.args.moment i c.handle.new.self.intake) (ap (λ (f : FrontOf g.row.P.Denot g.row.S.Denot). f.intake) c.self.view_is)
-    (subst (λ (i : IntakeOf). MayHaveWaited c.args.rows.now o c.args.moment c.self.inside.intake i) (sym (ap (λ (f : FrontOf g.row.P.Denot g.row.S.Denot). f.intake) c.handle.ensures.same))
+    (subst (λ (i : IntakeOf). MayHaveWaited c.args.rows.now o c.args.moment i c.handle.new.self.intake)
+    (ap (λ (f : FrontOf g.row.P.Denot g.row.S.Denot). f.intake) c.self.view_is)
+    (subst (λ (i : IntakeOf). MayHaveWaited c.args.rows.now o c.args.moment c.self.inside.intake i)
+    (sym (ap (λ (f : FrontOf g.row.P.Denot g.row.S.Denot). f.intake) c.handle.ensures.same))
     (inr (answered_of c.in_ok-answer.answer, c.in_ok-answer.ensures.waits))))
 
 pub returns-clause-waited : goal.returns-clause-waited
@@ -24,12 +26,26 @@ returns-clause-waited g c =
     let answer = c.in_ok-answer.answer in
     let before = g.W.Wire.attempts c.args.wire.now in
     let after = g.W.Wire.attempts c.handle.new.wire in
-    let old : FrontOf g.row.P.Denot g.row.S.Denot = record { intake = here.intake; feed = here.feed; limiter = here.limiter; ticks = here.ticks; reports = here.reports } in
+    let old : FrontOf g.row.P.Denot g.row.S.Denot =
+    record {
+      intake = here.intake;
+      feed = here.feed;
+      limiter = here.limiter;
+      ticks = here.ticks;
+      reports = here.reports;
+    } in
     let mid : FrontOf g.row.P.Denot g.row.S.Denot = record old { intake = c.wait.new.self } in
-    subst (λ (f : FrontOf g.row.P.Denot g.row.S.Denot). HasWaited desk o c.args.moment f c.handle.new.self before after) c.self.view_is
+    subst (λ (f : FrontOf g.row.P.Denot g.row.S.Denot). HasWaited desk o c.args.moment f c.handle.new.self before after)
+    c.self.view_is
     (record {
       ingested = answered_of answer;
       became = refl;
-      waits = subst (λ (i : IntakeOf). WaitsFor here.intake i (answered_of answer) desk o c.args.moment) (sym (ap (λ (f : FrontOf g.row.P.Denot g.row.S.Denot). f.intake) c.handle.ensures.same)) c.in_ok-answer.ensures.waits;
-      handled = handled_at (silence desk o.address c.args.moment) (answered_of answer) mid old c.handle.new.self before after refl refl c.wait.ensures.asker (c.in_ok-handle.ensures.handled desk);
+      waits =
+          subst (λ (i : IntakeOf). WaitsFor here.intake i (answered_of answer) desk o c.args.moment)
+          (sym (ap (λ (f : FrontOf g.row.P.Denot g.row.S.Denot). f.intake) c.handle.ensures.same))
+          c.in_ok-answer.ensures.waits;
+      handled =
+          handled_at (silence desk o.address c.args.moment) (answered_of answer) mid old c.handle.new.self before after
+          refl
+          refl c.wait.ensures.asker (c.in_ok-handle.ensures.handled desk);
     })

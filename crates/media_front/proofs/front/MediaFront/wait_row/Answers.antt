@@ -15,8 +15,12 @@ returns-in-Some-clause-err g c =
     let o : Origin = record { address = c.in-Some.address; ssrc = c.in-Some.ssrc } in
     let before = g.W.Wire.attempts c.args.wire.now in
     let after = g.W.Wire.attempts c.wait.new.wire in
-    let one : o ∷ [] ≡ option_to_list (origin_in desk c.args.row.now) = ap option_to_list (ap (option_map origin_of) (sym c.in-Some.is) ∙ c.origin_in.ensures) in
-    subst (λ (os : List Origin). OnErr c.wait.result (HaveWaitedInPart desk c.args.now os c.args.self.now c.wait.new.self before after)) one
+    let one : o ∷ [] ≡ option_to_list (origin_in desk c.args.row.now) =
+    ap option_to_list (ap (option_map origin_of) (sym c.in-Some.is) ∙ c.origin_in.ensures) in
+    subst
+    (λ (os : List Origin).
+    OnErr c.wait.result (HaveWaitedInPart desk c.args.now os c.args.self.now c.wait.new.self before after))
+    one
     (in_part c.wait.result (λ unfed unsent intake. record {
       first = [];
       next = o;

@@ -11,7 +11,8 @@ invariant_of-self g c =
     let inside = c.self.inside in
     let whole = subst (λ (b : Bool). IsWhole (sent inside.parcels) b) c.if-self.false c.self.invariant.3 in
     let pushed = whole_pushed (sent inside.parcels) c.args.parcel c.ends-last.result c.ends-last.ensures whole in (
-      IsPair-sent inside.parcels c.push.new.self inside.thread.promise.consumer.value c.self.invariant.0 c.push.ensures.ring,
+      IsPair-sent inside.parcels c.push.new.self inside.thread.promise.consumer.value c.self.invariant.0
+          c.push.ensures.ring,
       c.self.invariant.1,
       c.self.invariant.2,
       subst (λ (ps : List _). IsWhole ps c.ends-last.result) (sym c.in-Ok.ensures.ok.0) pushed,
@@ -33,5 +34,8 @@ returns-in-Ok-clause-ok g c =
       sink = inside.thread.promise.sink.value;
       accepted = works (sent c.push.new.self);
       closed = c.ends-last.result;
-    } ≡ accept c.args.parcel v)) c.self.view_is
-    (c.if-self.false, accepts old (sent inside.parcels) (sent c.push.new.self) c.args.parcel c.ends-last.result refl c.if-self.false c.ends-last.ensures c.in-Ok.ensures.ok.0)
+    } ≡ accept c.args.parcel v)) c.self.view_is (
+      c.if-self.false,
+      accepts old (sent inside.parcels) (sent c.push.new.self) c.args.parcel c.ends-last.result refl c.if-self.false
+          c.ends-last.ensures c.in-Ok.ensures.ok.0,
+    )

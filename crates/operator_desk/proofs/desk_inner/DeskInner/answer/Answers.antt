@@ -18,9 +18,18 @@ returns-in-Some g c =
     let is_log : log ≡ c.args.self.now.log = ap (λ (h : InnerOf). h.log) c.self.view_is in
     let is = c.seat.view_is in
     let seat = c.seat.inside in
-    let number : c.version-at.result ≡ length log = c.version-at.ensures.version ∙ (held.called.version ∙ accepted-log g.H.DeskBrand.start log) in
-    let new : SeatOf = record { op = seat.op; seen = shown seat.seen.items; count = seat.mine.amount; beyond = Some c.in-Some.token.value } in
-    refused g.H.DeskBrand.start c.args.seat.now new log (asked_by c.args.call) c.version-at.result LogTaken (c.requires.seen ∙ sym is_log) (ap (λ (s : SeatOf). s.op) is) (ap (λ (s : SeatOf). s.seen) is) (ap (λ (s : SeatOf). s.count) is) number held.legal refl
+    let number : c.version-at.result ≡ length log =
+    c.version-at.ensures.version ∙ (held.called.version ∙ accepted-log g.H.DeskBrand.start log) in
+    let new : SeatOf =
+    record {
+      op = seat.op;
+      seen = shown seat.seen.items;
+      count = seat.mine.amount;
+      beyond = Some c.in-Some.token.value;
+    } in
+    refused g.H.DeskBrand.start c.args.seat.now new log (asked_by c.args.call) c.version-at.result LogTaken
+    (c.requires.seen ∙ sym is_log) (ap (λ (s : SeatOf). s.op) is) (ap (λ (s : SeatOf). s.seen) is)
+    (ap (λ (s : SeatOf). s.count) is) number held.legal refl
 
 pub returns-in-Err : goal.returns-in-Err
 returns-in-Err g c =
@@ -28,10 +37,13 @@ returns-in-Err g c =
     let log = shown c.self.inside.entries.items in
     let is_log : log ≡ c.args.self.now.log = ap (λ (h : InnerOf). h.log) c.self.view_is in
     let seat = c.args.seat.now in
-    let number : c.version-at.result ≡ length log = c.version-at.ensures.version ∙ (held.called.version ∙ accepted-log g.H.DeskBrand.start log) in
+    let number : c.version-at.result ≡ length log =
+    c.version-at.ensures.version ∙ (held.called.version ∙ accepted-log g.H.DeskBrand.start log) in
     let told = c.in-Err.ensures.told (after_log g.H.DeskBrand.start log) held.called in
-    subst (IsAnswered g.H.DeskBrand.start g.H.DeskBrand.publisher seat seat (asked_by c.args.call)) (sym c.refused.ensures)
-    (refused g.H.DeskBrand.start seat seat log (asked_by c.args.call) c.version-at.result (Told c.in-Err.why) (c.requires.seen ∙ sym is_log) refl refl refl number held.legal (inl told))
+    subst (IsAnswered g.H.DeskBrand.start g.H.DeskBrand.publisher seat seat (asked_by c.args.call))
+    (sym c.refused.ensures)
+    (refused g.H.DeskBrand.start seat seat log (asked_by c.args.call) c.version-at.result (Told c.in-Err.why)
+    (c.requires.seen ∙ sym is_log) refl refl refl number held.legal (inl told))
 
 pub returns-in-Err-edit_of : goal.returns-in-Err-edit_of
 returns-in-Err-edit_of g c =
@@ -39,7 +51,11 @@ returns-in-Err-edit_of g c =
     let log = shown c.self.inside.entries.items in
     let is_log : log ≡ c.args.self.now.log = ap (λ (h : InnerOf). h.log) c.self.view_is in
     let seat = c.args.seat.now in
-    let number : c.version-at.result ≡ length log = c.version-at.ensures.version ∙ (held.called.version ∙ accepted-log g.H.DeskBrand.start log) in
+    let number : c.version-at.result ≡ length log =
+    c.version-at.ensures.version ∙ (held.called.version ∙ accepted-log g.H.DeskBrand.start log) in
     let free = c.in-Ok.ensures.free (after_log g.H.DeskBrand.start log) held.called in
-    subst (IsAnswered g.H.DeskBrand.start g.H.DeskBrand.publisher seat seat (asked_by c.args.call)) (sym c.refused-in-Err-edit_of.ensures)
-    (refused g.H.DeskBrand.start seat seat log (asked_by c.args.call) c.version-at.result (Told OutOfMemory) (c.requires.seen ∙ sym is_log) refl refl refl number held.legal (wants_memory g.H.DeskBrand.start log seat.beyond (asked_by c.args.call) free))
+    subst (IsAnswered g.H.DeskBrand.start g.H.DeskBrand.publisher seat seat (asked_by c.args.call))
+    (sym c.refused-in-Err-edit_of.ensures)
+    (refused g.H.DeskBrand.start seat seat log (asked_by c.args.call) c.version-at.result (Told OutOfMemory)
+    (c.requires.seen ∙ sym is_log) refl refl refl number held.legal
+    (wants_memory g.H.DeskBrand.start log seat.beyond (asked_by c.args.call) free))

@@ -16,7 +16,8 @@ returns-clause-begins g c =
     let from = vec_len c.seat.inside.seen in
     let log : all ≡ c.args.self.now.log = ap (λ (h : InnerOf). h.log) c.self.view_is in
     let was : seen ≡ c.args.seat.now.seen = ap (λ (s : SeatOf). s.seen) c.seat.view_is in
-    let front : seen ++ drop from all ≡ all = ap (λ xs. xs ++ drop from all) c.agree.ensures ∙ take-append-drop from all in
+    let front : seen ++ drop from all ≡ all =
+    ap (λ xs. xs ++ drop from all) c.agree.ensures ∙ take-append-drop from all in
     subst (λ ys. IsPrefix ys c.args.self.now.log) was (subst (λ xs. IsPrefix seen xs) log (drop from all, front))
 
 pub returns-clause-own : goal.returns-clause-own
@@ -31,4 +32,5 @@ returns-clause-own g c =
     let begins : seen ≡ take from all = c.agree.ensures in
     let quiet : numbers op all ≡ numbers op seen = search rules in
     let now = c.args.self.now.log in
-    subst (λ n. numbers n now ≡ numbers n c.args.seat.now.seen) who (subst (λ ys. numbers op now ≡ numbers op ys) was (subst (λ xs. numbers op xs ≡ numbers op seen) log quiet))
+    subst (λ n. numbers n now ≡ numbers n c.args.seat.now.seen) who
+    (subst (λ ys. numbers op now ≡ numbers op ys) was (subst (λ xs. numbers op xs ≡ numbers op seen) log quiet))

@@ -8,4 +8,6 @@ use Rattle.operator_lines.proofs.feeding.Lines.feed.Given as goal
 -- what is kept is that of the stream up to here, and its new lines are collected
 abbrev pub invariant-loop-octet : goal.invariant-loop-octet
 invariant-loop-octet g l =
-    (before : List (List ℕ)) (c : Cut) → Holds before c l.fn.self [] → Holds before (fold with_octet c (take l.octet-index l.octets)) (in_place (unless l.ended l.fn.self.pending) l.next) (texts l.lines.items)
+    (before : List (List ℕ)) (c : Cut) → Holds before c l.fn.self []
+    → Holds before (fold with_octet c (take l.octet-index l.octets))
+    (in_place (unless l.ended l.fn.self.pending) l.next) (texts l.lines.items)

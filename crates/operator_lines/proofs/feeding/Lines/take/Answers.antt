@@ -17,5 +17,6 @@ returns-then-octet-eq10 g c = λ before k h.
     c.clear.ensures.items
     (ap (λ (q : Kept). q.too_long) c.self.view_is)
     (texts_push c.args.lines.now.items _ c.in_ok-line.line c.push.result _ c.push.ensures.items c.in_ok-push.was
-    (let a = c.in_ok-line.ensures in let d = c.deref.ensures.value in let v = ap (λ (q : Kept). q.pending) c.self.view_is in cc))
+    (let a = c.in_ok-line.ensures in
+    let d = c.deref.ensures.value in let v = ap (λ (q : Kept). q.pending) c.self.view_is in cc))
     h

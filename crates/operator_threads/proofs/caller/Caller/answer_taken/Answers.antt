@@ -14,9 +14,21 @@ returns-in-Ok-true-clause-said g c =
     inl (
       true,
       said.standing,
-      subst (λ (o : List ℕ). AnswersAll replies shows (drop heard.at (texts heard.fed.lines.items)) heard.fed.too_long c.args.desk.now c.answer_from-said.new.desk before o said.standing true) (sym c.note_stop.ensures.outgoing)
-          (subst (λ (b : Bool). AnswersAll replies shows (drop heard.at (texts heard.fed.lines.items)) heard.fed.too_long c.args.desk.now c.answer_from-said.new.desk before said.outgoing said.standing b) c.in-Ok-true.field-0-test
-          (subst (λ (ls : List (List ℕ)). AnswersAll replies shows ls heard.fed.too_long c.args.desk.now c.answer_from-said.new.desk before said.outgoing said.standing c.in-Ok-true.field-0) (sym (drop-map (λ line. line.items) heard.at heard.fed.lines.items))
+      subst
+          (λ (o : List ℕ).
+          AnswersAll replies shows (drop heard.at (texts heard.fed.lines.items)) heard.fed.too_long c.args.desk.now
+          c.answer_from-said.new.desk before o said.standing true)
+          (sym c.note_stop.ensures.outgoing)
+          (subst
+          (λ (b : Bool).
+          AnswersAll replies shows (drop heard.at (texts heard.fed.lines.items)) heard.fed.too_long c.args.desk.now
+          c.answer_from-said.new.desk before said.outgoing said.standing b)
+          c.in-Ok-true.field-0-test
+          (subst
+          (λ (ls : List (List ℕ)).
+          AnswersAll replies shows ls heard.fed.too_long c.args.desk.now c.answer_from-said.new.desk before
+          said.outgoing said.standing c.in-Ok-true.field-0)
+          (sym (drop-map (λ line. line.items) heard.at heard.fed.lines.items))
           c.in-Ok-true.ensures.rest)),
       c.note_stop.ensures.standing,
     )
@@ -31,8 +43,16 @@ returns-in-Ok-false-clause-said g c =
     inl (
       false,
       said.standing,
-      subst (λ (b : Bool). AnswersAll replies shows (drop heard.at (texts heard.fed.lines.items)) heard.fed.too_long c.args.desk.now c.answer_from-said.new.desk before said.outgoing said.standing b) c.in-Ok-false.field-0-test
-          (subst (λ (ls : List (List ℕ)). AnswersAll replies shows ls heard.fed.too_long c.args.desk.now c.answer_from-said.new.desk before said.outgoing said.standing c.in-Ok-false.field-0) (sym (drop-map (λ line. line.items) heard.at heard.fed.lines.items))
+      subst
+          (λ (b : Bool).
+          AnswersAll replies shows (drop heard.at (texts heard.fed.lines.items)) heard.fed.too_long c.args.desk.now
+          c.answer_from-said.new.desk before said.outgoing said.standing b)
+          c.in-Ok-false.field-0-test
+          (subst
+          (λ (ls : List (List ℕ)).
+          AnswersAll replies shows ls heard.fed.too_long c.args.desk.now c.answer_from-said.new.desk before
+          said.outgoing said.standing c.in-Ok-false.field-0)
+          (sym (drop-map (λ line. line.items) heard.at heard.fed.lines.items))
           c.in-Ok-false.ensures.rest),
       refl,
     )
@@ -41,7 +61,11 @@ pub returns-clause-said : goal.returns-clause-said
 returns-clause-said g c =
     let heard = c.args.heard in
     inr (
-      subst (λ (ls : List (List ℕ)). AnswersSome g.D.LineDesk.replies g.D.LineDesk.shows ls c.args.desk.now c.args.self.now.talk.outgoing c.answer_from-said.new.self.outgoing) (sym (drop-map (λ line. line.items) heard.at heard.fed.lines.items))
+      subst
+          (λ (ls : List (List ℕ)).
+          AnswersSome g.D.LineDesk.replies g.D.LineDesk.shows ls c.args.desk.now c.args.self.now.talk.outgoing
+          c.answer_from-said.new.self.outgoing)
+          (sym (drop-map (λ line. line.items) heard.at heard.fed.lines.items))
           c.in-Err.ensures.broke,
       c.in-Err.ensures.lost,
     )

@@ -9,7 +9,11 @@ returns-in_err-now g c =
     let b = c.moment.new.self in (
       look_failed c.in_ok-wait.field-0,
       search rules,
-      (connection (g.L.CallerLine.acts a.line) a.talk a.ready a.heard, c.in_ok-wait.ensures, (connection (g.L.CallerLine.acts b.line) b.talk b.ready b.heard, c.in_err-now.ensures, refl)),
+      (
+        connection (g.L.CallerLine.acts a.line) a.talk a.ready a.heard,
+        c.in_ok-wait.ensures,
+        (connection (g.L.CallerLine.acts b.line) b.talk b.ready b.heard, c.in_err-now.ensures, refl),
+      ),
     )
 
 pub returns-then-load : goal.returns-then-load
@@ -31,7 +35,8 @@ returns-then-load g c =
               ready = refl;
               standing = c.note_stop.ensures.standing;
               since = c.note_stop.ensures.since;
-              silent = record { kept = c.note_stop.ensures.lines; waiting = c.note_stop.ensures.outgoing; heeded = refl };
+              silent =
+                  record { kept = c.note_stop.ensures.lines; waiting = c.note_stop.ensures.outgoing; heeded = refl };
             },
             refl,
           ),
@@ -45,5 +50,9 @@ returns-else-load g c =
     let b = c.moment.new.self in (
       looked_at c.in_ok-wait.field-0 c.in_ok-now.now false,
       refl,
-      (connection (g.L.CallerLine.acts a.line) a.talk a.ready a.heard, c.in_ok-wait.ensures, (connection (g.L.CallerLine.acts b.line) b.talk b.ready b.heard, c.in_ok-now.ensures, refl)),
+      (
+        connection (g.L.CallerLine.acts a.line) a.talk a.ready a.heard,
+        c.in_ok-wait.ensures,
+        (connection (g.L.CallerLine.acts b.line) b.talk b.ready b.heard, c.in_ok-now.ensures, refl),
+      ),
     )

@@ -18,11 +18,16 @@ returns-then-count-gt0 g c =
     let mid = connection (g.L.CallerLine.acts p.line) p.talk p.ready p.heard in
     let new = connection (g.L.CallerLine.acts h.line) h.talk h.ready h.heard in
     let octets = take c.count-count.result p.chunk.items in
-    subst (λ (b : Bool). MatchBool b (HearsRead replies shows c.args.now d e old new) ((e ≡ d) × (new ≡ old))) (sym (sym c.may_read.ensures ∙ c.if-not-may_read.false)) (record {
+    subst (λ (b : Bool). MatchBool b (HearsRead replies shows c.args.now d e old new) ((e ≡ d) × (new ≡ old)))
+    (sym (sym c.may_read.ensures ∙ c.if-not-may_read.false)) (record {
       came = c.read_piece.result;
       octets = octets;
       mid = mid;
-      read = subst (λ (k : ℕ). HasRead c.read_piece.result (take k p.chunk.items) c.args.now old mid) (sym c.count-count.ensures) c.read_piece.ensures.read;
-      hears = subst (λ (b : Bool). MatchBool b (HearsPiece replies shows c.args.now octets d e mid new) ((e ≡ d) × (new ≡ mid)))
+      read =
+          subst (λ (k : ℕ). HasRead c.read_piece.result (take k p.chunk.items) c.args.now old mid)
+          (sym c.count-count.ensures) c.read_piece.ensures.read;
+      hears =
+          subst
+          (λ (b : Bool). MatchBool b (HearsPiece replies shows c.args.now octets d e mid new) ((e ≡ d) × (new ≡ mid)))
           (sym (positive c.count-count.result _ c.if-count-gt0.true c.count-count.ensures)) c.hear.ensures;
     })

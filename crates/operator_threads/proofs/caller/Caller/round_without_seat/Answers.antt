@@ -4,7 +4,8 @@ use Rattle.operator_threads.proofs.caller.Caller.round_without_seat.Goals as goa
 
 pub returns-in-Some : goal.returns-in-Some
 returns-in-Some g c =
-    let b = c.begin.ensures in (b.0, alone_whole b.0 c.in-Some.now _ _ _ b.2 (sym b.1 ∙ c.in-Some.is) c.greet_at.ensures)
+    let b = c.begin.ensures in
+    (b.0, alone_whole b.0 c.in-Some.now _ _ _ b.2 (sym b.1 ∙ c.in-Some.is) c.greet_at.ensures)
 
 pub returns-in-None : goal.returns-in-None
 returns-in-None g c =

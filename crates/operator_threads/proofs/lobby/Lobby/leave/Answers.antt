@@ -7,10 +7,12 @@ use Rattle.operator_threads.proofs.lobby.Lobby.leave.Goals as goal
 
 pub invariant_of-self : goal.invariant_of-self
 invariant_of-self c =
-    let left : c.retain.new.self.items ≡ others c.args.number c.self.inside.numbers.items = filter_same _ _ _ (λ x b f' k. search rules) _ _ c.retain.ensures.filtered in (
+    let left : c.retain.new.self.items ≡ others c.args.number c.self.inside.numbers.items =
+    filter_same _ _ _ (λ x b f' k. search rules) _ _ c.retain.ensures.filtered in (
       (let bound = c.retain.ensures.bound in let few = c.self.invariant.0 in omega (arith, bound, few)),
       subst (λ (numbers : List ℕ). All (λ (number : ℕ). number < c.self.inside.next) numbers) (sym left)
-          (All-filter (λ (other : ℕ). not (nat_eq other c.args.number)) (λ (number : ℕ). number < c.self.inside.next) c.self.inside.numbers.items c.self.invariant.1),
+          (All-filter (λ (other : ℕ). not (nat_eq other c.args.number)) (λ (number : ℕ). number < c.self.inside.next)
+          c.self.inside.numbers.items c.self.invariant.1),
     )
 
 pub returns : goal.returns

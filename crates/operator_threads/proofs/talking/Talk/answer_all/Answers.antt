@@ -12,11 +12,14 @@ returns-in_err-refuse_if-clause-broke g c =
     let said = c.answer_lines.new.self in
     let replies = g.D.LineDesk.replies in
     let shows = g.D.LineDesk.shows in
-    let some : AnswersSome replies shows (texts c.args.lines.now) c.args.desk.now c.args.self.now.outgoing c.refuse_if.new.self.outgoing = (
+    let some : AnswersSome replies shows (texts c.args.lines.now) c.args.desk.now c.args.self.now.outgoing
+    c.refuse_if.new.self.outgoing = (
       first.0,
       c.answer_lines.new.desk,
       said.standing,
-      subst (λ (o : List ℕ). AnswersLines replies shows (take first.0 (texts c.args.lines.now)) c.args.desk.now c.answer_lines.new.desk c.args.self.now.outgoing o Open said.standing)
+      subst (λ (o : List ℕ).
+          AnswersLines replies shows (take first.0 (texts c.args.lines.now)) c.args.desk.now c.answer_lines.new.desk
+          c.args.self.now.outgoing o Open said.standing)
           (sym (ap (λ (t : Talk). t.outgoing) c.in_err-refuse_if.ensures.err)) first.1,
     ) in
     on_err _ some

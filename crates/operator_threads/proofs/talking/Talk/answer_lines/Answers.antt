@@ -9,7 +9,9 @@ use Rattle.operator_threads.proofs.talking.Talk.answer_lines.Goals as goal
 pub returns-then-not-is_open-clause-first : goal.returns-then-not-is_open-clause-first
 returns-then-not-is_open-clause-first g c = (
   c.loop-line.line-index + 1,
-  answers_step g.D.LineDesk.replies g.D.LineDesk.shows (λ line. line.items) c.args.lines.now c.loop-line.line-index _ _ _ _ _ _ _ _ _ _ c.loop-line-test.true c.line-item.is c.deref.ensures.value c.loop-line.invariant.said c.in_ok-answer_line.ensures.answer c.in_ok-answer_line.ensures.standing,
+  answers_step g.D.LineDesk.replies g.D.LineDesk.shows (λ line. line.items) c.args.lines.now c.loop-line.line-index _ _
+      _ _ _ _ _ _ _ _ c.loop-line-test.true c.line-item.is c.deref.ensures.value c.loop-line.invariant.said
+      c.in_ok-answer_line.ensures.answer c.in_ok-answer_line.ensures.standing,
   inr (inl (sym c.is_open.ensures ∙ c.if-not-is_open.true)),
 )
 
@@ -19,18 +21,26 @@ loop-line-preserved g c =
     record {
       stands = stays;
       kept = c.answer_line.ensures.lines ∙ c.loop-line.invariant.kept;
-      said = answers_step g.D.LineDesk.replies g.D.LineDesk.shows (λ line. line.items) c.args.lines.now c.loop-line.line-index _ _ _ _ _ _ _ _ _ _ c.loop-line-test.true c.line-item.is c.deref.ensures.value c.loop-line.invariant.said c.in_ok-answer_line.ensures.answer (sym stays ∙ c.in_ok-answer_line.ensures.standing);
+      said =
+          answers_step g.D.LineDesk.replies g.D.LineDesk.shows (λ line. line.items) c.args.lines.now
+          c.loop-line.line-index
+          _ _ _ _ _ _ _ _ _ _ c.loop-line-test.true c.line-item.is c.deref.ensures.value c.loop-line.invariant.said
+          c.in_ok-answer_line.ensures.answer (sym stays ∙ c.in_ok-answer_line.ensures.standing);
     }
 
 pub returns-in_err-answer_line-clause-broke : goal.returns-in_err-answer_line-clause-broke
 returns-in_err-answer_line-clause-broke g c =
     let replies = g.D.LineDesk.replies in
     let shows = g.D.LineDesk.shows in
-    let some : AnswersSome replies shows (texts c.args.lines.now) c.args.desk.now c.args.self.now.outgoing c.answer_line.new.self.outgoing = (
+    let some : AnswersSome replies shows (texts c.args.lines.now) c.args.desk.now c.args.self.now.outgoing
+    c.answer_line.new.self.outgoing = (
       c.loop-line.line-index,
       c.loop-line.desk,
       Open,
-      subst (λ (o : List ℕ). AnswersLines replies shows (take c.loop-line.line-index (texts c.args.lines.now)) c.args.desk.now c.loop-line.desk c.args.self.now.outgoing o Open Open)
+      subst (λ (o : List ℕ).
+          AnswersLines replies shows (take c.loop-line.line-index (texts c.args.lines.now)) c.args.desk.now
+          c.loop-line.desk
+          c.args.self.now.outgoing o Open Open)
           (sym c.in_err-answer_line.ensures.err) c.loop-line.invariant.said,
     ) in
     on_err _ some

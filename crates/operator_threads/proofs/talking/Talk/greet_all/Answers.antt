@@ -10,4 +10,5 @@ returns-in_err-refuse_if-clause-broke c =
     let said = c.greet_lines.new.self in
     on_err _ (subst (λ (o : List ℕ). GreetsSome (texts c.args.lines.now) c.args.self.now.outgoing o)
     (sym (ap (λ (t : Talk). t.outgoing) c.in_err-refuse_if.ensures.err))
-    (first_some (texts c.args.lines.now) c.args.self.now.outgoing said.outgoing said.standing _ c.in_ok-greeted.ensures.first))
+    (first_some (texts c.args.lines.now) c.args.self.now.outgoing said.outgoing said.standing _
+    c.in_ok-greeted.ensures.first))

@@ -13,8 +13,14 @@ returns-in-Ok-or_lost-clause-heard c =
     let greeted = c.in-Ok-or_lost.greeted in
     let same = c.in-Ok-or_lost.ensures.ok in
     let all : GreetsAll (texts c.deref.result.now) is_too_long before said.outgoing said.standing greeted =
-    subst (λ r. IfOk r (λ (g : Greeted). GreetsAll (texts c.deref.result.now) is_too_long before said.outgoing said.standing g))
+    subst (λ r.
+    IfOk r (λ (g : Greeted). GreetsAll (texts c.deref.result.now) is_too_long before said.outgoing said.standing g))
     (sym c.or_lost.ensures.same ∙ c.in-Ok-or_lost.is) c.greet_all-said.ensures.all in
-    subst (λ (st : Standing). GreetsAll (texts c.in-Ok.fed.lines.items) is_too_long before c.or_lost.new.self.outgoing st greeted) (sym (ap (λ t. t.standing) same))
-    (subst (λ (o : List ℕ). GreetsAll (texts c.in-Ok.fed.lines.items) is_too_long before o said.standing greeted) (sym (ap (λ t. t.outgoing) same))
-    (subst (λ ls. GreetsAll (texts ls) is_too_long before said.outgoing said.standing greeted) c.deref.ensures.value all))
+    subst
+    (λ (st : Standing).
+    GreetsAll (texts c.in-Ok.fed.lines.items) is_too_long before c.or_lost.new.self.outgoing st greeted)
+    (sym (ap (λ t. t.standing) same))
+    (subst (λ (o : List ℕ). GreetsAll (texts c.in-Ok.fed.lines.items) is_too_long before o said.standing greeted)
+    (sym (ap (λ t. t.outgoing) same))
+    (subst (λ ls. GreetsAll (texts ls) is_too_long before said.outgoing said.standing greeted) c.deref.ensures.value
+    all))

@@ -1,4 +1,5 @@
-use Rattle.std.proofs.Common.{◌≡◌, ◌∙◌, ◌+◌, ◌-◌, ◌≤◌, ℕ, ℤ, ap, sym, subst, List, Option, None, length, drop, replicate, ◌++◌, arith}
+use Rattle.std.proofs.Common.{◌≡◌, ◌∙◌, ◌+◌, ◌-◌, ◌≤◌, ℕ, ℤ, ap, sym, subst, List, Option, None, length, drop}
+use Rattle.std.proofs.Common.{replicate, ◌++◌, arith}
 use Rattle.playout.specs.inner.Agrees.{Agrees}
 use Rattle.playout.specs.inner.Cells.{cells_of, turned, emptied}
 use Rattle.playout.proofs.Arrays.{length-cells}
@@ -25,7 +26,17 @@ invariant_of-self-else-count-ahead g c =
     let long = c.clear_from-else-count-ahead-2.ensures.long ∙ c.clear_from-else-count-ahead.ensures.long in
     record {
       alike = c.self.invariant.alike ∙ sym long;
-      within = omega (arith, c.requires, long, c.len.ensures, inside.present.ok.0, c.self.invariant.within, ring_long inside.start inside.present.items inside.samples.items c.args.self.now c.self.invariant c.self.view_is);
+      within =
+          omega (
+            arith,
+            c.requires,
+            long,
+            c.len.ensures,
+            inside.present.ok.0,
+            c.self.invariant.within,
+            ring_long inside.start inside.present.items inside.samples.items c.args.self.now c.self.invariant
+                c.self.view_is,
+          );
       most = omega (arith, long, c.self.invariant.most);
     }
 
@@ -35,9 +46,14 @@ returns-then-count-ahead-clause-agrees g c p pairs a =
     let n = c.args.count in
     let cells = cells_of inside.present.items inside.samples.items in
     let many = length-cells inside.present.items inside.samples.items c.self.invariant.alike in
-    let le : inside.start + n ≤ length cells = omega (arith, c.if-count-ahead.true, c.len.ensures, inside.present.ok.0, many, c.self.invariant.within) in
-    let is = ap (turned (inside.start + n)) c.clear_from.ensures.cells ∙ moved inside.start n cells le ∙ ap (λ (xs : List (Option ℤ)). drop n (xs ++ replicate n None)) c.self.view_is in
-    moved_on c.args.self.now (turned (inside.start + n) (cells_of c.clear_from.new.present.items inside.samples.items)) pairs p n is a
+    let le : inside.start + n ≤ length cells =
+    omega (arith, c.if-count-ahead.true, c.len.ensures, inside.present.ok.0, many, c.self.invariant.within) in
+    let is =
+    ap (turned (inside.start + n)) c.clear_from.ensures.cells
+    ∙ moved inside.start n cells le
+    ∙ ap (λ (xs : List (Option ℤ)). drop n (xs ++ replicate n None)) c.self.view_is in
+    moved_on c.args.self.now (turned (inside.start + n) (cells_of c.clear_from.new.present.items inside.samples.items))
+    pairs p n is a
 
 pub returns-then-count-ahead-clause-long : goal.returns-then-count-ahead-clause-long
 returns-then-count-ahead-clause-long g c =
@@ -45,9 +61,14 @@ returns-then-count-ahead-clause-long g c =
     let n = c.args.count in
     let cells = cells_of inside.present.items inside.samples.items in
     let many = length-cells inside.present.items inside.samples.items c.self.invariant.alike in
-    let le : inside.start + n ≤ length cells = omega (arith, c.if-count-ahead.true, c.len.ensures, inside.present.ok.0, many, c.self.invariant.within) in
-    let is = ap (turned (inside.start + n)) c.clear_from.ensures.cells ∙ moved inside.start n cells le ∙ ap (λ (xs : List (Option ℤ)). drop n (xs ++ replicate n None)) c.self.view_is in
-    length-moved n c.args.self.now (turned (inside.start + n) (cells_of c.clear_from.new.present.items inside.samples.items)) is
+    let le : inside.start + n ≤ length cells =
+    omega (arith, c.if-count-ahead.true, c.len.ensures, inside.present.ok.0, many, c.self.invariant.within) in
+    let is =
+    ap (turned (inside.start + n)) c.clear_from.ensures.cells
+    ∙ moved inside.start n cells le
+    ∙ ap (λ (xs : List (Option ℤ)). drop n (xs ++ replicate n None)) c.self.view_is in
+    length-moved n c.args.self.now
+    (turned (inside.start + n) (cells_of c.clear_from.new.present.items inside.samples.items)) is
 
 pub returns-else-count-ahead-clause-agrees : goal.returns-else-count-ahead-clause-agrees
 returns-else-count-ahead-clause-agrees g c p pairs a =
@@ -58,18 +79,47 @@ returns-else-count-ahead-clause-agrees g c p pairs a =
     let m = c.args.count - ahead in
     let first = cells_of c.clear_from-else-count-ahead.new.present.items ss in
     let many = length-cells inside.present.items ss c.self.invariant.alike in
-    let firsts = length-cells c.clear_from-else-count-ahead.new.present.items ss (c.self.invariant.alike ∙ sym c.clear_from-else-count-ahead.ensures.long) in
+    let firsts =
+    length-cells c.clear_from-else-count-ahead.new.present.items ss
+    (c.self.invariant.alike ∙ sym c.clear_from-else-count-ahead.ensures.long) in
     let whole = ring_long start inside.present.items ss c.args.self.now c.self.invariant c.self.view_is in
-    let le : start + ahead ≤ length (cells_of inside.present.items ss) = omega (arith, c.len.ensures, inside.present.ok.0, many, c.self.invariant.within) in
-    let end : length first ≡ start + ahead = omega (arith, firsts, c.clear_from-else-count-ahead.ensures.long, c.len.ensures, inside.present.ok.0, c.self.invariant.within) in
-    let few : 0 + m ≤ length first = omega (arith, firsts, c.clear_from-else-count-ahead.ensures.long, c.requires, c.len.ensures, inside.present.ok.0, c.self.invariant.within, whole) in
+    let le : start + ahead ≤ length (cells_of inside.present.items ss) =
+    omega (arith, c.len.ensures, inside.present.ok.0, many, c.self.invariant.within) in
+    let end : length first ≡ start + ahead =
+    omega (
+      arith,
+      firsts,
+      c.clear_from-else-count-ahead.ensures.long,
+      c.len.ensures,
+      inside.present.ok.0,
+      c.self.invariant.within,
+    ) in
+    let few : 0 + m ≤ length first =
+    omega (
+      arith,
+      firsts,
+      c.clear_from-else-count-ahead.ensures.long,
+      c.requires,
+      c.len.ensures,
+      inside.present.ok.0,
+      c.self.invariant.within,
+      whole,
+    ) in
     let at : m ≡ 0 + m = omega arith in
     let sum : p + ahead + m ≡ p + c.args.count = omega (arith, c.if-count-ahead.false) in
-    let is_first = sym (at_end first) ∙ ap (λ k. turned k first) end ∙ ap (turned (start + ahead)) c.clear_from-else-count-ahead.ensures.cells ∙ moved start ahead (cells_of inside.present.items ss) le
+    let is_first =
+    sym (at_end first)
+    ∙ ap (λ k. turned k first) end
+    ∙ ap (turned (start + ahead)) c.clear_from-else-count-ahead.ensures.cells
+    ∙ moved start ahead (cells_of inside.present.items ss) le
     ∙ ap (λ (xs : List (Option ℤ)). drop ahead (xs ++ replicate ahead None)) c.self.view_is in
-    let is_second = ap (turned m) c.clear_from-else-count-ahead-2.ensures.cells ∙ ap (λ k. turned k (emptied 0 m first)) at ∙ moved 0 m first few in
+    let is_second =
+    ap (turned m) c.clear_from-else-count-ahead-2.ensures.cells
+    ∙ ap (λ k. turned k (emptied 0 m first)) at
+    ∙ moved 0 m first few in
     let new = turned m (cells_of c.clear_from-else-count-ahead-2.new.present.items ss) in
-    subst (λ (q : ℕ). Agrees new pairs q) sum (moved_on (turned 0 first) new pairs (p + ahead) m is_second (moved_on c.args.self.now (turned 0 first) pairs p ahead is_first a))
+    subst (λ (q : ℕ). Agrees new pairs q) sum (moved_on (turned 0 first) new pairs (p + ahead) m is_second
+    (moved_on c.args.self.now (turned 0 first) pairs p ahead is_first a))
 
 pub returns-else-count-ahead-clause-long : goal.returns-else-count-ahead-clause-long
 returns-else-count-ahead-clause-long g c =

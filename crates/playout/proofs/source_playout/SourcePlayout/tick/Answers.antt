@@ -9,4 +9,5 @@ returns g c =
     let inside : SourceOf = record { playout = c.self.inside.playout; tally = c.self.inside.tally } in
     let new : SourceOf = record { playout = c.skip.new.self; tally = c.self.inside.tally } in
     subst (λ (old : SourceOf). HasTicked old new) c.self.view_is
-    (ticked inside new refl (subst (λ (rate : ℕ). HasTaken inside.playout new.playout (rate / 50)) c.rate.ensures c.skip.ensures.taken))
+    (ticked inside new refl
+    (subst (λ (rate : ℕ). HasTaken inside.playout new.playout (rate / 50)) c.rate.ensures c.skip.ensures.taken))

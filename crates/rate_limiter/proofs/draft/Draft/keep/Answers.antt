@@ -13,5 +13,6 @@ pub returns : goal.returns
 returns g c =
     let d = c.self.inside in
     let address = c.requires ∙ sym (ap (λ (x : DraftOf). x.address) c.self.view_is) in
-    ap (drafted_as d.address d.before.value) (sym (drafted_again c.args.bucket d.address d.used d.before.value address c.self.invariant.1))
+    ap (drafted_as d.address d.before.value)
+    (sym (drafted_again c.args.bucket d.address d.used d.before.value address c.self.invariant.1))
     ∙ ap (λ (x : DraftOf). record x { after = used c.args.bucket x.after }) c.self.view_is

@@ -17,4 +17,5 @@ returns-clause-bucket g c =
 
 pub returns-clause-address : goal.returns-clause-address
 returns-clause-address g c =
-    subst (λ o. IfSome o (λ (a : Bucket). a.address ≡ c.args.address.now)) (sym (returns-clause-bucket g c)) (address_found c.args.address.now c.args.self.now)
+    subst (λ o. IfSome o (λ (a : Bucket). a.address ≡ c.args.address.now)) (sym (returns-clause-bucket g c))
+    (address_found c.args.address.now c.args.self.now)

@@ -11,7 +11,9 @@ returns-in_err-put-clause-known g c = λ known.
     let a = c.args.bucket in
     let es = c.self.inside.cache.entries in
     let at : bucket_at a.address c.args.self.now ≡ lookup (same_key c.key_of.result) es =
-    ap (bucket_at a.address) (sym c.self.view_is) ∙ sym (found_at a.address es c.self.invariant.2) ∙ ap (λ (k : AddressKey). lookup (same_key k) es) (sym c.key_of.ensures) in
+    ap (bucket_at a.address) (sym c.self.view_is)
+    ∙ sym (found_at a.address es c.self.invariant.2)
+    ∙ ap (λ (k : AddressKey). lookup (same_key k) es) (sym c.key_of.ensures) in
     let fine = subst IsOk c.in_err-put.was (c.put.ensures.succeeds (subst IsSome at known)) in cc
 
 -- what the cache has afterwards
@@ -20,7 +22,9 @@ put g c =
     let a = c.args.bucket in
     let es = c.self.inside.cache.entries in
     subst (IsPut a es)
-    (sym (ap (λ x. x.entries) c.in_ok-put.ensures.entries ∙ ap (λ n. put_within n c.key_of.result a es) c.self.invariant.0 ∙ ap (λ (k : AddressKey). put_within most_addresses k a es) c.key_of.ensures))
+    (sym (ap (λ x. x.entries) c.in_ok-put.ensures.entries
+    ∙ ap (λ n. put_within n c.key_of.result a es) c.self.invariant.0
+    ∙ ap (λ (k : AddressKey). put_within most_addresses k a es) c.key_of.ensures))
     (is_put a es c.self.invariant.1 c.self.invariant.2)
 
 pub invariant_of-self-2 : goal.invariant_of-self-2

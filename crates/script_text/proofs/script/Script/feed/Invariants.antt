@@ -10,6 +10,10 @@ abbrev pub invariant-loop-octet : goal.invariant-loop-octet
 invariant-loop-octet g l = record {
   midline : IsMidLine l.self;
   line : l.self.line ≤ l.fn.self.line + l.octet-index;
-  step : (first : Bridge) (tail : List ℕ) → DecodesComing first.decoding l.fn.self (take l.octet-index l.octets ++ tail) → Stands l.fn.self.core first
-      → (sent : List ℕ) × (bridge : Bridge) × Stands l.self.core bridge × Appends (g.T.TextSink.held l.fn.writer) (g.T.TextSink.held l.writer) sent × Goes (place_of l.fn.self first) (take l.octet-index l.octets) (place_of l.self bridge) sent × DecodesComing bridge.decoding l.self tail;
+  step : (first : Bridge) (tail : List ℕ) → DecodesComing first.decoding l.fn.self (take l.octet-index l.octets ++ tail)
+      → Stands l.fn.self.core first
+      → (sent : List ℕ) × (bridge : Bridge) × Stands l.self.core bridge
+      × Appends (g.T.TextSink.held l.fn.writer) (g.T.TextSink.held l.writer) sent
+      × Goes (place_of l.fn.self first) (take l.octet-index l.octets) (place_of l.self bridge) sent
+      × DecodesComing bridge.decoding l.self tail;
 }

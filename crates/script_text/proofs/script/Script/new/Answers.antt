@@ -6,7 +6,9 @@ use Rattle.script_text.proofs.script.Script.new.Goals as goal
 
 pub returns-clause-opening : goal.returns-clause-opening
 returns-clause-opening g c = (
-  λ decoding. subst (λ (cname : List ℕ). Stands c.in_ok-core.core (begun_bridge decoding (record { ssrc = 1; cname = cname }))) c.in_ok-copy_from_slice.ensures (c.in_ok-core.ensures.stands decoding),
+  λ decoding.
+      subst (λ (cname : List ℕ). Stands c.in_ok-core.core (begun_bridge decoding (record { ssrc = 1; cname = cname })))
+      c.in_ok-copy_from_slice.ensures (c.in_ok-core.ensures.stands decoding),
   refl,
   c.new.ensures.items,
 )

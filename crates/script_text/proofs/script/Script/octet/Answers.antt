@@ -6,4 +6,5 @@ pub returns-then-octet-eq10-clause-step : goal.returns-then-octet-eq10-clause-st
 returns-then-octet-eq10-clause-step g c = rw c.if-octet-eq10.true c.end_line.ensures.step
 
 pub returns-else-octet-eq10-clause-step : goal.returns-else-octet-eq10-clause-step
-returns-else-octet-eq10-clause-step g c = λ bridge tail heard stands. ([], Appends-none _, c.keep.ensures.step bridge tail heard stands)
+returns-else-octet-eq10-clause-step g c = λ bridge tail heard stands.
+    ([], Appends-none _, c.keep.ensures.step bridge tail heard stands)

@@ -13,5 +13,6 @@ compare_exchange-found-requires c =
       book,
       pen.0 ∙ book,
       offer.0,
-      rw (ap (λ w. w.key) head, pen.1, offer.1, offer.3) (adds_moves c.again-seen.result.log c.args.edits.now c.self.inside.version (ap (λ s. length s.log) seen ∙ sym c.self.invariant)),
+      rw (ap (λ w. w.key) head, pen.1, offer.1, offer.3) (adds_moves c.again-seen.result.log c.args.edits.now
+          c.self.inside.version (ap (λ s. length s.log) seen ∙ sym c.self.invariant)),
     )

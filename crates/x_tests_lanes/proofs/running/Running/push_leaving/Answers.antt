@@ -6,4 +6,9 @@ use Rattle.x_tests_lanes.proofs.running.Running.push_leaving.Goals as goal
 pub invariant_of-self : goal.invariant_of-self
 invariant_of-self g c =
     let old = c.args.self.now in
-    record { many = kept_by_push c.push_leaving.result old.bridge c.push_leaving.new.self c.args.lane (accept c.args.parcel) _ _ (omega (arith, c.if-lane-self.false, old.many)) c.push_leaving.ensures.ok c.push_leaving.ensures.err ∙ old.many }
+    record {
+      many =
+          kept_by_push c.push_leaving.result old.bridge c.push_leaving.new.self c.args.lane (accept c.args.parcel) _ _
+          (omega (arith, c.if-lane-self.false, old.many)) c.push_leaving.ensures.ok c.push_leaving.ensures.err
+          ∙ old.many;
+    }
