@@ -35,18 +35,25 @@ class Browser:
         self.stream = self.connected(profile / "DevToolsActivePort")
         self.count = 0
 
-    def connected(self, told):
-        """A socket to the tab."""
+    def told(self, path):
+        """What the browser writes to a file of its profile."""
         end = time.monotonic() + 60
-        while not told.is_file() or not told.read_text().strip():
+        while not path.is_file() or not path.read_text().strip():
             if time.monotonic() > end or self.process.poll() is not None:
                 fail("the browser doesn't start")
             time.sleep(0.1)
-        port = int(told.read_text().split()[0])
+        return path.read_text()
+
+    def connected(self, path):
+        """A socket to the tab."""
+        port = int(self.told(path).split()[0])
         connection = http.client.HTTPConnection("127.0.0.1", port, timeout=20)
         connection.request("GET", "/json/list")
         tab = next(one for one in json.loads(connection.getresponse().read()) if one["type"] == "page")
-        path = tab["webSocketDebuggerUrl"].partition(str(port))[2]
+        return self.stream_to(port, tab["webSocketDebuggerUrl"].partition(str(port))[2])
+
+    def stream_to(self, port, path):
+        """A WebSocket (RFC 6455)."""
         stream = socket.create_connection(("127.0.0.1", port), timeout=60)
         key = base64.b64encode(os.urandom(16)).decode()
         head = ["Upgrade: websocket", "Connection: Upgrade", f"Sec-WebSocket-Key: {key}", "Sec-WebSocket-Version: 13"]

@@ -236,8 +236,8 @@ def costs(browser, ask, ssrc):
         said = ask(f"{'un' * (at % 2)}mute {ssrc}")
         check(said.startswith("ok "), f"another operator's change is told {said}")
         browser.run(
-            "window.got = ask('/desk').then((reply) => reply.text()).then((text) => { window.got = text; return true; "
-            "})"
+            "window.got = fetch('/desk', { cache: 'no-store' }).then((reply) => reply.text())"
+            ".then((text) => { window.got = text; return true; })"
         )
         begun = browser.used()
         browser.run("take(got).then(() => document.body.offsetHeight)")

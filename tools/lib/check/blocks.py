@@ -1,14 +1,16 @@
-"""Runs the command blocks of README, OPERATING, DEBUGGING and the examples, and compares what appears with what they
-show.
+"""Runs the command blocks of README, OPERATING, DEBUGGING, RATTLE and the examples, and compares what appears with
+what they show. Compares the clauses and definitions that these pages and PROMISES quote with the sources.
 
 A block of commands is run at the top of a clone, which is a folder of its own with links to the tree. The blocks of
-text behind it have to appear on standard output or standard error: as the whole of it, or in DEBUGGING as lines one
-after the other. A bridge that a block starts goes on for the blocks behind it. A block of Rattle has to stand in a
-source, and what `./confbridge` says while it builds in that script. Blocks that nobody can compare here are listed in
-this tool with their reasons, and named.
+text after it have to appear on standard output or standard error: as the whole of it, or in DEBUGGING as lines one
+after the other. A bridge that a block starts runs on for the blocks after it; for `restore` it starts anew, without a
+row. A block of Rattle (`rust`) has to stand in a source, each paragraph of definitions (`antt`) in a specification, and
+an edit (`edit`) among the wrong bodies. What `./confbridge` says while it builds has to stand in that script. Blocks
+that nobody can run here are listed in this tool with their reasons, and named.
 """
 
 import contextlib
+import functools
 import os
 import pathlib
 import re
@@ -22,7 +24,7 @@ import time
 
 from lib.shared import CRATES, ROOT, crates, fail
 
-NEEDS = "`rt`, or the program; ten seconds, and a minute or two where ./confbridge has to build one"
+NEEDS = "`rt`; ten seconds, and a minute or two where ./confbridge has to build one"
 
 # Blocks that are not run, by how they begin, and why.
 NOT_RUN = {
@@ -32,9 +34,7 @@ NOT_RUN = {
     "gst-launch-1.0": "a song, GStreamer, ffmpeg",
     "cd crates/confbridge && rt run --cpu": "proofs, and root",
     "tcpdump": "root",
-    "tools/bridge watch": "someone who ends it, leave to capture",
     "sudo": "root, packages",
-    "tools/bridge keep": "a bridge that starts anew in between; `check fleet` keeps and restores desks",
     "examples/fleet/dispatch.py": "Kamailio; `check fleet` runs it",
     "podman-compose": "containers, both programs built",
     "podman build": "containers, both programs built",
@@ -54,6 +54,8 @@ def documents():
         ROOT / "README.md",
         ROOT / "docs/OPERATING.md",
         ROOT / "docs/DEBUGGING.md",
+        ROOT / "docs/RATTLE.md",
+        ROOT / "docs/PROMISES.md",
         *sorted(ROOT.glob("examples/*/README.md")),
     ]
 
@@ -70,12 +72,18 @@ def reason(commands):
     return next((why for begin, why in NOT_RUN.items() if commands.startswith(begin)), None)
 
 
-def is_free(address):
-    with socket.socket() as one, contextlib.suppress(OSError):
-        one.setsockopt(socket.SOL_SOCKET, socket.SO_REUSEADDR, 1)
-        one.bind(address)
+def is_free(kind, port):
+    with socket.socket(type=kind) as one, contextlib.suppress(OSError):
+        if kind == socket.SOCK_STREAM:
+            one.setsockopt(socket.SOL_SOCKET, socket.SO_REUSEADDR, 1)
+        one.bind(("127.0.0.1", port))
         return True
     return False
+
+
+def are_free():
+    """Whether a bridge can have the ports of examples/serve.toml."""
+    return is_free(socket.SOCK_STREAM, 7000) and is_free(socket.SOCK_DGRAM, 5004)
 
 
 def differs(where, wanted, got):
@@ -87,6 +95,7 @@ class Folder:
 
     def __init__(self, path):
         self.path, self.bridges, self.said = pathlib.Path(path), [], ("", "")
+        self.start, self.toolchain = None, toolchain()
         for name in "README.md", "confbridge", "crates", "crates.txt", "docs", "examples", "tools":
             (self.path / name).symlink_to(ROOT / name)
         if not self.has("nc"):
@@ -111,7 +120,7 @@ class Folder:
     def started(self, commands):
         """Commands that have begun, and the files with what they say."""
         out, err = self.path / "said.out", self.path / "said.err"
-        environment = os.environ | {"PATH": f"{self.path / 'bin'}:{os.environ['PATH']}"}
+        environment = os.environ | {"PATH": f"{self.path / 'bin'}:{os.environ['PATH']}", "RATTLE": self.toolchain}
         with out.open("w") as one, err.open("w") as other:
             how = {"cwd": self.path, "stdin": subprocess.DEVNULL, "stdout": one, "stderr": other, "env": environment}
             run = subprocess.Popen(["sh", "-ec", commands], start_new_session=True, **how)
@@ -126,6 +135,7 @@ class Folder:
         self.said = said()
         if is_bridge and run.poll() is None:
             self.bridges.append(run)
+            self.start = commands
         elif run.returncode != STATUSES.get(commands, 0):
             fail(f"{where}: it ends with status {run.returncode}\n{''.join(self.said)}")
 
@@ -136,6 +146,14 @@ class Folder:
         own = "".join(line for line in err.splitlines(keepends=True) if not line.startswith("./confbridge: "))
         if is_whole and wanted not in (out, own) or not is_whole and wanted not in f"\n{out}":
             differs(where, wanted, out + err)
+
+    def renew(self, where):
+        """Ends the bridge that runs, and starts another one as it was started, once the ports are free."""
+        self.end()
+        end = time.monotonic() + PATIENCE
+        while not are_free() and time.monotonic() < end:
+            time.sleep(0.05)
+        self.run(where, self.start)
 
     def end(self):
         for one in self.bridges:
@@ -153,6 +171,18 @@ def check_said(where, text):
             fail(f"{where}: ./confbridge never says\n{line}")
 
 
+# A wrong body, and the line of the clause that refuses it.
+REFUSED = re.compile(r"rt: must-fail (\w+)/(\S+): refused, .* note: ([^\s:]+):(\d+):")
+
+
+def check_refused(where, text):
+    """The edit of a refusal is there, and a function begins at the line that it names."""
+    crate, edit, file, number = REFUSED.match(text).groups()
+    line = (CRATES / crate / file).read_text().splitlines()[int(number) - 1]
+    if not (CRATES / crate / "must-fail" / edit).exists() or " fn " not in line:
+        fail(f"{where}: {edit} isn't there, or line {number} of {file} is another one: {line}")
+
+
 def check_count(where, text):
     """The last line of the gate counts the crates and the wrong bodies."""
     wanted = f"{len(crates()) + len(list(CRATES.glob('*/must-fail/*.edit')))} passed, 0 failed\n"
@@ -160,11 +190,31 @@ def check_count(where, text):
         differs(where, text, wanted)
 
 
-def check_code(where, text):
-    """A block of code stands in a source, however its lines are broken."""
-    wanted = " ".join(text.split())
-    if not any(wanted in " ".join(path.read_text().split()) for path in CRATES.glob("*/src/**/*.rt")):
-        fail(f"{where}: no source has\n{text}")
+def toolchain():
+    """The folder of the toolchain."""
+    page = subprocess.run(["rt", "doc"], stdout=subprocess.PIPE, check=True).stdout.decode().strip()
+    return str(pathlib.Path(page).parent)
+
+
+# Where a quotation has to stand, by the language of its block.
+HOMES = {"rust": "*/src/**/*.rt", "antt": "*/specs/**/*.antt", "edit": "*/*/*.edit"}
+
+
+# A line of a source that is a comment, and no documentation.
+COMMENT = re.compile(r"^ *// .*\n", re.M)
+
+
+@functools.cache
+def texts_of(language):
+    """The files in which a quotation may stand, without comments between clauses, and with one space for each gap."""
+    return [" ".join(COMMENT.sub("", path.read_text()).split()) for path in CRATES.glob(HOMES[language])]
+
+
+def check_quoted(where, language, text):
+    """Each paragraph of a quotation stands in a file, however its lines are broken."""
+    for part in text.split("\n\n") if language == "antt" else [text]:
+        if not any(" ".join(part.split()) in one for one in texts_of(language)):
+            fail(f"{where}: no file of {HOMES[language]} has\n{part}")
 
 
 class Reader:
@@ -177,21 +227,32 @@ class Reader:
     def take(self, where, language, text):
         if language == "sh":
             self.take_commands(where, text)
-        elif language == "rust":
-            check_code(where, text)
+        elif language in HOMES:
+            check_quoted(where, language, text)
+            self.compared += 1
+        elif language == "text" and text.startswith("rt: must-fail "):
+            check_refused(where, text)
             self.compared += 1
         elif language == "text" and self.commands:
             self.take_text(where, text)
 
     def take_commands(self, where, text):
         self.commands, self.why = text, reason(text)
-        if " serve " in text and not self.why and not (is_free(("127.0.0.1", 7000)) and not self.folder.bridges):
-            self.why = "the port 7000, which is taken"
+        if " serve " in text and not self.why and not (are_free() and not self.folder.bridges):
+            self.why = "the ports 5004 and 7000, of which one is taken"
         if self.why:
             self.left_out.append(f"{where}: {shlex.quote(text.splitlines()[0])} takes {self.why}")
         else:
-            self.folder.run(where, text)
+            self.run_commands(where, text)
             self.compared += 1
+
+    def run_commands(self, where, text):
+        """Runs a block. Before its line that restores a desk, the bridge starts anew."""
+        kept, restores, rest = text.partition("tools/bridge restore ")
+        if restores:
+            self.folder.run(where, kept)
+            self.folder.renew(where)
+        self.folder.run(where, restores + rest if restores else text)
 
     def take_text(self, where, text):
         if text.startswith("./confbridge: "):

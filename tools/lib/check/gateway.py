@@ -1,31 +1,35 @@
 """Holds a call of three browsers and two phones over examples/gateway, and tries what goes wrong.
 
-It starts a bridge, rtpengine, Kamailio and the agent, and first asks for what can't be had: refusals come in words,
-and leaves nothing behind. Then three Chromiums and two baresips are in one room. Each sends a tone, and each browser a
+It starts a bridge, rtpengine, Kamailio and the agent, and first asks for what can't be had: refusals come in words, and
+leave nothing behind. Then three Chromiums and two baresips are in one room. Each sends a tone, and each browser a
 colour, so that what is heard and seen is told apart: mutes, pins, the floor, removals and undos show in all of them. It
-measures how long a new picture takes after an operator's line, loses 2 percent of packets, kills a browser, and starts
-rtpengine and the bridge anew. What isn't installed is named, and its steps are skipped. On Debian the packages are
-rtpengine-daemon, kamailio, kamailio-python3-modules, chromium, baresip-core and ffmpeg. Each check prints a line, `ok`
-or `FAILED`.
+measures how long a new picture takes after an operator's line, has a Firefox and a Linphone join, loses 2 percent of
+packets, kills a browser, and starts rtpengine and the bridge anew. At last a browser and a phone join from behind a
+NAT, which takes leave to make network namespaces. What isn't installed is named, and its steps are skipped. On Debian
+the packages are rtpengine-daemon, kamailio, kamailio-python3-modules, chromium, baresip-core, ffmpeg, firefox-esr,
+pulseaudio, linphone-cli and iptables. Each check prints a line, `ok` or `FAILED`.
 """
 
 import pathlib
-import shutil
 import signal
 import socket
 import statistics
+import sys
 import tempfile
 import time
 
 from lib.check.peers import Checks
 from lib.gateway_call.callers import RATE, PhoneCaller
 from lib.gateway_call.lossy import Lossy
+from lib.gateway_call.others import Others
 from lib.gateway_call.parts import Parts, until
 from lib.gateway_call.refusals import Refusals
+from lib.gateway_call.trial import lacking
 from lib.serving import free_port
 from lib.shared import add_program, fail
+from lib.sip import kamailio_lacks
 
-NEEDS = "the program, rtpengine, and what it names where it skips; four minutes"
+NEEDS = "the program, rtpengine, and what it names where it skips; six minutes"
 
 SWITCHES = 12
 # In ms: the most that a new picture may take, and the share of packets that is lost.
@@ -41,7 +45,7 @@ def options(parser):
     )
 
 
-class Call(Refusals):
+class Call(Refusals, Others):
     """The call of browsers and phones."""
 
     def hold(self, names):
@@ -50,24 +54,33 @@ class Call(Refusals):
             if name in "ABC":
                 self.caller(name).join()
                 continue
-            before, port = self.members(), free_port(socket.SOCK_DGRAM)
-            self.callers[name] = PhoneCaller(name, self.folder, port, f"127.0.0.1:{self.parts.sip_port}")
-            self.comes(lambda: self.members() > before, f"phone {name} is a member", self.rows, 20)
+            self.rings(name, PhoneCaller)
         self.everyone_hears("in one room", show=True)
         for one, wanted in zip(self.browsers(), ("-BC-", "-AC-", "-AB-")):
             self.check(*self.seen(one, wanted, "in one room"))
         self.check_frames()
 
+    def rings(self, name, phone):
+        """A phone joins."""
+        before = self.members()
+        self.callers[name] = phone(name, self.folder, free_port(socket.SOCK_DGRAM), self.parts.sip)
+        self.comes(lambda: self.members() > before, f"phone {name} is a member", self.rows, 20)
+
     def check_frames(self):
-        count = lambda one: sum(one.counts("inbound-rtp", mid).get("framesDecoded", 0) for mid in (2, 3))
-        before = [count(one) for one in self.browsers()]
+        self.check_decoding(self.browsers(), (2, 3))
+
+    def check_decoding(self, browsers, mids):
+        """Whether browsers decode the pictures of these m-sections, and what they lose of the mix and of them."""
+        count = lambda one: sum(one.counts("inbound-rtp", mid).get("framesDecoded", 0) for mid in mids)
+        before = [count(one) for one in browsers]
         time.sleep(4)
-        frames = [count(one) - old for one, old in zip(self.browsers(), before)]
-        self.check(min(frames) > 2 * 4 * RATE / 2, f"browsers decode {frames} frames of two pictures in 4 s", frames)
-        for one in self.browsers():
-            got = [one.counts("inbound-rtp", mid) for mid in (0, 2, 3)]
-            told = ", ".join(f"{each['packetsLost']} of {each['packetsReceived']}" for each in got)
-            print(f"      {one.name} lost of its mix and two pictures: {told} packets")
+        frames = [count(one) - old for one, old in zip(browsers, before)]
+        text = f"{frames} frames of {len(mids)} pictures in 4 s are decoded"
+        self.check(min(frames) > len(mids) * 4 * RATE / 2, text, frames)
+        for one in browsers:
+            got = [one.counts("inbound-rtp", mid) for mid in (0, *mids)]
+            told = ", ".join(f"{each.get('packetsLost')} of {each.get('packetsReceived')}" for each in got)
+            print(f"      {one.name} lost of its mix and {len(mids)} pictures: {told} packets")
 
     def step_mutes(self):
         a, b, c = self.browsers()
@@ -203,15 +216,13 @@ class Call(Refusals):
 
 
 BEFORE = [
-    "try_bad_answers", "try_two_with_one_ssrc", "try_phones_with_one_ssrc", "try_full_and_busy",
-    "try_without_rtpengine",
+    "try_bad_answers", "try_music", "try_two_with_one_ssrc", "try_phones_with_one_ssrc", "try_full_and_busy",
+    "try_without_rtpengine", "try_without_bridge",
 ]  # fmt: skip
-STEPS = ["step_mutes", "step_pins", "step_floor", "step_removals", "step_history", "step_losses", "step_deaths"]
-
-
-def lacking(*programs):
-    missing = [one for one in programs if not shutil.which(one)]
-    return f"there is no {' and no '.join(missing)}" if missing else ""
+STEPS = [
+    "step_mutes", "step_pins", "step_floor", "step_firefox", "step_linphone", "step_removals", "step_history",
+    "step_losses", "step_deaths", "step_nat",
+]  # fmt: skip
 
 
 def hold(trial, args):
@@ -220,18 +231,17 @@ def hold(trial, args):
     for name in BEFORE:
         if args.only in name:
             getattr(trial, name)()
-    if lacking("kamailio"):
-        print(f"skipped: phones ({lacking('kamailio')})")
+    if kamailio_lacks():
+        print(f"skipped: phones (there is no {kamailio_lacks()})")
     else:
         trial.parts.start("kamailio")
-        time.sleep(3)
         trial.try_bad_phones()
     if lacking(args.browser, "ffmpeg"):
         print(f"skipped: the call ({lacking(args.browser, 'ffmpeg')})")
         return
-    no_phones = lacking("kamailio", "baresip")
+    no_phones = kamailio_lacks() or lacking("baresip")
     if no_phones:
-        print(f"skipped: phones in the call ({no_phones})")
+        print("skipped: phones in the call")
     trial.hold("ABC" if no_phones else "ABCDE")
     for name in STEPS:
         if args.only in name:
@@ -241,6 +251,8 @@ def hold(trial, args):
 def run(args):
     if lacking("rtpengine"):
         fail(lacking("rtpengine"))
+    # What was started is ended by `finally`, also where this program is asked to end.
+    signal.signal(signal.SIGTERM, lambda *_: sys.exit(143))
     check = Checks()
     with tempfile.TemporaryDirectory(ignore_cleanup_errors=True) as name:
         trial = Call(args, check, pathlib.Path(name))

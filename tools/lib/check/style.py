@@ -1,9 +1,9 @@
 """Checks how documents and sources are written.
 
-Documents are README.md, CONTRIBUTING.md and docs/. The status is 1 where one has a median sentence of over 16 words, a
-sentence of over 38, a line over 120 columns, or a link that leads nowhere. Code, tables, headings and lists of names
-are no sentences, and a piece of code within a sentence counts as one word. Tables and code may be wider. How many lines
-a document has doesn't matter.
+Documents are README.md, CONTRIBUTING.md, docs/ and the pages of examples/. The status is 1 where one has a median
+sentence of over 16 words, a sentence of over 38, a line over 120 columns, or a link that leads nowhere. Code, tables,
+headings and lists of names are no sentences, and a piece of code within a sentence counts as one word. Tables and code
+may be wider. How many lines a document has doesn't matter.
 
 Of sources the status is 1 where a function of crates/*/src has over 30 lines or over five parameters beside `self`,
 `rt` and `alloc`, or a file over 300 lines (of the page its web files count, not what is made of them), and where a name
@@ -14,8 +14,8 @@ there. And it is 1 where a source of desk_page isn't what `make page` writes fro
 that an edit of edits/ or must-fail/ replaces doesn't stand once in its file, or where a crate that is there to check
 sorts before one of the product.
 
-A line of src/, the page's web files and tools/ has at most 120 columns, if it is more than one text in quotes. Those of
-specs/ and proofs/ may be longer; `make layout` breaks them.
+A line of src/, specs/, proofs/, the page's web files and tools/ has at most 120 columns, if it is more than one text in
+quotes. `make layout` breaks those of specs/ and proofs/.
 """
 
 import collections
@@ -52,7 +52,8 @@ def options(parser):
 
 
 def documents():
-    return [ROOT / "README.md", ROOT / "CONTRIBUTING.md"] + sorted((ROOT / "docs").glob("*.md"))
+    pages = sorted((ROOT / "docs").glob("*.md")) + sorted((ROOT / "examples").glob("*/README.md"))
+    return [ROOT / "README.md", ROOT / "CONTRIBUTING.md", *pages]
 
 
 def without_fences(text):
@@ -144,12 +145,12 @@ def faults_of(path, text, found):
 def check_documents():
     """Prints a line for each document, and what is wrong with it. Whether nothing is."""
     good = True
-    print(f"{'document':24}{'sentences':>10}{'median':>8}{'longest':>9}")
+    print(f"{'document':28}{'sentences':>10}{'median':>8}{'longest':>9}")
     for path in documents():
         text = path.read_text() if path.exists() else ""
         found = list(sentences(text))
         lengths = [count for count, _ in found] or [0]
-        print(f"{path.name:24}{len(found):>10}{statistics.median(lengths):>8g}{max(lengths):>9}")
+        print(f"{str(path.relative_to(ROOT)):28}{len(found):>10}{statistics.median(lengths):>8g}{max(lengths):>9}")
         faults = faults_of(path, text, found) if path.exists() else ["is missing"]
         good = good and not faults
         print("".join(f"  {fault}\n" for fault in faults), end="")
@@ -235,6 +236,7 @@ def check_sources():
 def files_with_lines():
     """The files of which a line may not be too long."""
     yield from sorted(CRATES.glob("*/src/**/*.rt"))
+    yield from sorted(path for folder in ("specs", "proofs") for path in CRATES.glob(f"*/{folder}/**/*.antt"))
     yield from sorted(path for path in TOOLS.glob("**/*") if path.is_file() and "__pycache__" not in path.parts)
     yield from [*sorted(WEB.iterdir()), ROOT / "confbridge", ROOT / ".ci" / "run"]
 

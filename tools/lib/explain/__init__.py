@@ -42,7 +42,7 @@ def options(parser):
         "--udp", metavar="ADDRESS", help="the bridge's `udp`, as an address or a port, where there are several"
     )
     parser.add_argument("--tcp", metavar="ADDRESS", help="the bridge's `tcp`, as an address or a port")
-    parser.add_argument("--desk", metavar="FILE", help="the lines that `show` told when the capture began")
+    parser.add_argument("--desk", metavar="FILE", help="the lines that `show` printed when the capture began")
     parser.add_argument("--program", metavar="PROGRAM", help="compare the models' answers with those of this program")
 
 

@@ -11,7 +11,7 @@ from lib.explain.senders import AUDIO, senders_of, type_name
 # So many differences are told one by one.
 MOST_TOLD = 20
 REASONS = {
-    "unsent": "a lane that was behind followed a later call, or a full ring dropped its item",
+    "unsent": "a lane that was late followed a later call, or a full ring dropped its item",
     "uncaptured": "the capture lost it",
     "extra": "the capture lacks a datagram, or began in a gap",
     "marker": "the packet before it differs",
@@ -185,7 +185,7 @@ class Telling:
             for one in cursor.found
             if self.is_within(one.moment) and self.concerns(self.desks.outs.get(one.stream, (0, None))[1])
         ]
-        yield "\nthe wire beside the model"
+        yield "\nthe wire against the model"
         yield f"  media: {cursor.equal:,} of {total:,} packets are the model's, octet by octet"
         for one in found[:MOST_TOLD]:
             yield f"    {self.seconds(one.moment):8.3f} s  stream {one.stream}, {one.text} ({self.reason(one)})"

@@ -2,43 +2,29 @@
 
 import os
 import re
-import shutil
 import signal
 import socket
 import subprocess
 import sys
-import threading
 
-from lib.fleet_call.parts import FLEET, begun, ended, until
-from lib.serving import free_port, port_of, udp_socket
-
-NEEDED = ["kamailio"]
+from lib.fleet_call.parts import FLEET, Answering, begun, ended, until
+from lib.serving import free_port
+from lib.sip import asked, kamailio_lacks
 
 
-class Sink(threading.Thread):
+class Sink(Answering):
     """A gateway's SIP port, which answers each INVITE with its own name."""
 
     def __init__(self, name):
-        super().__init__(daemon=True)
-        self.name, self.socket, self.got = name, udp_socket(), []
-        self.port = port_of(self.socket)
-        self.start()
+        self.gateway = name
+        super().__init__()
 
-    def run(self):
-        while True:
-            try:
-                octets, sender = self.socket.recvfrom(65536)
-            except OSError:
-                return
-            head = octets.decode().split("\r\n\r\n")[0].split("\r\n")
-            self.got.append(head[0].split(" ")[0])
-            if head[0].startswith("INVITE "):
-                kept = [line for line in head if re.match("(Via|From|To|Call-ID|CSeq|Record-Route):", line)]
-                lines = [f"SIP/2.0 486 {self.name}", *kept, "Content-Length: 0", "", ""]
-                self.socket.sendto("\r\n".join(lines).encode(), sender)
-
-    def close(self):
-        self.socket.close()
+    def answer(self, octets):
+        head = octets.decode().split("\r\n\r\n")[0].split("\r\n")
+        if not head[0].startswith("INVITE "):
+            return None
+        kept = [line for line in head if re.match("(Via|From|To|Call-ID|CSeq|Record-Route):", line)]
+        return "\r\n".join([f"SIP/2.0 486 {self.gateway}", *kept, "Content-Length: 0", "", ""]).encode()
 
 
 class Kamailio:
@@ -57,20 +43,8 @@ class Kamailio:
         self.process = begun([*words, "-w", folder, "-Y", folder], folder / "kamailio.log", environment)
 
     def invite(self, room, id):
-        """The first line of the final answer to an INVITE, None where there is none within two seconds."""
-        with udp_socket() as one:
-            here = f"127.0.0.1:{port_of(one)}"
-            lines = [f"INVITE sip:{room}@127.0.0.1:{self.port} SIP/2.0", f"Via: SIP/2.0/UDP {here};branch=z9hG4bK{id}"]
-            lines += ["From: <sip:test@127.0.0.1>;tag=1", f"To: <sip:{room}@127.0.0.1>", f"Call-ID: {id}"]
-            lines += ["CSeq: 1 INVITE", "Max-Forwards: 70", f"Contact: <sip:test@{here}>", "Content-Length: 0", "", ""]
-            one.settimeout(2)
-            one.sendto("\r\n".join(lines).encode(), ("127.0.0.1", self.port))
-            try:
-                while (first := one.recv(65536).decode().splitlines()[0]).startswith("SIP/2.0 1"):
-                    pass
-                return first
-            except OSError:
-                return None
+        """The first line of the final answer to an INVITE."""
+        return asked("INVITE", room, f"127.0.0.1:{self.port}", id)
 
     def close(self):
         ended(self.process, signal.SIGTERM)
@@ -80,9 +54,8 @@ class Dispatched:
     """The step of a fleet's check that has Kamailio before it."""
 
     def step_dispatcher(self):
-        lacking = [one for one in NEEDED if not shutil.which(one)]
-        if lacking:
-            print(f"skipped: Kamailio's dispatcher (there is no {' and no '.join(lacking)})")
+        if kamailio_lacks():
+            print(f"skipped: Kamailio's dispatcher (there is no {kamailio_lacks()})")
             return
         kamailio = self.begun(Kamailio(self.folder, self.agents["b"].port))
         if until(lambda: kamailio.invite("x", f"first{len(self.parts)}"), 40) is None:

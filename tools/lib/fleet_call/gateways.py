@@ -2,37 +2,28 @@
 
 import itertools
 import json
-import threading
 
-from lib.fleet_call.parts import PAGES, until
+from lib.fleet_call.parts import PAGES, Answering, until
 from lib.gateway_call.parts import Parts
 from lib.gateway_call.refusals import answer_of, offer_of
-from lib.serving import port_of, udp_socket
 
 # The rooms that this uses, and the SSRC of a browser that keeps it: real ones draw another one for each call.
 HERE, THERE, SSRC = 60, 61, 600_000
 
 
-class Engine(threading.Thread):
+class Engine(Answering):
     """The control port of rtpengine, answered as if all media came."""
 
     def __init__(self):
-        super().__init__(daemon=True)
-        self.socket, self.ports, self.calls = udp_socket(), itertools.count(40_000, 2), {}
-        self.port = port_of(self.socket)
-        self.start()
+        self.ports, self.calls = itertools.count(40_000, 2), {}
+        super().__init__()
 
-    def run(self):
-        while True:
-            try:
-                octets, sender = self.socket.recvfrom(65536)
-            except OSError:
-                return
-            cookie, _, words = octets.partition(b" ")
-            said = json.dumps({"result": "ok"} | self.answer(json.loads(words)))
-            self.socket.sendto(cookie + b" " + said.encode(), sender)
+    def answer(self, octets):
+        cookie, _, words = octets.partition(b" ")
+        said = json.dumps({"result": "ok"} | self.told(json.loads(words)))
+        return cookie + b" " + said.encode()
 
-    def answer(self, words):
+    def told(self, words):
         call = words.get("call-id")
         if words["command"] == "offer":
             self.calls[call] = 0
@@ -44,9 +35,6 @@ class Engine(threading.Thread):
         if words["command"] == "delete":
             self.calls.pop(call, None)
         return {}
-
-    def close(self):
-        self.socket.close()
 
 
 class Gateway(Parts):

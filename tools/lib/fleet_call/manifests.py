@@ -43,21 +43,26 @@ class Manifests:
         self.check(("StatefulSet", "confbridge") in kinds, f"{len(kinds)} objects for Kubernetes", kinds)
         config = next(one["data"] for one in self.objects if one["kind"] == "ConfigMap")
         given = {"@IP@": "10.0.0.1", "@NAME@": "confbridge-0", "@FIRST@": "1000000000"}
-        texts = {name: re.sub("@[A-Z]+@", lambda found: given[found[0]], text) for name, text in config.items()}
-        said = settings_of(texts["serve.toml"])
-        self.check(said.startswith("udp 10.0.0.1:5004 and tcp 127.0.0.1:7000"), "the bridge's settings are good", said)
-        own, beside = FLEET.with_name("fleet.toml"), FLEET.parents[1] / "gateway/gateway.toml"
-        for path, one in (own, "fleet.toml"), (beside, "gateway.toml"):
-            here, there = tomllib.loads(path.read_text()), tomllib.loads(texts[one])
-            # Bridges have names of their own.
-            same = all(here[key].keys() == there.get(key, {}).keys() for key in here if key != "bridges")
-            self.check(same, f"{one} has the keys of {path.parent.name}/{path.name}", there)
+        self.read_settings(
+            {name: re.sub("@[A-Z]+@", lambda found: given[found[0]], text) for name, text in config.items()}
+        )
         if not shutil.which("kubectl"):
             print("skipped: kubectl's reading of the manifests (there is no kubectl)")
             return
         for one in self.objects:
             if one["kind"] == "StatefulSet":
                 self.read_by_kubectl(one)
+
+    def read_settings(self, texts):
+        """Whether settings that a scheduler writes are those that the bridge and the agents take."""
+        said = settings_of(texts["serve.toml"])
+        self.check(said.startswith("udp 10.0.0.1:5004 and tcp 127.0.0.1:7000"), "the bridge's settings are good", said)
+        for path in FLEET.with_name("fleet.toml"), FLEET.parents[1] / "gateway/gateway.toml":
+            if path.name in texts:
+                here, there = tomllib.loads(path.read_text()), tomllib.loads(texts[path.name])
+                # Bridges have names of their own.
+                same = all(here[key].keys() == there.get(key, {}).keys() for key in here if key != "bridges")
+                self.check(same, f"{path.name} has the keys of {path.parent.name}/{path.name}", there)
 
     def read_by_kubectl(self, wanted):
         """kubectl's types keep each field: what it doesn't know is lost. Its other dry runs ask a cluster."""
@@ -77,6 +82,14 @@ class Manifests:
         print("skipped: podman kube play (this check builds no image)")
 
     def step_nomad(self):
+        """The settings that the job writes, whether or not Nomad is here to read the job."""
+        form = r'destination = "local/(\S+)"\n +data += <<-SETTINGS\n(.*?)\n +SETTINGS'
+        texts = dict(re.findall(form, NOMAD.read_text(), re.DOTALL))
+        given = {"NOMAD_IP_udp": "10.0.0.1", "NOMAD_IP_agent": "10.0.0.1", "NOMAD_ALLOC_INDEX": "0"}
+        filled = lambda text: re.sub(r'\{\{ env "(\w+)" \}\}', lambda found: given[found[1]], text)
+        self.read_settings(
+            {name: re.sub("^ +", "", filled(text), flags=re.MULTILINE) for name, text in texts.items()}
+        )
         if not shutil.which("nomad"):
             print("skipped: Nomad's job (there is no nomad)")
             return
@@ -88,7 +101,8 @@ class Manifests:
         if not shutil.which("systemd-analyze"):
             print("skipped: the units (there is no systemd-analyze)")
             return
-        for path in sorted(FLEET.with_name("systemd").glob("*.service")):
+        # Those of the bridge, of its page and of the gateway too.
+        for path in sorted(FLEET.parents[1].rglob("*.service")):
             # A unit of a name is read as one of its instances.
             copy = self.folder / path.name.replace("@.", "@a.")
             # The programs needn't be installed where this is tried.

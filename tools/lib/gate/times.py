@@ -25,7 +25,7 @@ EVERY = 0.25
 
 
 def options(parser):
-    parser.add_argument("command", nargs="*", metavar="COMMAND", help="what to run, behind `--` (`rt ci` if not given)")
+    parser.add_argument("command", nargs="*", metavar="COMMAND", help="what to run, after `--` (`rt ci` if not given)")
 
 
 def text_of(path):

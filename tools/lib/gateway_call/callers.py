@@ -1,18 +1,23 @@
 """Callers of a gateway: browsers and phones that each send a tone of their own, and hear which tones come."""
 
+import contextlib
 import glob
 import math
+import os
+import pathlib
 import struct
 import subprocess
 import time
 import wave
 
 from lib.browser import Browser
+from lib.firefox import Firefox
 from lib.shared import fail
 
+PROBE = pathlib.Path(__file__).with_name("probe.js").read_text()
 # The tone of each caller in Hz. A browser's picture has a colour of its own besides.
-TONES = {"A": 440, "B": 1000, "C": 1500, "D": 700, "E": 2200}
-COLOURS = {"A": "red", "B": "blue", "C": "green"}
+TONES = {"A": 440, "B": 1000, "C": 1500, "D": 700, "E": 2200, "F": 2750, "L": 3300}
+COLOURS = {"A": "red", "B": "blue", "C": "green", "F": "yellow"}
 # The share of full sound that each sends. All together are no full sound, which would be clamped.
 LEVEL = 0.15
 WIDTH, HEIGHT, RATE = 320, 240, 15
@@ -53,31 +58,13 @@ class Caller:
                 return heard == names and quiet, levels
 
 
-class BrowserCaller(Caller, Browser):
-    """Chromium at the gateway's page, whose camera and microphone are files."""
-
-    def __init__(self, name, command, folder, probe):
-        self.name, self.colour, self.joined = name, COLOURS[name], None
-        voice, camera = folder / f"{name}.wav", folder / f"{name}.mjpeg"
-        write_tone(voice, TONES[name], 48000, 2)
-        source = f"testsrc2=size={WIDTH}x{HEIGHT}:rate={RATE}:duration=4"
-        paint = f"drawbox=0:0:iw:{HEIGHT // 2}:{self.colour}:fill"
-        made = ["-f", "lavfi", "-i", source, "-vf", paint, "-c:v", "mjpeg", "-q:v", "5", "-pix_fmt", "yuvj420p", camera]
-        subprocess.run(["ffmpeg", "-v", "error", "-y", *made], check=True)
-        flags = [
-            "--use-fake-ui-for-media-stream",
-            "--use-fake-device-for-media-stream",
-            "--autoplay-policy=no-user-gesture-required",
-        ]
-        flags += [f"--use-file-for-fake-audio-capture={voice}", f"--use-file-for-fake-video-capture={camera}"]
-        # A machine may have no address but loopback.
-        super().__init__(command, folder, [*flags, "--allow-loopback-in-peer-connection"])
-        self.probe = probe
+class AtPage(Caller):
+    """A browser at the gateway's page."""
 
     def at_page(self, page, room=1):
         self.open(f"{page}/?room={room}&plain&name={self.name}")
         self.wait("document.readyState === 'complete' && !!document.getElementById('join')", 60)
-        self.run(self.probe)
+        self.run(PROBE)
 
     def join(self):
         """Presses Join once no call is left, and waits until the page is a member or says why it isn't."""
@@ -92,6 +79,10 @@ class BrowserCaller(Caller, Browser):
 
     def leave(self):
         self.run("document.getElementById('leave').click()")
+
+    def names(self):
+        """The names that the page shows."""
+        return self.run("document.getElementById('heard').textContent + document.getElementById('pictures').innerText")
 
     def says(self):
         return self.run("document.getElementById('state').textContent")
@@ -122,47 +113,107 @@ class BrowserCaller(Caller, Browser):
         return self.run(f"counts('{kind}', '{mid}')")
 
 
-class PhoneCaller(Caller):
-    """baresip, which plays a file and writes what it hears to another."""
+class BrowserCaller(AtPage, Browser):
+    """Chromium, whose camera and microphone are files."""
+
+    def __init__(self, name, command, folder, flags=()):
+        self.name, self.joined = name, None
+        voice, camera = folder / f"{name}.wav", folder / f"{name}.mjpeg"
+        write_tone(voice, TONES[name], 48000, 2)
+        source = f"testsrc2=size={WIDTH}x{HEIGHT}:rate={RATE}:duration=4"
+        paint = f"drawbox=0:0:iw:{HEIGHT // 2}:{COLOURS[name]}:fill"
+        made = ["-f", "lavfi", "-i", source, "-vf", paint, "-c:v", "mjpeg", "-q:v", "5", "-pix_fmt", "yuvj420p", camera]
+        subprocess.run(["ffmpeg", "-v", "error", "-y", *made], check=True)
+        faked = ["--use-fake-ui-for-media-stream", "--use-fake-device-for-media-stream"]
+        faked += [f"--use-file-for-fake-audio-capture={voice}", f"--use-file-for-fake-video-capture={camera}"]
+        # A machine may have no address but loopback.
+        own = ["--autoplay-policy=no-user-gesture-required", "--allow-loopback-in-peer-connection"]
+        super().__init__(command, folder, [*faked, *own, *flags])
+
+
+class FirefoxCaller(AtPage, Firefox):
+    """Firefox, whose camera and microphone the page makes."""
+
+    def __init__(self, name, command, folder):
+        self.name, self.joined = name, None
+        super().__init__(command, folder)
+
+    def at_page(self, page, room=1):
+        super().at_page(page, room)
+        self.run(f"makeDevices({TONES[self.name]}, {LEVEL}, '{COLOURS[self.name]}')")
+
+
+class Phone(Caller):
+    """A phone that plays a file with a tone, and writes what it hears to another."""
 
     RATE = 8000
 
-    def __init__(self, name, folder, port, sip):
+    def __init__(self, name, folder):
         self.name, self.folder = name, folder / name
-        self.folder.mkdir()
+        self.folder.mkdir(parents=True)
         write_tone(self.folder / "tone.wav", TONES[name], self.RATE, 900)
-        found = [
-            path for at in ("/usr/lib", "/usr/lib/*", "/usr/local/lib") for path in glob.glob(f"{at}/baresip/modules")
-        ]
-        modules = [f"module_path {found[0]}" if found else ""] + [
-            f"module {one}.so" for one in ("g711", "aufile", "aubridge", "sndfile")
-        ]
-        modules += ["module_app account.so", "module_app menu.so"]
-        config = [
-            f"sip_listen 127.0.0.1:{port}",
-            f"audio_source aufile,{self.folder}/tone.wav",
-            "audio_player aubridge,one",
-            *modules,
-        ]
-        config += ["audio_alert aubridge,two", f"snd_path {self.folder}", f"rtp_ports {port + 10}-{port + 30}"]
-        (self.folder / "config").write_text("".join(f"{line}\n" for line in config))
-        (self.folder / "accounts").write_text(f"<sip:{name}@127.0.0.1>;regint=0\n")
-        (self.folder / "contacts").write_text("")
-        self.log = self.folder / "log"
-        words = ["baresip", "-f", self.folder, "-e", f"/dial sip:1@{sip}"]
-        self.process = subprocess.Popen(
-            words, stdin=subprocess.DEVNULL, stdout=self.log.open("w"), stderr=subprocess.STDOUT
-        )
+
+    def begin(self, words, **more):
+        self.log = (self.folder / "log").open("w")
+        self.process = subprocess.Popen(words, stdout=self.log, stderr=subprocess.STDOUT, **more)
 
     def levels(self):
         """Of the last half second that it wrote."""
         time.sleep(0.6)
-        files = sorted(self.folder.glob("dump*dec.wav"))
-        octets = files[-1].read_bytes()[44:] if files else b""
-        sound = [sample for sample, in struct.iter_unpack("<h", octets[: len(octets) // 2 * 2][-self.RATE :])]
-        return {name: round(level(sound, hertz, self.RATE), 4) for name, hertz in TONES.items()}
+        files = sorted(self.folder.glob(self.HEARD))
+        octets = files[-1].read_bytes() if files else bytes(44)
+        rate, octets = int.from_bytes(octets[24:28], "little"), octets[44:]
+        sound = [sample for sample, in struct.iter_unpack("<h", octets[: len(octets) // 2 * 2][-rate:])]
+        return {name: round(level(sound, hertz, rate or self.RATE), 4) for name, hertz in TONES.items()}
 
     def close(self):
         """Hangs up."""
         self.process.terminate()
         self.process.wait()
+        self.log.close()
+
+
+class PhoneCaller(Phone):
+    """baresip."""
+
+    HEARD = "dump*dec.wav"
+
+    def __init__(self, name, folder, port, sip, ip="127.0.0.1"):
+        super().__init__(name, folder)
+        roots = "/usr/lib", "/usr/lib/*", "/usr/local/lib"
+        found = [path for root in roots for path in glob.glob(f"{root}/baresip/modules")]
+        config = [f"module_path {found[0]}" if found else ""]
+        config += [f"module {one}.so" for one in ("g711", "aufile", "aubridge", "sndfile")]
+        config += ["module_app account.so", "module_app menu.so", f"sip_listen {ip}:{port}"]
+        config += [f"audio_source aufile,{self.folder}/tone.wav", "audio_player aubridge,one"]
+        config += ["audio_alert aubridge,two", f"snd_path {self.folder}", f"rtp_ports {port + 10}-{port + 30}"]
+        (self.folder / "config").write_text("".join(f"{line}\n" for line in config))
+        (self.folder / "accounts").write_text(f"<sip:{name}@127.0.0.1>;regint=0\n")
+        (self.folder / "contacts").write_text("")
+        self.begin(["baresip", "-f", self.folder, "-e", f"/dial sip:1@{sip}"], stdin=subprocess.DEVNULL)
+
+
+class LinphoneCaller(Phone):
+    """Linphone's console."""
+
+    HEARD = "heard.wav"
+
+    def __init__(self, name, folder, port, sip):
+        super().__init__(name, folder)
+        (self.folder / ".local/share/linphone").mkdir(parents=True)
+        settings = f"[sip]\nsip_port={port}\nsip_tcp_port=0\n[rtp]\naudio_rtp_port={port + 10}\n"
+        (self.folder / "settings").write_text(settings)
+        own = os.environ | {"HOME": str(self.folder)}
+        self.begin(["linphonec", "-c", self.folder / "settings"], stdin=subprocess.PIPE, text=True, env=own)
+        self.say("soundcard use files", f"play {self.folder}/tone.wav", f"record {self.folder}/heard.wav")
+        self.say(f"call sip:1@{sip}")
+
+    def say(self, *lines):
+        self.process.stdin.write("".join(f"{line}\n" for line in lines))
+        self.process.stdin.flush()
+
+    def close(self):
+        self.say("terminate", "quit")
+        with contextlib.suppress(subprocess.TimeoutExpired):
+            self.process.wait(5)
+        super().close()

@@ -10,8 +10,9 @@ import time
 import urllib.error
 import urllib.request
 
-from lib.serving import free_port, udp_socket
+from lib.serving import free_port
 from lib.shared import ROOT, fail
+from lib.sip import asked
 
 sys.path.insert(0, str(ROOT / "examples/gateway"))
 
@@ -33,24 +34,26 @@ def until(condition, seconds=10):
 class Parts:
     """rtpengine, Kamailio and an agent, on ports of their own."""
 
-    def __init__(self, folder, udp, tcp, control=None, first_member=1000, fleet=None):
+    def __init__(self, folder, udp, tcp, control=None, first_member=1000, fleet=None, outside="127.0.0.1"):
         self.folder, self.running = folder, {}
         stream, datagram = socket.SOCK_STREAM, socket.SOCK_DGRAM
         self.page_port, self.phones_port, self.sip_port = free_port(stream), free_port(stream), free_port(datagram)
         self.control = control or free_port(datagram)
         self.engine = Rtpengine(("127.0.0.1", self.control))
         self.page, self.path = f"http://127.0.0.1:{self.page_port}", folder / f"gateway{first_member}.toml"
+        # The page and SIP as callers see them who aren't on this machine.
+        self.far_page, self.sip = f"http://{outside}:{self.page_port}", f"{outside}:{self.sip_port}"
         low = 30000 + self.control % 25 * 100
         tables = {
             "bridge": {"udp": f"127.0.0.1:{udp}", "tcp": f"127.0.0.1:{tcp}"},
             "rtpengine": {
                 "control": f"127.0.0.1:{self.control}",
                 "bridge": "127.0.0.1",
-                "outside": "127.0.0.1",
+                "outside": outside,
                 "ports": [low, low + 99],
             },
-            "page": {"listen": f"127.0.0.1:{self.page_port}", "sites": [self.page]},
-            "phones": {"listen": f"127.0.0.1:{self.sip_port}", "agent": f"127.0.0.1:{self.phones_port}"},
+            "page": {"listen": f"0.0.0.0:{self.page_port}", "sites": [self.page, self.far_page]},
+            "phones": {"listen": self.sip, "agent": f"127.0.0.1:{self.phones_port}"},
             "calls": {
                 "pictures": 3,
                 "open_rooms": fleet is None,
@@ -77,6 +80,8 @@ class Parts:
             fail("the agent serves no page")
         if part == "rtpengine" and until(self.pings, 60) is None:
             fail("rtpengine doesn't answer")
+        if part == "kamailio" and until(lambda: asked("OPTIONS", "1", self.sip, "up"), 60) is None:
+            fail("Kamailio doesn't answer")
 
     def stop(self, part, by=signal.SIGTERM):
         one = self.running.pop(part)
@@ -119,31 +124,4 @@ class Parts:
 
     def invite(self, body, id, room="1"):
         """The first line of the final answer to a phone's INVITE."""
-        with udp_socket() as one:
-            port = one.getsockname()[1]
-            head = [
-                f"INVITE sip:{room}@127.0.0.1:{self.sip_port} SIP/2.0",
-                f"Via: SIP/2.0/UDP 127.0.0.1:{port};branch=z9hG4bK{id}",
-            ]
-            head += [
-                "From: <sip:test@127.0.0.1>;tag=1",
-                f"To: <sip:{room}@127.0.0.1>",
-                f"Call-ID: {id}",
-                "CSeq: 1 INVITE",
-                "Max-Forwards: 70",
-            ]
-            head += [
-                f"Contact: <sip:test@127.0.0.1:{port}>",
-                "Content-Type: application/sdp",
-                f"Content-Length: {len(body)}",
-                "",
-                body,
-            ]
-            one.settimeout(20)
-            one.sendto("\r\n".join(head).encode(), ("127.0.0.1", self.sip_port))
-            try:
-                while (first := one.recv(65536).decode().splitlines()[0]).startswith("SIP/2.0 1"):
-                    pass
-            except TimeoutError:
-                first = "SIP/2.0 408 Kamailio doesn't answer"
-            return first
+        return asked("INVITE", room, self.sip, id, body, 20) or "SIP/2.0 408 Kamailio doesn't answer"

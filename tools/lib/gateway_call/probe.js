@@ -6,21 +6,48 @@ const camera = navigator.mediaDevices.getUserMedia.bind(navigator.mediaDevices);
 const small = { width: 320, height: 240, frameRate: 15 };
 navigator.mediaDevices.getUserMedia = ({ audio }) => camera({ audio, video: small });
 
+// Devices for a browser that takes no files for them: a tone, and a picture of 15 frames a second whose upper half has
+// a colour.
+window.makeDevices = (tone, level, colour) => {
+  const context = new AudioContext(), wave = context.createOscillator(), gain = context.createGain();
+  const voice = context.createMediaStreamDestination();
+  wave.frequency.value = tone;
+  gain.gain.value = level;
+  wave.connect(gain).connect(voice);
+  wave.start();
+  const canvas = Object.assign(document.createElement("canvas"), { width: 320, height: 240 });
+  const paint = canvas.getContext("2d");
+  setInterval(() => {
+    paint.fillStyle = colour;
+    paint.fillRect(0, 0, 320, 120);
+    paint.fillStyle = `hsl(${performance.now() / 10 % 360} 50% 50%)`;
+    paint.fillRect(0, 120, 320, 120);
+  }, 1000 / 15);
+  const tracks = [...voice.stream.getTracks(), ...canvas.captureStream(15).getTracks()];
+  navigator.mediaDevices.getUserMedia = async () => new MediaStream(tracks.map(track => track.clone()));
+};
+
+// What colour the upper half of a frame or a video has.
+const shades = new OffscreenCanvas(16, 12).getContext("2d", { willReadFrequently: true });
+function colourOf(picture) {
+  shades.drawImage(picture, 0, 0, 16, 12);
+  const [r, g, b] = shades.getImageData(8, 2, 1, 1).data;
+  if (r > 150 && g > 150) return "yellow";
+  return r > g && r > b ? "red" : b > g ? "blue" : "green";
+}
+
 // Each decoded frame of a slot, before it is drawn: when the last one came, how many came, when the picture changed.
 window.shown = {};
 window.watchFrames = () => {
   for (const { mid, receiver } of call.peer.getTransceivers()) {
-    if (mid === "0" || shown[mid - 1]) continue;
+    if (mid === "0" || shown[mid - 1] || !window.MediaStreamTrackProcessor) continue;
     const slot = shown[mid - 1] = { frames: 0, last: 0, colour: "", changes: [] };
     const reader = new MediaStreamTrackProcessor({ track: receiver.track.clone() }).readable.getReader();
-    const canvas = new OffscreenCanvas(16, 12).getContext("2d", { willReadFrequently: true });
     const next = ({ value: frame, done }) => {
       if (done) return;
       const at = performance.timeOrigin + performance.now();
-      canvas.drawImage(frame, 0, 0, 16, 12);
+      const colour = colourOf(frame);
       frame.close();
-      const [r, g, b] = canvas.getImageData(8, 2, 1, 1).data;
-      const colour = r > g && r > b ? "red" : b > g ? "blue" : "green";
       // After half a second without a frame the same picture is a new one.
       if (colour !== slot.colour || at - slot.last > 500) slot.changes.push([at, colour]);
       Object.assign(slot, { colour, last: at, frames: slot.frames + 1 });
@@ -30,8 +57,23 @@ window.watchFrames = () => {
   }
 };
 
-// The colours of the slots that show something now, by slot.
-window.colours = () => {
+// How many frames of each slot were decoded.
+async function decoded() {
+  const stats = [...(await call.peer.getStats()).values()];
+  const pictures = stats.filter(one => one.type === "inbound-rtp" && one.mid > 0);
+  return Object.fromEntries(pictures.map(one => [one.mid - 1, one.framesDecoded || 0]));
+}
+
+// The colours of the slots that show something now, by slot. Where a page can't have frames before they are drawn, they
+// are read from what its slots show, if frames come.
+window.colours = async () => {
+  if (!window.MediaStreamTrackProcessor) {
+    const before = await decoded();
+    await new Promise(done => setTimeout(done, 700));
+    const coming = Object.entries(await decoded()).filter(([slot, count]) => count > before[slot]);
+    const video = slot => document.querySelector(slot === "0" ? "#stage video" : `#slot${slot} video`);
+    return Object.fromEntries(coming.map(([slot]) => [slot, colourOf(video(slot))]));
+  }
   const now = performance.timeOrigin + performance.now();
   const showing = Object.entries(shown).filter(([, slot]) => now - slot.last < 700);
   return Object.fromEntries(showing.map(([at, slot]) => [at, slot.colour]));

@@ -17,20 +17,13 @@ def offer_of(media):
     return "\r\n".join(["v=0", "o=- 1 1 IN IP4 127.0.0.1", "s=-", "c=IN IP4 127.0.0.1", "t=0 0", *media, ""])
 
 
-def answer_of(types="0", port=9, mux=True, ssrc=777, kind="audio"):
+def answer_of(types="0", port=9, mux=True, ssrc=777, kind="audio", dtls=True):
     """A browser's answer that names what matters, but for the candidates."""
     print_ = ":".join(["AB"] * 32)
-    own = [
-        "a=ice-ufrag:abcd",
-        "a=ice-pwd:abcdefghijklmnopqrstuvwx",
-        f"a=fingerprint:sha-256 {print_}",
-        "a=setup:active",
-        "a=mid:0",
-        "a=sendrecv",
-    ]
-    return offer_of(
-        [f"m={kind} {port} UDP/TLS/RTP/SAVPF {types}", *own, *(["a=rtcp-mux"] if mux else []), f"a=ssrc:{ssrc} cname:x"]
-    )
+    own = ["a=ice-ufrag:abcd", "a=ice-pwd:abcdefghijklmnopqrstuvwx", "a=mid:0", "a=sendrecv", f"a=ssrc:{ssrc} cname:x"]
+    own += [f"a=fingerprint:sha-256 {print_}", "a=setup:active"] if dtls else []
+    own += ["a=rtcp-mux"] if mux else []
+    return offer_of([f"m={kind} {port} UDP/TLS/RTP/SAVPF {types}", *own])
 
 
 class RawPhone:
@@ -71,6 +64,7 @@ class Refusals(Trial):
         self.refused("an answer with a camera alone", "needs audio", self.joins(kind="video", types="96"))
         self.refused("an answer with PCMA alone", "PCMU", self.joins(types="8"))
         self.refused("an answer without rtcp-mux", "rtcp-mux", self.joins(mux=False))
+        self.refused("an answer without encryption", "DTLS-SRTP", self.joins(dtls=False))
         self.refused("a room that is no number", "number", self.joins(room="one"))
         self.refused(
             "a page of another site",
@@ -82,6 +76,14 @@ class Refusals(Trial):
             status == 200 and until(lambda: self.parts.calls() == 0, 12) is not None,
             "an offer that nobody answers goes again",
         )
+
+    def try_music(self):
+        self.do("add-room 44 44100")
+        before, (status, words) = self.rows(), self.joins(room="44")
+        print(f"      {status}: {words}")
+        self.check(status == 503 and "music" in words, "a room for music is told in words", words)
+        self.check(self.rows() == before and self.parts.calls() == 0, "and the refused leaves nothing behind")
+        self.do("remove-room 44")
 
     def try_two_with_one_ssrc(self):
         status, told = self.parts.ask("offer", room="1", name="first")
@@ -185,3 +187,15 @@ class Refusals(Trial):
             words,
         )
         self.parts.start("rtpengine")
+
+    def try_without_bridge(self):
+        self.bridge.kill()
+        self.bridge.wait()
+        status, words = self.joins()
+        print(f"      {status}: {words}")
+        good = status == 503 and "The bridge doesn't answer" in words
+        self.check(good, "a bridge that is gone is told in words", words)
+        self.check(self.parts.calls() == 0, "and rtpengine has no call")
+        self.restart_bridge()
+        self.check(until(lambda: self.joins()[0] == 200, 60) is not None, "once it is back, one joins")
+        self.check(until(lambda: not self.rows(), 15) is not None, "and is no member once nothing comes", self.rows())

@@ -1,6 +1,6 @@
 """A bridge with an operator, the parts of the gateway, and callers."""
 
-import pathlib
+import shutil
 import socket
 import time
 
@@ -9,7 +9,11 @@ from lib.gateway_call.parts import Parts, until
 from lib.serving import Operator, settings, started
 from lib.shared import fail, release_program
 
-PROBE = pathlib.Path(__file__).with_name("probe.js")
+
+def lacking(*programs):
+    """Which of these programs aren't installed, in words."""
+    missing = [one for one in programs if not shutil.which(one)]
+    return f"there is no {' and no '.join(missing)}" if missing else ""
 
 
 class Trial:
@@ -35,6 +39,11 @@ class Trial:
     def members(self):
         return sum(row.startswith("member ") for row in self.rows())
 
+    def last_member(self):
+        """The number of the member that joined last."""
+        members = [row.split()[1:3] for row in self.rows() if row.startswith("member ")]
+        return max(members, key=lambda one: int(one[0]))[1]
+
     def do(self, line):
         """The number of a call that has to be accepted."""
         said = self.operator.ask(line)
@@ -45,10 +54,9 @@ class Trial:
     def undo(self, number):
         return self.do(f"undo {number}")
 
-    def caller(self, name, parts=None):
-        one = BrowserCaller(name, self.args.browser, self.folder, PROBE.read_text())
-        self.callers[name] = one
-        one.at_page((parts or self.parts).page)
+    def caller(self, name):
+        one = self.callers[name] = BrowserCaller(name, self.args.browser, self.folder)
+        one.at_page(self.parts.page)
         return one
 
     def comes(self, condition, text, seen=lambda: "", seconds=10):

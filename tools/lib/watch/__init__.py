@@ -46,7 +46,7 @@ def options(parser):
     )
     parser.add_argument("--listen", metavar="ADDRESS", help="answer Prometheus at this address, such as 127.0.0.1:9100")
     parser.add_argument(
-        "--every", type=float, default=2, metavar="SECONDS", help="how often the table is told (%(default)s)"
+        "--every", type=float, default=2, metavar="SECONDS", help="how often the table is printed (%(default)s)"
     )
     parser.add_argument("--seconds", type=float, default=float("inf"), help="how long it watches")
 
