@@ -7,7 +7,7 @@ import threading
 import time
 
 import sdp
-from desk import Desk, in_words
+from desk import Desk, Rows, in_words
 from fleet_rooms import LEAST, Fleet
 from refused import Refused
 from rtpengine import Rtpengine
@@ -43,6 +43,11 @@ class Call:
         self.packets, self.alive = 0, time.monotonic()
 
 
+def shown(slots, cameras):
+    """The commands by which cameras are seen in slots, as far as there are both."""
+    return [f"subscribe {slot} {camera}" for slot, camera in zip(slots, cameras)]
+
+
 class Calls:
     def __init__(self, settings):
         self.settings, self.bridge = settings["calls"], settings["bridge"]["udp"]
@@ -52,9 +57,26 @@ class Calls:
         first = self.settings["first_member"]
         self.numbers = range(LEAST, 2**32) if self.fleet else range(first, first + NUMBERS)
         # The calls by their ids, and why the last ones ended. One change at a time is made to them and to the desk.
-        self.calls, self.ended, self.lock = {}, {}, threading.RLock()
+        self.by_id, self.ended, self.lock = {}, {}, threading.RLock()
+        # The desk as it was last read.
+        self.seen = Rows()
         # Members that have to go from the desk, with their cameras, and the rooms that the agent added.
         self.leaving, self.own_rooms = [], set()
+
+    def __iter__(self):
+        return iter(list(self.by_id.values()))
+
+    def rows(self):
+        """Reads the desk. What an agent before this one left behind has to go, and all calls of an earlier bridge."""
+        with self.lock:
+            before, self.seen = self.seen, self.desk.rows()
+            if before.version < 0 or self.fleet:
+                known = {call.member for call in self} | {member for member, _ in self.leaving}
+                self.leaving += [(one, None) for one in self.seen.members if one in self.numbers and one not in known]
+            if self.seen.version < before.version:
+                self.end_all("The bridge has been restarted. Press Join to come back.")
+            self.clear()
+            return self.seen
 
     # Joining
 
@@ -81,7 +103,7 @@ class Calls:
 
     def phone(self, id, room, name, text):
         """Takes a phone's offer, makes it a member, and answers. A phone offers again to hold the call, or to move."""
-        call = self.calls.get(id) or self.begin("phone", room, name, 0, id)
+        call = self.by_id.get(id) or self.begin("phone", room, name, 0, id)
         with self.whole_or_not(call):
             found = sdp.demand(text, from_browser=False)
             ways = {"ICE": "remove", "rtcp_mux": MUX, "direction": ["outside", "bridge"]}
@@ -99,9 +121,9 @@ class Calls:
         if self.fleet:
             self.fleet.demand(room)
         with self.lock:
-            if len(self.calls) >= self.settings["most"]:
+            if len(self.by_id) >= self.settings["most"]:
                 raise Refused("The gateway has as many calls as it may have. Try again when somebody has left.")
-            call = self.calls[id] = Call(side, room, name, slots, id)
+            call = self.by_id[id] = Call(side, room, name, slots, id)
         return call
 
     @contextlib.contextmanager
@@ -120,16 +142,12 @@ class Calls:
         if self.fleet:
             self.arrive(call.room)
         with self.lock:
-            if call.id not in self.calls or call.member is not None:
-                raise Refused("This call has ended, or you have joined it already.", 410)
             # What a member that has to go has, its number and its SSRCs, is free only then.
-            if self.fleet:
-                self.tidy(self.desk.rows())
-            self.clear()
+            self.rows()
+            if call.id not in self.by_id or call.member is not None:
+                raise Refused(self.ended.get(call.id, "You have joined this call already."), 410)
             for _ in range(3):
                 rows = self.desk.rows()
-                if call.room not in rows.rooms and self.fleet:
-                    raise Refused(f"Room {call.room} is on its way to a bridge. Join again in a second.")
                 if call.room not in rows.rooms and not self.settings["open_rooms"]:
                     raise Refused(f"There is no room {call.room}.", 404)
                 member = next(one for one in itertools.count(self.settings["first_member"]) if one not in rows.members)
@@ -140,6 +158,7 @@ class Calls:
                 if refusal is None:
                     call.member, call.alive = member, time.monotonic()
                     self.own_rooms |= {call.room} - rows.rooms
+                    self.seen = self.desk.rows()
                     log(f"{call.side} {call.name!r} has joined room {call.room} as member {member}")
                     return
                 # Where an operator has changed the desk meanwhile: again on what it is now.
@@ -154,6 +173,7 @@ class Calls:
                 return
             self.fleet.demand(room)
             time.sleep(0.1)
+        raise Refused(f"Room {room} is on its way to a bridge. Join again in a second.")
 
     def joining(self, call, member, address, rows):
         """The commands by which a call becomes a member, sees the others of its room, and they it."""
@@ -163,24 +183,21 @@ class Calls:
         group += [f"add-source {ssrc} {member} {kind}" for ssrc, kind in sources if ssrc is not None]
         group += [f"add-slot {slot} {member} {index} {numbers()}" for index, slot in enumerate(call.slots)]
         others = self.in_room(call.room, rows)
-        cameras = [other.camera for other in others if other.camera is not None]
-        group += [f"subscribe {slot} {camera}" for slot, camera in zip(call.slots[1:], cameras)]
+        group += shown(call.slots[1:], [other.camera for other in others if other.camera is not None])
         for other in others if call.camera is not None else []:
-            free = [slot for slot in other.slots[1:] if slot not in rows.subs]
-            group += [f"subscribe {slot} {call.camera}" for slot in free[:1]]
+            group += shown([slot for slot in other.slots[1:] if slot not in rows.subs], [call.camera])
         return group[:LONGEST_GROUP]
 
     def in_room(self, room, rows):
         """The calls whose members are in a room, as they joined. An operator may have moved or removed a member."""
-        calls = self.calls.values()
-        return [one for one in calls if one.member is not None and rows.members.get(one.member) == room]
+        return [one for one in self if rows.members.get(one.member) == room]
 
     # Leaving
 
     def end(self, call, why):
         """Ends a call, and takes its member from the desk."""
         with self.lock:
-            if self.calls.pop(call.id, None) is None:
+            if self.by_id.pop(call.id, None) is None:
                 return
             self.ended = dict([*self.ended.items(), (call.id, why)][-1000:])
             if call.member is not None:
@@ -191,11 +208,9 @@ class Calls:
         with contextlib.suppress(Refused):
             self.engine.ask("delete", call_id=call.id, delete_delay=0)
 
-    def tidy(self, rows):
-        """Takes away members without a call: an agent before this one, or one of another bridge, left them behind."""
-        with self.lock:
-            known = {call.member for call in self.calls.values()} | {member for member, _ in self.leaving}
-            self.leaving += [(one, None) for one in rows.members if one in self.numbers and one not in known]
+    def end_all(self, why):
+        for call in self:
+            self.end(call, why)
 
     def clear(self):
         """Takes the members that have to go from the desk. Where the desk is out of reach, the watch tries again."""
@@ -214,8 +229,7 @@ class Calls:
         for other in others:
             seen = {rows.subs.get(slot) for slot in other.slots} | {other.camera, None}
             unseen = [one.camera for one in others if one.camera not in seen]
-            free = [slot for slot in other.slots if rows.subs.get(slot) == camera and camera is not None]
-            group += [f"subscribe {slot} {source}" for slot, source in zip(free, unseen)]
+            group += shown([slot for slot in other.slots if (slot, camera) in rows.subs.items()], unseen)
         if (room in self.own_rooms or self.fleet) and list(rows.members.values()).count(room) == 1:
             self.own_rooms.discard(room)
             group.append(f"remove-room {room}")

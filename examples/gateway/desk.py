@@ -25,9 +25,9 @@ def in_words(refusal):
 
 
 class Rows:
-    """The desk at one version."""
+    """The desk at one version. By default it is as nobody has read it yet."""
 
-    def __init__(self, lines):
+    def __init__(self, lines=("end -1",)):
         rows = [line.split() for line in lines]
         self.version = int(rows[-1][1])
         self.rooms = {int(row[1]) for row in rows if row[0] == "room"}

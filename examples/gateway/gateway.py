@@ -22,10 +22,10 @@ import threading
 import tomllib
 
 from calls import Calls, log
-from parts import kamailio, rtpengine
 from watch import Watch
 from web import ForBrowsers, ForKamailio, served
 
+FOLDER = pathlib.Path(__file__).resolve().parent
 ADDRESSES = [("bridge", "udp"), ("bridge", "tcp"), ("rtpengine", "control"), ("page", "listen"), ("phones", "agent")]
 
 
@@ -39,21 +39,43 @@ def read(path):
 
 
 def agent(settings, _):
+    """Runs until it is asked to end."""
+    ends = signal.SIGINT, signal.SIGTERM
+    signal.pthread_sigmask(signal.SIG_BLOCK, ends)
     calls = Calls(settings)
     watch, page = Watch(calls), settings["page"]
     servers = [
         served(ForBrowsers, page["listen"], calls=calls, watch=watch, sites=page["sites"]),
-        served(ForKamailio, settings["phones"]["agent"], calls=calls, sites=[None]),
+        served(ForKamailio, settings["phones"]["agent"], calls=calls),
     ]
     log(f"the page is {page['sites'][0]}/?room=1")
-    stopped = threading.Event()
-    for number in signal.SIGINT, signal.SIGTERM:
-        signal.signal(number, lambda *_: stopped.set())
     threading.Thread(target=watch.run, daemon=True).start()
-    stopped.wait()
+    signal.sigwait(ends)
     for server in servers:
         server.server_close()
-    watch.close()
+    calls.end_all("The gateway has been stopped.")
+
+
+def rtpengine(settings, _):
+    """Its command."""
+    own = settings["rtpengine"]
+    # Debian's own file, which names ports of its own, isn't read. Messages go to standard error, warnings and above.
+    command = ["rtpengine", "--config-file=none", "--foreground", "--log-stderr", "--log-level=4"]
+    command += [f"--interface=bridge/{own['bridge']}", f"--interface=outside/{own['outside']}"]
+    command += ["--listen-ng={}:{}".format(*own["control"]), *map("--port-{}={}".format, ("min", "max"), own["ports"])]
+    # In userspace. With the package rtpengine-kernel-dkms, --table=0 forwards in the kernel.
+    command.append("--table=-1")
+    # A call that the agent forgot goes after a minute without a packet. Media are marked as networks know them from
+    # phones: expedited forwarding (RFC 3246).
+    return [*command, "--timeout=60", "--tos=184"]
+
+
+def kamailio(settings, path):
+    """Its command."""
+    # phones.py reads where the agent is from there.
+    os.environ["GATEWAY_SETTINGS"] = str(path)
+    command = ["kamailio", "-DD", "-E", "-f", str(FOLDER / "kamailio.cfg")]
+    return [*command, "-l", f"udp:{settings['phones']['listen']}", "-A", f'SCRIPT="{FOLDER / "phones.py"}"']
 
 
 def main():
@@ -61,7 +83,7 @@ def main():
     parts = {"agent": agent, "rtpengine": rtpengine, "kamailio": kamailio}
     if part not in parts or len(given) > 1:
         sys.exit(__doc__)
-    path = pathlib.Path(given[0] if given else pathlib.Path(__file__).with_name("gateway.toml")).resolve()
+    path = pathlib.Path(given[0] if given else FOLDER / "gateway.toml").resolve()
     try:
         command = parts[part](read(path), path)
         if command:

@@ -29,10 +29,6 @@ def ask(path, **words):
         return None, 503, "The gateway doesn't answer. Try again in a minute."
 
 
-def mod_init():
-    return Script()
-
-
 class Script:
     def child_init(self, rank):
         return 0
@@ -62,3 +58,7 @@ class Script:
             KSR.hdr.append_to_reply(f"Contact: <sip:{room}@{KSR.pv.get('$RAi')}:{KSR.pv.get('$RAp')}>\r\n")
             KSR.textops.set_reply_body(said["sdp"], "application/sdp")
         KSR.tm.t_reply(status, words)
+
+
+# What Kamailio calls for the script.
+mod_init = Script

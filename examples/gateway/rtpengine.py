@@ -1,5 +1,6 @@
 """rtpengine, asked by its control protocol "ng", in JSON: a datagram asks, another one with its cookie answers."""
 
+import contextlib
 import json
 import secrets
 import socket
@@ -24,21 +25,19 @@ class Rtpengine:
             one.settimeout(1)
             # A command that comes again with its cookie is answered again, and not carried out again.
             for _ in range(3):
-                try:
+                with contextlib.suppress(OSError):
                     one.send(cookie + b" " + asked.encode())
-                    said = one.recv(65536)
-                except OSError:
-                    continue
-                if said.startswith(cookie + b" "):
-                    return checked(command, json.loads(said[len(cookie) :]))
+                    own, _, answer = one.recv(65536).partition(b" ")
+                    if own == cookie:
+                        return checked(command, json.loads(answer))
         raise Refused("The media server (rtpengine) doesn't answer. Try again in a minute.")
 
     def received(self, call, side):
         """How many packets came from one side of a call, and the SSRC of the last one where there is one."""
         medias = self.ask("query", call_id=call)["tags"].get(side, {}).get("medias", [])
         streams = [stream for media in medias for stream in media["streams"]]
-        ssrcs = [stream["SSRC"] for stream in streams if "SSRC" in stream]
-        return sum(stream["stats"]["packets"] for stream in streams), ssrcs[0] if ssrcs else None
+        ssrc = next((stream["SSRC"] for stream in streams if "SSRC" in stream), None)
+        return sum(stream["stats"]["packets"] for stream in streams), ssrc
 
 
 def checked(command, answer):

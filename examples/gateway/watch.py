@@ -2,7 +2,6 @@
 
 import contextlib
 import itertools
-import threading
 import time
 
 from calls import log
@@ -14,17 +13,16 @@ from rtpengine import UnknownCall
 class Watch:
     def __init__(self, calls):
         self.calls, self.settings = calls, calls.settings
-        # The desk as it was last seen, what is wrong in words, and since when rtpengine doesn't answer.
-        self.rows, self.trouble, self.engine_lost, self.closed = None, "", None, threading.Event()
+        # What is wrong in words, and when rtpengine last answered.
+        self.trouble, self.answered = "", time.monotonic()
 
     def run(self):
         """Looks at all calls each second, and more often at phones whose SSRC isn't known yet."""
         for turn in itertools.count():
-            if self.closed.wait(0.2):
-                break
+            time.sleep(0.2)
             if turn % 5:
                 with contextlib.suppress(Refused):
-                    for call in list(self.calls.calls.values()):
+                    for call in self.calls:
                         if call.side == "phone" and call.member is not None and call.voice is None:
                             self.look_at(call)
                 continue
@@ -39,37 +37,26 @@ class Watch:
 
     def look(self):
         """Ends the calls that the bridge, rtpengine or the caller has left."""
-        rows = self.calls.desk.rows()
-        if self.rows is None or self.calls.fleet:
-            self.calls.tidy(rows)
-        if self.rows is not None and rows.version < self.rows.version:
-            self.end_all("The bridge has been restarted. Press Join to come back.")
-        self.rows = rows
-        self.calls.clear()
+        rows = self.calls.rows()
         if self.calls.fleet:
             self.follow(rows)
         try:
             self.calls.engine.ask("ping")
-            self.engine_lost = None
         except Refused as why:
-            self.engine_lost = self.engine_lost or time.monotonic()
-            if time.monotonic() - self.engine_lost > self.settings["silence"]:
-                self.end_all(str(why))
+            if time.monotonic() - self.answered > self.settings["silence"]:
+                self.calls.end_all(str(why))
             raise
-        for call in list(self.calls.calls.values()):
+        self.answered = time.monotonic()
+        for call in self.calls:
             self.look_at(call)
 
     def follow(self, rows):
         """Ends the calls whose room has gone to another bridge of the fleet, which tells where it is."""
-        for call in list(self.calls.calls.values()):
+        for call in self.calls:
             call.room = rows.members.get(call.member, call.room)
             words = call.member is not None and call.room not in rows.rooms and self.calls.fleet.moved(call.room)
             if words:
                 self.calls.end(call, words)
-
-    def end_all(self, why):
-        for call in list(self.calls.calls.values()):
-            self.calls.end(call, why)
 
     def look_at(self, call):
         """Asks rtpengine what comes from who calls. A page that asks how things stand is a sign of life too."""
@@ -90,7 +77,7 @@ class Watch:
         """Gives the desk the SSRC under which a phone sends, and a new one where the phone changes it."""
         with self.calls.lock:
             rows = self.calls.desk.rows()
-            if call.id not in self.calls.calls or call.member not in rows.members:
+            if call.id not in self.calls.by_id or call.member not in rows.members:
                 return
             group = [] if call.voice is None else [f"remove-source {call.voice}"]
             group.append(f"add-source {ssrc} {call.member} audio")
@@ -105,15 +92,10 @@ class Watch:
 
     def state(self, call):
         """What a page shows: whose voices and pictures come, and what operators did to its own."""
-        call.alive = time.monotonic()
-        calls = list(self.calls.calls.values())
-        names = {str(ssrc): one.name for one in calls for ssrc in (one.voice, one.camera) if ssrc is not None}
-        told = {"names": names, "trouble": self.trouble, "room": call.room, "muted": []}
-        if self.rows:
-            told["room"] = self.rows.members.get(call.member)
-            told["muted"] = [ssrc for ssrc in (call.voice, call.camera) if ssrc in self.rows.mutes]
-        return told
-
-    def close(self):
-        self.closed.set()
-        self.end_all("The gateway has been stopped.")
+        call.alive, rows = time.monotonic(), self.calls.seen
+        return {
+            "names": {ssrc: one.name for one in self.calls for ssrc in (one.voice, one.camera) if ssrc is not None},
+            "room": rows.members.get(call.member),
+            "muted": [ssrc for ssrc in (call.voice, call.camera) if ssrc in rows.mutes],
+            "trouble": self.trouble,
+        }

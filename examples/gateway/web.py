@@ -15,18 +15,10 @@ POLICY = "default-src 'self'; style-src 'self' 'unsafe-inline'; frame-ancestors 
 
 
 class Handler(http.server.BaseHTTPRequestHandler):
-    """`sites` are the origins that may ask: the page's for browsers, and for Kamailio, which has none, None."""
+    """`served` gives it the calls, the watch, and `sites`, the origins that may ask."""
 
     protocol_version = "HTTP/1.1"
     timeout = 30
-    calls = watch = sites = None
-
-    def do_GET(self):
-        file, kind = FILES.get(self.path.partition("?")[0], (None, None))
-        if file and self.sites != [None]:
-            self.reply(200, kind, (FOLDER / file).read_text())
-        else:
-            self.reply(404, "text/plain", "There is no such page.")
 
     def do_POST(self):
         try:
@@ -57,10 +49,17 @@ class Handler(http.server.BaseHTTPRequestHandler):
 
 
 class ForBrowsers(Handler):
+    def do_GET(self):
+        file, kind = FILES.get(self.path.partition("?")[0], (None, None))
+        if file:
+            self.reply(200, kind, (FOLDER / file).read_text())
+        else:
+            self.reply(404, "text/plain", "There is no such page.")
+
     def carried_out(self, path, words):
         if path == "offer":
             return self.calls.offer(room_of(words), str(words["name"]))
-        call = self.calls.calls.get(words["id"])
+        call = self.calls.by_id.get(words["id"])
         if call is None:
             why = self.calls.ended.get(words["id"], "The gateway has been restarted. Press Join to come back.")
             raise Refused(why, 410)
@@ -70,12 +69,15 @@ class ForBrowsers(Handler):
 
 
 class ForKamailio(Handler):
+    # Kamailio has no origin, and each page of a browser has one.
+    sites = [None]
+
     def carried_out(self, path, words):
         # A browser's id is a secret that the agent drew. A phone's can't be one.
         id = f"phone {words['id']}"
         if path == "phone":
             return self.calls.phone(id, room_of(words), str(words["name"]), words["sdp"])
-        call = self.calls.calls.get(id)
+        call = self.calls.by_id.get(id)
         return call and self.calls.end(call, "It has hung up.")
 
 
