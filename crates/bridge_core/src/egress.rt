@@ -6,6 +6,8 @@ use rtp_codec::Address;
 use std::alloc::{Allocator, Global};
 
 /// What a lane sends for an item.
+// A compound has no field for the stream that it is about. Each egress names that stream besides its octets, so that
+// one sentence holds of all that a lane sends: it is of the lane's own streams.
 #[derive(Drop)]
 pub enum Egress<A: Allocator + Copy = Global> {
     /// An RTP packet of an outgoing stream.

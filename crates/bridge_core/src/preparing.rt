@@ -21,6 +21,8 @@ use std::marker::Model;
 use topology::Receiver;
 
 /// The streams by SSRC.
+// It grows before anything changes, and a new stream moves no other. A stream never ends, so a slot that an undo brings
+// back finds its stream as it was. The hash has no secret key: operators choose the SSRCs, and not the network.
 pub type StreamTable<A> = IndexMap<u32, Stream<A>, BuildHasherDefault<FoldHasher>, A>;
 
 /// A frame that is ready for a receiver, with its stream if that is new.

@@ -27,6 +27,7 @@ pub enum Command {
     ///
     /// Rows that name two different rooms then go: subscriptions and gains of the member and of its sources, the pin of
     /// its source, and its floor.
+    // These are the rows that one would list by hand, and what stays is good by the same test.
     MoveMember {
         /// The member.
         member: u32,
@@ -81,6 +82,8 @@ pub enum Command {
 }
 
 /// What a command does to the rows.
+// Each form has one list of refusals, one equation and one proof. So a command costs rows in tables, and no function of
+// its own.
 #[derive(Clone, Copy)]
 pub enum Form {
     /// Puts the row. A member stands last of all; any other row replaces the one of its key.
@@ -128,6 +131,8 @@ impl Command {
 }
 
 /// A call of an operator.
+// Contracts see a call as `CallOf`, with a list of commands. The value of a `Vec` has its capacity too, so two calls
+// that ask for the same would not be equal.
 #[derive(Drop)]
 pub enum Call<A: Allocator + Copy = Global> {
     /// Carries out a command.

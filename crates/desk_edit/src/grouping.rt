@@ -119,6 +119,8 @@ fn plan_later<A: Allocator + Copy>(
 /// Each command is judged on the desk after those before it. The list has capacity for these edits and no more, since
 /// a history keeps it. Out of memory is reported only if the size is good and the
 /// first command is not refused; later commands may not have been judged then.
+// Which growth of memory was refused is no part of the answer. So the contract can't say when a group of which a later
+// command would be refused gets out of memory instead.
 pub fn plan_group<A: Allocator + Copy>(
     alloc: A,
     rows: &Rows<A>,

@@ -20,6 +20,8 @@ pub enum Table {
 }
 
 /// A reason against a command. The first that holds is reported.
+// A refusal of a group has one of these in it. A `Refusal` that had another `Refusal` in it would need a box, and so
+// memory.
 #[derive(Clone, Copy, Debug, PartialEq, Eq)]
 pub enum Reason {
     /// The row exists, or another one has its address or index.

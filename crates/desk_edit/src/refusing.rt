@@ -66,6 +66,7 @@ fn lacks_any<A: Allocator + Copy>(rows: &Rows<A>, names: Few<Key>) -> Option<Rea
 }
 
 /// The reason against a row if all rows that it names exist.
+// A slot may be subscribed to a source of its own member: no rule of the desk is broken, and the slot shows nothing.
 #[tactic(auto, unfolding(crate::specs::Refusals::rule_cases))]
 fn breaks_rules<A: Allocator + Copy>(rows: &Rows<A>, row: &Row) -> Option<Reason>
     ensures { result ≡ first_case (rule_cases rows.now row.now) }

@@ -63,6 +63,8 @@ fn streams_going<A: Allocator + Copy>(
 const FEW: usize = 8;
 
 /// A removal, with the sources and slots that go.
+// References are followed downwards: members, then their sources and slots, then what names those. A kind is asked only
+// where something goes that its rows name, so that few removals ask each of 65,536 gains.
 #[derive(Drop)]
 pub(crate) struct Gone<'a, A: Allocator + Copy> {
     going: Going<'a, A>,

@@ -10,6 +10,8 @@ use crate::key::Key;
 use rtp_codec::Address;
 
 /// A value that only one row of a desk may have.
+// Keys, addresses, SSRCs and slots' places all have to be distinct, over different kinds of row. As claims they are one
+// rule, and a further kind of row is a case in the list of claims.
 #[derive(Clone, Copy)]
 pub enum Claim {
     /// A key.

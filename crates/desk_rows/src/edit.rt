@@ -104,6 +104,8 @@ impl<A: Allocator + Copy> Replaced<A> {
 }
 
 /// An edit of the rows of a desk. A member row that changes is taken and put at one place.
+// Members stand in lists of their own, with their places: an undo brings a member's place back, and no key has it. The
+// inverse only exchanges parts.
 #[derive(Drop)]
 pub struct Edit<A: Allocator + Copy = Global> {
     /// The rows that go, members with their places before.

@@ -198,6 +198,8 @@ fn is_apt<A: Allocator + Copy>(rows: &Rows<A>, edit: &Edit<A>) -> bool
 }
 
 /// Whether the edit fits: the desk stays good.
+// The desk before is good, so a row that stays still obeys the rules. It is asked again only where a key that it names
+// changes. The desk after is never built: look-ups in the rows and the edit show it.
 #[tactic(auto, using(crate::specs::laws::Laws::fits_test))]
 pub(crate) fn fits<A: Allocator + Copy>(rows: &Rows<A>, edit: &Edit<A>) -> bool
     ensures { result ≡ fits rows.now edit.now }

@@ -28,6 +28,8 @@ pub enum Key {
 }
 
 /// The kind of a row.
+// A definition ends in one case for all other kinds only where that case refuses or finds nothing. Where it would be
+// lenient each kind is written out, so that the prover refuses a further kind until it has its case.
 #[derive(Clone, Copy)]
 pub enum Kind {
     Room,
@@ -80,6 +82,7 @@ impl Key {
     }
 
     /// Numbers that are equal for equal keys only: the kind's rank, then 0 or a gain's member, then the other number.
+    // Equality and order go by these numbers. A table of pairs of kinds would grow by the square of the kinds.
     pub(crate) fn numbers(self) -> [u32; 3]
         ensures { result ≡ key_numbers self }
     {

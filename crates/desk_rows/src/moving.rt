@@ -73,6 +73,8 @@ fn only_replaced(edit: &EditLists<'_>) -> Option<(Row, Row)>
 }
 
 /// Takes the other rows that go, and puts those that come where they keep the order. The tables have the capacity.
+// Rows before the first one that goes or comes stay where they are. Those after it move through spare memory of the
+// same size and back, in runs that are copied at once.
 #[tactic(auto, using(crate::proofs::Together::in_turn))]
 fn move_rows<A: Allocator + Copy>(
     others: &mut Vec<Row, A>,

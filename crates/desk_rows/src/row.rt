@@ -200,6 +200,8 @@ impl Row {
 
     /// Whether the row that was found under a name suits this row: a subscription and a pin name video, a gain audio,
     /// and a member a room that carries its codec.
+    // The definition has three wants (`Want`) and one rule that compares a want with the row that was found, so that
+    // proofs on good desks have one rule for all kinds.
     pub(crate) fn suits(&self, found: Option<Row>) -> bool
         ensures { result ≡ suits (wants self.now) found }
     {

@@ -122,6 +122,7 @@ impl Gain {
 
 impl Row {
     /// The row's values, in the order in which `show` and the command that puts the row have them.
+    // Equality, `show` and the commands that put rows all go by this list, so none of them can forget a further field.
     pub fn values(&self) -> RowValues
         ensures { result.items ≡ row_values self.now }
     {

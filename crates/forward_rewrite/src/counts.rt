@@ -1,6 +1,8 @@
 //! The counts of a stream for its sender reports.
 
 /// What an outgoing stream has sent so far, for its sender report (RFC 3550 section 6.4.1). Resends don't count.
+// Video streams and mixes both give these, so sender reports are one function. A stream that hasn't begun gives none,
+// so that function has no condition.
 #[derive(Clone, Copy)]
 pub struct Counts {
     /// The SSRC of the stream.

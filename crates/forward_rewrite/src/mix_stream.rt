@@ -146,6 +146,8 @@ impl MixStream {
     /// The packet is cut off `block`, which is empty before the call and after it. The octets are copied once. If
     /// `block` has the capacity, only its first packet takes memory. The only error is out of memory; it leaves octets
     /// in `block`.
+    // All packets of a tick share one block, since taking memory for each is a good part of a tick's cost. The block is
+    // freed with its last packet.
     pub fn prepare_in<A: Allocator + Copy>(
         &self,
         block: &mut BytesMut<A>,

@@ -6,6 +6,8 @@ use std::alloc::{Allocator, Global};
 use std::marker::Model;
 
 /// A packet that is ready to be sent on a mix stream. It fits the stream only as the stream was when it was made.
+// It has the stream as it will be, so that a tick can pass all streams first, and then put in place those that send.
+// Whoever commits what was prepared of another stream gets that one.
 #[derive(Drop)]
 pub struct PreparedMix<A: Allocator + Copy = Global> {
     /// The stream as it is once the packet is sent.

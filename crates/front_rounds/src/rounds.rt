@@ -23,6 +23,10 @@ use versions::{LaneReader, Notice};
 const STOOD_STILL: u64 = 1_000_000_000;
 
 /// The front: where datagrams come from and go out to, its watch, its own reader of the published desk, and the lanes.
+// Sockets, clocks and threads have no contract that says what came or was sent. These three traits have: each has a
+// history that only its methods extend, and one relation says what each turn of a round changes in the front and in
+// these. So a round that drops, repeats or reorders a datagram is refused, and so is one that stops reading while
+// datagrams wait, since a read that finds nothing is in the history too.
 pub struct Rounds<N: PublisherName, P: Pace, S: Sink, I: Inlet, W: Wire, C: Watch> {
     pub alloc: Global,
     /// Where datagrams come from.

@@ -14,6 +14,8 @@ use udp_wire::{FrontFault, Wire};
 use versions::Notice;
 
 /// How far the rounds of a front are.
+// A round is two calls, and connections are let in between them: their threads have to be started in the scope's own
+// closure.
 #[derive(Clone, Copy)]
 pub enum RoundStage {
     /// No round is under way.

@@ -26,6 +26,7 @@ const LEAST_REPORT_MS: u32 = 1_000;
 const MOST_REPORT_MS: u32 = 5_000;
 
 /// Checks that each key is known.
+// It comes after all known keys, and names the least unknown one: a table has no order that its writer sees.
 fn none_unknown(alloc: Global, table: &Table) -> Result<(), SettingsFault>
     ensures { Gives (λ u. u) result (none_unknown (unknown_in (table_view table.now))) }
 {

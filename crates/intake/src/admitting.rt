@@ -68,6 +68,8 @@ pub(crate) fn admit<A: Allocator + Copy>(
 }
 
 /// Commits a prepared packet.
+// Each function on a packet's way to its gate is inlined. Otherwise what is prepared, 270 octets, would be moved five
+// times.
 #[inline(always)]
 pub(crate) fn settle<A: Allocator + Copy>(
     gate: &mut Option<WatchedGate<A>>,

@@ -33,6 +33,7 @@ use source_valid::Verdict;
 use std::alloc::{AllocError, Allocator};
 
 /// The gate for a packet. There is none yet if an epoch begins with it.
+// A source takes the memory of a gate with its first video packet. Audio comes to no gate.
 pub(crate) fn gate_for<A: Allocator + Copy>(
     kept: Option<&Kept<A>>,
     begins: bool,
@@ -66,6 +67,8 @@ fn loses(verdict: Verdict, gives_up: bool) -> bool
 }
 
 /// A frame as an item.
+// The moment is that of the datagram that closed the frame, since the frame leaves then: a stream's moments go back
+// only where those of the datagrams do. A frame that waited for a packet has a late one.
 fn framed<A: Allocator + Copy>(origin: Origin, moment: u64, epoch: u64, frame: Frame<A>) -> Item<A>
     ensures { input_of result ≡ frame_item (origin_in origin) moment epoch frame }
 {

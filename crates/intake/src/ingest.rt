@@ -10,6 +10,8 @@ use rtp_codec::Address;
 use std::alloc::{Allocator, Global};
 
 /// The answer to a datagram.
+// `sized` is a fact of the value itself: the clause on items speaks of the sources that were known before, which the
+// caller of a lane need not have.
 #[derive(Drop)]
 pub struct Ingest<A: Allocator + Copy = Global> {
     /// Its outcome.

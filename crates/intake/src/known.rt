@@ -83,6 +83,8 @@ impl<A: Allocator + Copy> Known<A> {
     }
 
     /// The state of a source, if it is kept at this clock rate, in Hz.
+    // Timestamps of two clocks can't be compared, so a source that is judged at another rate begins anew. Until its
+    // next packet comes, reports have its old state: only a datagram has the intake look at the desk.
     pub(crate) fn at_rate(&self, key: &OriginKey, rate: u32) -> Option<&Kept<A>>
         ensures { option_copied result ≡ kept_for key.now rate self.now }
     {

@@ -6,6 +6,8 @@ use bytes::{Bytes, BytesMut};
 use std::alloc::{AllocError, Allocator, Global};
 
 /// The octets of a block of payloads. A longer payload has a block of its own.
+// A block is freed with its last payload. So a retransmission buffer that is no longer sent on may keep three times the
+// octets of its packets, and of small ones at most a block each.
 const BLOCK_OCTETS: usize = 4_096;
 
 /// A block for payloads, which lie in it one behind the other. So one allocation serves several payloads.

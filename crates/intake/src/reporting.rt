@@ -39,6 +39,8 @@ fn sources_in<A: Allocator>(alloc: A, these: &[Row]) -> Result<Vec<Source, A>, A
 }
 
 /// The sources of the desk, by SSRC.
+// Each member passes over this whole list, two million comparisons on a full desk, at most once a second. A table by
+// member would have to be kept up at each edit of a source.
 pub(crate) fn sources_of<A: Allocator + Copy>(
     alloc: A,
     rows: &Rows<A>,

@@ -13,6 +13,9 @@ use versions::Notice;
 /// the notice's lists.
 ///
 /// A notice of the desk's last version always has all that the lanes knew.
+// A reader may see a version before its notice comes, so only this comparison shows that no lane acted by a version
+// that was never told of. All notices of one publisher are beginnings of one list: the shorter is a beginning of the
+// longer.
 pub fn none_knew_more<N: PublisherName, P: Pace, S: Sink>(
     ends: &Vec<LaneEnd<N, S>>,
     last: &Notice,

@@ -67,6 +67,7 @@ impl<N: PublisherName, P: Pace, S: Sink> LaneFeed<N, P, S> {
 
     /// Raises the signal of each lane that accepted something other than sound since it was raised last, or 256
     /// parcels: for all that it accepted. So sound alone waits for the next tick.
+    // Sound only goes into a jitter buffer, and the tick that mixes it wakes the lane anyway.
     pub fn signal<R: Wait>(&mut self, rt: &R)
         ensures { self.new ≡ map after_signal self.old }
     {

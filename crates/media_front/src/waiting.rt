@@ -24,6 +24,8 @@ impl<N: PublisherName, P: Pace, S: Sink> MediaFront<N, P, S> {
     ///
     /// On out of memory, the only error, nothing is sent, and no lane is given an item. The intake may have had the
     /// wait.
+    // It is paid for by tokens that the member's datagrams earned, so one law bounds all control that an address is
+    // sent, however much time passes.
     pub fn wait<W: Wire>(
         &mut self,
         alloc: Global,
@@ -83,6 +85,8 @@ impl<N: PublisherName, P: Pace, S: Sink> MediaFront<N, P, S> {
     ///
     /// On out of memory, the only error, the sources before the one that it came at have waited. For that one nothing
     /// was sent or given.
+    // Once a round, however many ticks were due. What is missing in a late round waits in the socket, so nothing is
+    // given up that the bridge hadn't time to read.
     pub fn wait_all<W: Wire>(
         &mut self,
         alloc: Global,

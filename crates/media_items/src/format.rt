@@ -5,6 +5,7 @@ ghost use Rattle.media_items.specs.Formats.{rate_of, pt_of, tick_of, most_of, oc
 ghost use Rattle.media_items.specs.Formats.{holds_whole, format_of_packet};
 
 /// A format of audio of one channel (RFC 3551 sections 4.5.11 and 4.5.14).
+// What belongs to a format stands together, so PCMU at 44100 Hz can't be said.
 #[derive(Clone, Copy, PartialEq, Eq)]
 pub enum Format {
     /// PCMU at 8000 Hz, payload type 0: an octet for each sample.

@@ -25,6 +25,7 @@ use std::thread::Threads;
 /// Lanes that run, each on a thread of its own. It is not `Drop`: end it by [`Bridge::close`].
 ///
 /// Contracts see the lanes as they were handed in, each with its pace, its sink, and what `push` accepted for it.
+// Without `Drop` each thread has to be joined, on error paths too. So no `?` stands where a bridge lives.
 pub struct Bridge<N: PublisherName, P: Pace, S: Sink> {
     ports: Vec<Port<N, P, S>>,
     // Capacity for how the lanes end.

@@ -15,6 +15,8 @@ use std::snapshot::Snapshot;
 use std::thread::Promise;
 
 /// What a lane's run began with.
+// A thread promises the contract of `run`. After the join both ends of the ring of parcels are in one place, and the
+// ring's own contract then gives their order.
 #[derive(Drop)]
 pub struct RunOf<N: PublisherName, P: Pace, S: Sink> {
     /// The lane.

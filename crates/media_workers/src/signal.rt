@@ -78,6 +78,8 @@ impl BeforeSleep for () {
 
 /// A pace by a signal: each item passes once the signal was raised for its parcel, or while the signal is open. Until
 /// then the lane sleeps. Before it sleeps, it calls `before_sleep`.
+// A pace decides whether a lane spins or sleeps. So no clause of a lane speaks of it, and a test can hold a lane by
+// another pace.
 #[derive(Drop)]
 pub struct SleepPace<R: Wait + Drop, F: BeforeSleep + Drop> {
     rt: R,

@@ -43,6 +43,8 @@ pub fn listen<A: Allocator + Copy>(
 /// Writes the mix of its room for a member without gains, and names who contributes. `None` for a member with gains,
 /// and where its own inputs don't stand side by side. They probably stand at the place `near`, where the next member's
 /// are expected afterwards.
+// The room's total less the member's own samples is the sum of all others, by a law of mix_minus. So a member without
+// gains needs no sum of its own.
 pub fn listen_in_full<'b, A: Allocator + Copy>(
     rows: &Rows<A>,
     member: &Member,

@@ -81,6 +81,8 @@ impl<A: Allocator + Copy> Mixer<A> {
     ///
     /// It takes 20 ms of each source, whatever the desk says. `moment` is in nanoseconds since 1970. On out of
     /// memory, the only error, nothing changes.
+    // How much a tick sends is known only once the mixer has changed. So it takes memory for as many packets as there
+    // are members, and a refusal changes nothing.
     pub fn tick(
         &mut self,
         alloc: A,

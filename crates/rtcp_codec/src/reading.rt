@@ -64,6 +64,8 @@ pub fn read_compound<A: Allocator + Copy>(
     // Only a compound takes memory.
     ensures memory { IfErr result (λ f. f ≡ faults.OutOfMemory → (ps : List Packet) × IsCompound ps octets.now) }
 {
+    // All octets are judged before a packet is read: a fault depends on the octets alone, and hostile ones take no
+    // memory.
     judge(octets)?;
     Ok(packets_from(alloc, octets)?)
 }

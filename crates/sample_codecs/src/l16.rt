@@ -15,6 +15,8 @@ pub fn decode_l16(octets: &[u8], samples: &mut [i16])
 }
 
 /// Encodes samples into octets. There are two octets for each sample. Decoding gives the samples back.
+// That decoding gives the samples back is a clause here, and no law: a law would ask for samples of 16 bits, which a
+// caller can't show of a slice.
 pub fn encode_l16(samples: &[i16], octets: &mut [u8])
     requires { length octets.old ≡ 2 * length samples.now }
     ensures octets { octets.new ≡ octets_of samples.now }

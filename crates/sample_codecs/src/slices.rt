@@ -18,6 +18,8 @@ pub fn decode_pcmu(codes: &[u8], out: &mut [i16])
 }
 
 /// Encodes each sample into `out`, which is as long.
+// `codes` names the one octet that holds each sample. So definitions of whole mixes need no shift and no segment
+// search.
 pub fn encode_pcmu(samples: &[i16], out: &mut [u8])
     requires { length out.old ≡ length samples.now }
     ensures held { AllZip IsCode samples.now out.new }

@@ -48,6 +48,8 @@ fn take_command<A: Allocator + Copy>(
 }
 
 /// The commands of a group, of which the first begins at this place.
+// Each part is read as a single command, so one law covers how both are spelled. A whole line is read before the group
+// is judged, also where it has more parts than a group may have.
 fn commands<A: Allocator + Copy>(
     alloc: A,
     place: u32,
@@ -133,6 +135,8 @@ pub(crate) fn call<A: Allocator + Copy>(
 /// The call that a text spells: the words behind `desk OP` on a script's line, counted from 1.
 ///
 /// The empty text has no word. A text may be as long as a line. Only a group takes memory.
+// Places of words have 32 bits, which a longer text could pass. It is too long a line, so that no caller has to show a
+// bound.
 pub fn parse_desk<A: Allocator + Copy>(alloc: A, text: &[u8]) -> Result<Call<A>, ParseFault>
     ensures call { Gives asked_by result (spoken_call text.now) }
     ensures memory { result ≡ Err ParseFault.OutOfMemory → take 1 (spoken_words text.now) ≡ codes "group" ∷ [] }

@@ -32,6 +32,8 @@ pub enum Fault {
 }
 
 /// Why a line could not be read.
+// The place is where the writer has to change the line: where a missing word would stand, or the first word too many.
+// Of a packet's word the number of its parts is judged first, since they can't be told apart before.
 #[derive(Clone, Copy, PartialEq, Eq)]
 pub enum ParseFault {
     /// The fault, and the place of its word from 1; place 0 is the whole line.

@@ -61,6 +61,8 @@ fn lacks_rate(name: Name, words: Option<&[u8]>) -> bool
 }
 
 /// The values behind a name, of which the first stands at this place. A room without its rate is one of 8000 Hz.
+// A missing rate is filled in first, so that each line stays a fixed list of typed fields. So whatever stands behind a
+// room's number is judged as a rate.
 pub(crate) fn read_fields<'a>(
     place: u32,
     name: Name,

@@ -82,6 +82,8 @@ fn run_script<A: Allocator + Copy, S: ScriptSource, T: TextSink>(
 /// The run ends by `Read` if a call of the reader failed, or 2^32 calls brought no end. It ends by `Write` if a call of
 /// the writer failed or took nothing, if 2^32 calls didn't take a line's text, or if memory ran out behind a part of
 /// it. Out of memory may be reported at any time.
+// A source and a sink have facts of what may go wrong, and the clauses let a failure be reported only where one holds.
+// So a run that gives up at its first read would be refused.
 pub fn run<A: Allocator + Copy, S: ScriptSource, T: TextSink>(
     alloc: A,
     reader: &mut S,

@@ -40,6 +40,7 @@ impl<A: Allocator + Copy> Model for Script<A> {
 }
 
 /// A line without the CR at its end.
+// So scripts of systems whose lines end in CR LF work. Any other CR is a bad octet of its line, also in a comment.
 fn without_cr(line: &[u8]) -> &[u8]
     ensures { result.now ≡ strip_carriage_return line.now }
 {
@@ -93,6 +94,8 @@ impl<A: Allocator + Copy> Script<A> {
     }
 
     /// Takes an LF: answers the line before it.
+    // The output of a line is written at its end. So out of memory leaves the output of the whole lines before, and
+    // lacks what an accepted call of this line would have said.
     fn end_line<T: TextSink>(&mut self, alloc: A, writer: &mut T) -> Result<(), RunFault>
         requires { self.old.line + 1 < 2 ^ 64 }
         ensures step { Steps self.old (10 ∷ []) self.new (T.held writer.old) (T.held writer.new) result }

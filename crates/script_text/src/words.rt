@@ -27,6 +27,7 @@ pub fn cut(text: &[u8], octet: u8) -> Option<(&[u8], &[u8])>
 }
 
 /// The first word of a text, and the text behind it, which is `None` behind the last word.
+// Each space makes a word, if an empty one, so that the words joined by spaces are the line. That is a law.
 pub(crate) fn first_word(text: &[u8]) -> (&[u8], Option<&[u8]>)
     ensures words { words_of text.now ≡ result.0.now ∷ words_in result.1 }
     ensures shorter { size_of result.1 ≤ length text.now }

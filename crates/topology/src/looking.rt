@@ -131,6 +131,7 @@ fn is_music(found: Option<Row>) -> bool
 }
 
 /// The clock rate of a room's audio in Hz, 8000 or 44100. It is 8000 if there is no such room.
+// No good desk lacks the room. By this answer the intake and the mixer need no case for one that is missing.
 pub fn room_rate<A: Allocator + Copy>(rows: &Rows<A>, room: u32) -> u32
     ensures { result ≡ room_rate rows.now room }
 {

@@ -20,6 +20,7 @@ use rtp_codec::Address;
 use std::alloc::{AllocError, Allocator};
 
 /// A receiver of a source's frames.
+// A stream that begins needs the slot's first number and timestamp, and each packet needs the address.
 #[derive(Clone, Copy)]
 pub struct Receiver {
     /// The slot whose stream sends them.
@@ -32,6 +33,8 @@ pub struct Receiver {
 /// index.
 ///
 /// There are none if the source's member has another address. The only error is out of memory.
+// It begins at the subscriptions that name the source, and at the first slots of the room's members where the room
+// shows it: few of thousands of slots receive one source. The contract asks all slots.
 pub fn receivers_of<A: Allocator + Copy>(
     alloc: A,
     rows: &Rows<A>,

@@ -11,6 +11,8 @@ use std::alloc::{AllocError, Allocator, Global};
 use std::marker::Model;
 
 /// Edits that are absorbed and taken back together. Contracts see a list of edits.
+// A bare `Vec` would not do. The laws compare edits by equality, and the value of a `Vec` has its capacity and its
+// place in memory too, which inverting twice doesn't give back.
 #[derive(Drop)]
 pub struct Edits<E, A: Allocator = Global> {
     items: Vec<E, A>,

@@ -107,6 +107,7 @@ fn words_for<A: Allocator + Copy>(alloc: A, exts: &[i64]) -> Result<Vec<NackWord
 ///
 /// `nacks` are extended sequence numbers, at most 65,533. The NACK names their low 16 bits, in this order. The name has
 /// 1 to 255 octets. The only error is out of memory.
+// A word for each of 65,533 numbers still fits the 16 bits of a packet's length. A gate asks for 255 numbers at most.
 pub fn upstream<A: Allocator + Copy>(
     alloc: A,
     bridge_ssrc: u32,

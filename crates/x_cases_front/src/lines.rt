@@ -135,6 +135,8 @@ fn of_number<R: Net<Stream = TcpStream> + Clock>(
 ) -> Option<bool> {
     let (at, text) = numbered(rest)?;
     match verb {
+        // Lines and datagrams come in no order, since each connection has a thread of its own. A case whose answer
+        // depends on it waits.
         "rounds" => {
             turns(rt, at);
             Some(true)

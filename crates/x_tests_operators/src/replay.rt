@@ -8,6 +8,7 @@ use operator_desk::LogEntry;
 use std::alloc::Global;
 
 /// How an operator was answered, and how many of its calls were replayed.
+// The desk of one operator is a `Desk`, by `prepare` and `commit`: `Core::desk` is these two calls and no more.
 #[derive(Drop)]
 pub struct Operator {
     op: u32,
