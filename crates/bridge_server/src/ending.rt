@@ -35,7 +35,10 @@ fn gather_fault(fault: GatherFault) -> FrontFault
 {
     match fault {
         GatherFault::OutOfMemory => FrontFault::OutOfMemory,
-        GatherFault::SeatMissing { .. } | GatherFault::LogTaken => FrontFault::Io,
+        GatherFault::SeatMissing { .. }
+        | GatherFault::SeatForeign { .. }
+        | GatherFault::LogTaken
+        | GatherFault::Ended => FrontFault::Io,
     }
 }
 

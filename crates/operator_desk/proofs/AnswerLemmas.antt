@@ -1,6 +1,7 @@
 -- What calls leave to seats.
-use Rattle.std.proofs.Common.{◌≡◌, ℕ, ◌+◌, List, [], ◌∷◌, ◌++◌, length, Option, None, refl, sym, ap, subst, ◌∙◌}
-use Rattle.std.proofs.Common.{length-append, inr, append-nil}
+use Rattle.std.proofs.Common.{◌≡◌, ℕ, ◌+◌, Bool, true, false, List, [], ◌∷◌, ◌++◌, length, Option, None, Some, refl}
+use Rattle.std.proofs.Common.{sym, ap, subst, ◌∙◌, length-append, inr, append-nil}
+use Rattle.std.specs.Prelude.{IfSome, IfNone, MatchBool}
 use mathlib.Core.List.{IsPrefix}
 use Rattle.logbook.specs.Pages.{Book}
 use Rattle.desk_rows.specs.Desk.{Desk}
@@ -16,6 +17,21 @@ use Rattle.operator_desk.specs.OwnCalls.{numbers}
 use Rattle.operator_desk.specs.Seats.{SeatOf}
 use Rattle.operator_desk.specs.Answers.{IsAccepted, IsRefused, IsWhy, Tells}
 use Rattle.operator_desk.proofs.LogLemmas.{own_numbers}
+
+-- the answer of a desk behind whose log an entry stands
+pub taken : {A : Type 0} (ended : Bool) (r : Option A) (x : A) (P : A → Type 0)
+    → MatchBool ended (r ≡ None) (r ≡ Some x) → P x → IfSome r P
+taken true r x P is p = subst (λ o. IfSome o P) (sym is) tt
+taken false r x P is p = subst (λ o. IfSome o P) (sym is) p
+
+-- where there is an answer, the desk has not ended
+pub answered : {A : Type 0} (r : Option A) (x : A) (Q : Type 0) → r ≡ Some x → IfNone r Q
+answered r x Q is = subst (λ o. IfNone o Q) (sym is) tt
+
+-- what holds anyway holds of a desk that has ended
+pub anyway : {A : Type 0} (r : Option A) (Q : Type 0) → Q → IfNone r Q
+anyway None Q q = q
+anyway (Some x) Q q = tt
 
 begins_itself : (xs : List EntryOf) → IsPrefix xs xs
 begins_itself xs = ([], append-nil xs)

@@ -14,6 +14,8 @@ use Rattle.operator_desk.specs.declared.answer.Answer.{Answer}
 use Rattle.operator_desk.specs.declared.answer.Answer.TheVariants.{Accepted, Refused}
 use Rattle.operator_desk.specs.declared.answer.Why.{Why}
 use Rattle.operator_desk.specs.declared.answer.Why.TheVariants as reasons
+use Rattle.operator_desk.specs.declared.fault.CallFault.{CallFault}
+use Rattle.operator_desk.specs.declared.fault.CallFault.TheVariants.{SeatForeign, Ended}
 use Rattle.operator_desk.specs.Entry.{EntryOf}
 use Rattle.operator_desk.specs.LegalLogs.{after_log, IsLegal}
 use Rattle.operator_desk.specs.OwnCalls.{numbers}
@@ -72,3 +74,17 @@ pub record IsRefused (start : Desk) (old new : SeatOf) (call : CallOf) (version 
 abbrev pub IsAnswered : Desk → Book → SeatOf → SeatOf → CallOf → Answer → Type 0
 IsAnswered start publisher old new call (Accepted number notice) = IsAccepted start publisher old new call number notice
 IsAnswered start publisher old new call (Refused version why) = IsRefused start old new call version why
+
+-- the seat has seen a beginning of the log, in which its operator has the calls that the seat has seen and no others
+abbrev pub IsOurs : SeatOf → List EntryOf → Type 0
+IsOurs seat log = IsPrefix seat.seen log × (numbers seat.op log ≡ numbers seat.op seat.seen)
+
+-- an entry stands behind the legal log that the seat has then seen, as where the call is refused since the log is taken
+abbrev pub IsEnded : Desk → SeatOf → SeatOf → CallOf → Type 0
+IsEnded start old new call = (version : ℕ) × IsRefused start old new call version reasons.LogTaken
+
+-- why a call has no answer: its seat is as it was, and not of a desk with some legal log; or the desk has ended
+abbrev pub IsUnanswered : Desk → SeatOf → SeatOf → CallOf → CallFault → Type 0
+IsUnanswered start old new call SeatForeign =
+    (new ≡ old) × ((log : List EntryOf) × IsLegal start log × ¬ IsOurs old log)
+IsUnanswered start old new call Ended = IsEnded start old new call

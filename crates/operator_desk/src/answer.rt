@@ -1,6 +1,6 @@
 //! Answers to calls of operators.
 
-ghost use Rattle.std.specs.Prelude.{◌≡◌};
+ghost use Rattle.std.specs.Prelude.{◌≡◌, Some, None, MatchBool};
 ghost use Rattle.desk_edit.specs.Told.{told_in};
 ghost use Rattle.operator_desk.specs.Answers.{why_told};
 
@@ -39,6 +39,19 @@ impl Why {
             },
         }
     }
+}
+
+/// The answer of a desk behind whose log an entry stands: none, if the desk has ended.
+pub(crate) fn taken_answer(ended: bool, at: u64) -> Option<Answer>
+    ensures { MatchBool ended (result ≡ None) (result ≡ Some (Answer.Refused at Why.LogTaken)) }
+{
+    if ended {
+        return None;
+    }
+    Some(Answer::Refused {
+        at,
+        why: Why::LogTaken,
+    })
 }
 
 /// The answer to a call that the desk refuses.

@@ -1,6 +1,6 @@
 //! What lies under the lock of a shared desk.
 
-ghost use Rattle.std.specs.Prelude.{◌≡◌, true, length, slice_get, None, Some, IfSome, IfNone, IfOk};
+ghost use Rattle.std.specs.Prelude.{◌≡◌, ◌≤◌, true, length, slice_get, None, Some, Err, IfSome, IfNone, IfOk, IfErr};
 ghost use Rattle.std.specs.Bool.{OnTrue, OnFalse};
 ghost use Rattle.std.specs.List.{All, sum_by};
 ghost use mathlib.Core.List.{IsPrefix};
@@ -12,13 +12,14 @@ ghost use Rattle.desk_calls.specs.Edits.{fits};
 ghost use Rattle.operator_desk.specs.LegalLogs.{after_log, IsLegal};
 ghost use Rattle.operator_desk.specs.OwnCalls.{numbers};
 ghost use Rattle.operator_desk.specs.Seats.{SeatOf};
-ghost use Rattle.operator_desk.specs.Answers.{IsAnswered, IsNotice, IsCopy, Tells};
+ghost use Rattle.operator_desk.specs.Answers.{IsAnswered, IsUnanswered, IsEnded, IsOurs, IsNotice, IsCopy, Tells};
 ghost use Rattle.operator_desk.specs.Gathering.{AreAllIn};
-ghost use Rattle.operator_desk.specs.inner.DeskInner.{IsOurs, Leads};
+ghost use Rattle.operator_desk.specs.inner.DeskInner.{Leads};
 
-use crate::answer::{Answer, Why, refused};
+use crate::answer::{Answer, refused, taken_answer};
 use crate::desk_brand::DeskBrand;
 use crate::entry::LogEntry;
+use crate::fault::CallFault;
 use crate::log::Log;
 use crate::seat::Seat;
 use crate::tokens::{agree, catch_up, copied, none_of};
@@ -40,6 +41,8 @@ pub struct DeskInner<'a, H: DeskBrand> {
     pub entries: Vec<OnceToken<'a, LogEntry>>,
     /// The cell after those, if it was found written.
     pub next: Option<OnceToken<'a, LogEntry>>,
+    /// Whether that cell was written by this desk, which could not publish it and has ended.
+    pub ended: bool,
     /// The desk after the calls of the log.
     pub desk: Desk,
     /// Publishes each version of its rows.
@@ -124,6 +127,7 @@ impl<'a, H: DeskBrand> DeskInner<'a, H> {
     pub fn settle<R: Wait>(self, rt: &R, seats: Vec<Seat<'a, H>>)
         requires parts { H.seats ≡ H.parts }
         requires all { AreAllIn H.seats seats.items }
+        requires few { All (λ (s : SeatOf). length s.seen ≤ length self.log) seats.items }
         ensures begins { All (λ (s : SeatOf). IsPrefix s.seen self.entry.log) seats.entry.items }
         ensures sum { length self.entry.log ≡ sum_by (λ (s : SeatOf). s.count) seats.entry.items }
     {
@@ -134,11 +138,12 @@ impl<'a, H: DeskBrand> DeskInner<'a, H> {
             mut calls,
             mut rest,
             next: _,
+            ended: _,
             desk: _,
         } = self;
         publisher.end(rt);
         for seat in seats {
-            seat.give_back(rt, log, &entries, &mut rest);
+            seat.give_back(log, &entries, &mut rest);
         }
         calls.audit(&mut rest);
     }
@@ -150,6 +155,7 @@ impl<'a, H: DeskBrand> DeskInner<'a, H> {
             log: _,
             entries: _,
             next: _,
+            ended: _,
             desk: _,
             calls: _,
             rest: _,
@@ -165,16 +171,13 @@ impl<'a, H: DeskBrand> DeskInner<'a, H> {
         if let Some(token) = &self.next {
             return Some(token.again());
         }
-        let next = self.entries.len();
-        if next < self.log.len() {
-            self.log.witness(next)
-        } else {
-            None
+        if self.entries.len() >= self.log.len() {
+            return None;
         }
+        self.log.witness(self.entries.len())
     }
 
-    /// Lets a seat see the whole log. Returns false for a seat of another desk: it has seen more, or the log has calls
-    /// of its operator that it didn't make.
+    /// Lets a seat see the whole log. Returns false for a seat of another desk, which stays as it was.
     fn show(&self, seat: &mut Seat<'a, H>) -> bool
         ensures op { seat.new.op ≡ seat.old.op }
         ensures count { seat.new.count ≡ seat.old.count }
@@ -182,6 +185,8 @@ impl<'a, H: DeskBrand> DeskInner<'a, H> {
         ensures begins { OnTrue result (IsPrefix seat.old.seen self.now.log) }
         ensures own { OnTrue result (numbers seat.old.op self.now.log ≡ numbers seat.old.op seat.old.seen) }
         ensures foreign { OnFalse result (¬ IsOurs seat.old self.now.log) }
+        ensures legal { IsLegal H.start self.now.log }
+        ensures same { OnFalse result (seat.new ≡ seat.old) }
     {
         let from = seat.seen.len();
         if self.entries.len() < from {
@@ -196,55 +201,55 @@ impl<'a, H: DeskBrand> DeskInner<'a, H> {
         true
     }
 
-    /// Answers a seat. `None` for a seat of another desk: it has seen more than the log, or the log has calls of its
-    /// operator that it didn't make.
+    /// Answers a seat, unless it is of another desk or this desk has ended.
     pub fn call<R: Wait>(
         &mut self,
         rt: &R,
         alloc: Global,
         seat: &mut Seat<'a, H>,
         call: Call,
-    ) -> Option<Answer>
-        ensures answer { IfSome result (λ answer.
-            IsAnswered H.start H.publisher seat.old seat.new (asked_by call) answer) }
-        ensures foreign { IfNone result (¬ IsOurs seat.old self.old.log) }
+    ) -> Result<Answer, CallFault>
+        ensures answer { IfOk result (IsAnswered H.start H.publisher seat.old seat.new (asked_by call)) }
+        ensures fault { IfErr result (IsUnanswered H.start seat.old seat.new (asked_by call)) }
+        ensures foreign { result ≡ Err CallFault.SeatForeign → ¬ IsOurs seat.old self.old.log }
     {
         if !self.show(seat) {
-            return None;
+            return Err(CallFault::SeatForeign);
         }
-        Some(self.answer(rt, alloc, seat, call))
+        match self.answer(rt, alloc, seat, call) {
+            Some(answer) => Ok(answer),
+            None => Err(CallFault::Ended),
+        }
     }
 
-    /// Answers a seat that has seen the whole log.
+    /// Answers a seat that has seen the whole log. `None` if the desk has ended.
     fn answer<R: Wait>(
         &mut self,
         rt: &R,
         alloc: Global,
         seat: &mut Seat<'a, H>,
         call: Call,
-    ) -> Answer
+    ) -> Option<Answer>
         requires seen { seat.old.seen ≡ self.old.log }
-        ensures { IsAnswered H.start H.publisher seat.old seat.new (asked_by call) result }
+        ensures answer { IfSome result (IsAnswered H.start H.publisher seat.old seat.new (asked_by call)) }
+        ensures ended { IfNone result (IsEnded H.start seat.old seat.new (asked_by call)) }
     {
         let at = self.desk.version();
         if let Some(token) = self.taken() {
             seat.next = Some(token);
-            return Answer::Refused {
-                at,
-                why: Why::LogTaken,
-            };
+            return taken_answer(self.ended, at);
         }
         let prepared = match self.desk.prepare(alloc, &call) {
             Ok(prepared) => prepared,
-            Err(why) => return refused(at, why),
+            Err(why) => return Some(refused(at, why)),
         };
         match self.desk.edit_of(alloc, &call, &prepared) {
             Ok(edits) => self.write(rt, seat, call, prepared, edits),
-            Err(_) => refused(at, Refusal::OutOfMemory),
+            Err(_) => Some(refused(at, Refusal::OutOfMemory)),
         }
     }
 
-    /// Writes a call that was prepared into the log, publishes what it does, and carries it out.
+    /// Writes a prepared call into the log, publishes what it does, and carries it out. `None` if the desk has ended.
     fn write<R: Wait>(
         &mut self,
         rt: &R,
@@ -252,42 +257,43 @@ impl<'a, H: DeskBrand> DeskInner<'a, H> {
         call: Call,
         prepared: Prepared,
         edits: Edits<Edit>,
-    ) -> Answer
+    ) -> Option<Answer>
         requires seen { seat.old.seen ≡ self.old.log }
         requires ready { IsReady self.old.desk (asked_by call) prepared }
         requires leads { Leads self.old.desk (asked_by call) edits }
         requires fit { fits self.old.desk.desk edits ≡ true }
         requires free { refusal_of (after_log H.start self.old.log) (asked_by call) ≡ None }
         requires beyond { self.old.beyond ≡ None }
-        ensures { IsAnswered H.start H.publisher seat.old seat.new (asked_by call) result }
+        ensures answer { IfSome result (IsAnswered H.start H.publisher seat.old seat.new (asked_by call)) }
+        ensures ended { IfNone result (IsEnded H.start seat.old seat.new (asked_by call)) }
     {
         let at = self.desk.version();
         if self.publisher.stage(edits).is_err() {
-            return refused(at, Refusal::OutOfMemory);
+            return Some(refused(at, Refusal::OutOfMemory));
         }
         let next = self.entries.len();
         match self.log.write(rt, next, LogEntry::new(seat.op, call)) {
             Ok(token) => {
+                let Some(_version) = self.publisher.publish(rt) else {
+                    self.ended = true;
+                    self.next = Some(token.again());
+                    seat.next = Some(token);
+                    return None;
+                };
                 let entry = self.log.read(next, &token);
                 self.entries.push_reserved(token.again());
                 seat.seen.push_reserved(token);
                 seat.next = None;
-                self.publisher.publish(rt);
                 let no = self.desk.commit(entry.call(), prepared);
                 self.calls.add(&mut seat.mine, 1);
-                Answer::Accepted {
-                    no,
-                    notice: self.publisher.tell(),
-                }
+                let notice = self.publisher.tell();
+                Some(Answer::Accepted { no, notice })
             }
             Err(token) => {
                 drop(prepared);
                 self.next = Some(token.again());
                 seat.next = Some(token);
-                Answer::Refused {
-                    at,
-                    why: Why::LogTaken,
-                }
+                taken_answer(false, at)
             }
         }
     }

@@ -1,8 +1,7 @@
 //! Whether a log can be handed out.
 
-ghost use Rattle.std.specs.Prelude.{◌≡◌, ◌≤◌, length, None, IfSome, IfNone, IfOk, IfErr, OnOk};
-ghost use Rattle.std.specs.Bool.{OnTrue};
-ghost use Rattle.std.specs.List.{All};
+ghost use Rattle.std.specs.Prelude.{◌≡◌, ◌<◌, ◌≤◌, length, option_copied, None, IfSome, IfNone, IfOk, IfErr, OnOk};
+ghost use Rattle.std.specs.List.{All, Contains};
 ghost use Rattle.operator_desk.specs.Answers.{Tells};
 ghost use Rattle.operator_desk.specs.LegalLogs.{IsLegal};
 ghost use Rattle.operator_desk.specs.Seats.{SeatOf};
@@ -13,22 +12,19 @@ use crate::desk_inner::DeskInner;
 use crate::entry::LogEntry;
 use crate::fault::{Behind, GatherFault};
 use crate::seat::Seat;
-use crate::waiting::never;
 use std::alloc::Global;
-use std::sync::Wait;
 use versions::Notice;
 
-/// A copy of the log and the notice that it led to, if all seats are among these and nothing else was written.
-///
-/// It waits for ever if the log is taken and a seat has seen more than it.
-pub fn judged<'a, H: DeskBrand, R: Wait>(
-    rt: &R,
+/// A copy of the log and the notice that it led to, if all seats are among these, none of them has seen more, and
+/// nothing else was written.
+pub fn judged<'a, H: DeskBrand>(
     held: &DeskInner<'a, H>,
     alloc: Global,
     seats: &Vec<Seat<'a, H>>,
     count: u32,
 ) -> Result<(Vec<LogEntry>, Notice), (GatherFault, Option<Behind<'a>>)>
     ensures all { OnOk result (AreAllIn count seats.now.items) }
+    ensures few { OnOk result (All (λ (s : SeatOf). length s.seen ≤ length held.now.log) seats.now.items) }
     ensures beyond { OnOk result (held.now.beyond ≡ None) }
     ensures copy { IfOk result (λ r. r.0.items ≡ held.now.log) }
     ensures legal { IfOk result (λ r. IsLegal H.start r.0.items) }
@@ -38,9 +34,12 @@ pub fn judged<'a, H: DeskBrand, R: Wait>(
     if let Some(op) = missing(seats, count) {
         return Err((GatherFault::SeatMissing { op }, None));
     }
+    if let Some(seat) = foreign(seats, held.len()) {
+        return Err((GatherFault::SeatForeign { op: seat.op() }, None));
+    }
     if let Some(token) = held.taken() {
-        if !saw_no_more(seats, held.len()) {
-            return never(rt);
+        if held.ended {
+            return Err((GatherFault::Ended, Some(token)));
         }
         return Err((GatherFault::LogTaken, Some(token)));
     }
@@ -50,11 +49,16 @@ pub fn judged<'a, H: DeskBrand, R: Wait>(
     }
 }
 
-/// Whether no seat has seen more entries than these.
-fn saw_no_more<'a, H: DeskBrand>(seats: &Vec<Seat<'a, H>>, entries: usize) -> bool
-    ensures { OnTrue result (All (λ (s : SeatOf). length s.seen ≤ entries) seats.now.items) }
+/// A seat that has seen more entries than these, if one has.
+fn foreign<'s, 'a, H: DeskBrand>(
+    seats: &'s Vec<Seat<'a, H>>,
+    entries: usize,
+) -> Option<&'s Seat<'a, H>>
+    ensures one { IfSome (option_copied result) (Contains seats.now.items) }
+    ensures more { IfSome (option_copied result) (λ (s : SeatOf). entries < length s.seen) }
+    ensures none { IfNone result (All (λ (s : SeatOf). length s.seen ≤ entries) seats.now.items) }
 {
-    seats.iter().all(|seat| seat.has_seen() <= entries)
+    seats.iter().find(|seat| seat.has_seen() > entries)
 }
 
 /// The least operator whose seat is missing.

@@ -12,10 +12,10 @@
 //! let log = Log::new(alloc)?;
 //! let (desk, mut seats, readers) = SharedDesk::<H>::new(&rt, alloc, &log, names, 1, 2, 1)?; // two seats
 //! let call = Call::Apply(Command::AddRoom(Room { room: 1, rate: 8_000 }));
-//! let answer = desk.call(&rt, alloc, &mut seats[0], call); // its number and notice, or why it is refused
+//! let answer = desk.call(&rt, alloc, &mut seats[0], call)?; // its number and notice, or why it is refused
 //! match desk.gather(&rt, alloc, seats) {
-//!     Ok(all) => println!(rt; "{} calls", all.len())?, // the whole log, since all seats are back
-//!     Err((desk, _, _)) => desk.end(&rt),
+//!     Ok((all, _notice)) => println!(rt; "{} calls", all.len())?, // the whole log, since all seats are back
+//!     Err((desk, _seats, _fault, _behind)) => desk.end(&rt),
 //! }
 //! ```
 //!
@@ -32,12 +32,11 @@ mod log;
 mod seat;
 mod shared;
 mod tokens;
-mod waiting;
 
 pub use self::answer::{Answer, Why};
 pub use self::desk_brand::{DeskBrand, DeskNames};
 pub use self::entry::LogEntry;
-pub use self::fault::{Behind, DeskFault, GatherFault};
+pub use self::fault::{Behind, CallFault, DeskFault, GatherFault};
 pub use self::log::Log;
 pub use self::seat::Seat;
 pub use self::shared::{MAX_OPERATORS, SharedDesk};

@@ -9,11 +9,10 @@ use crate::desk_brand::DeskBrand;
 use crate::entry::LogEntry;
 use crate::log::Log;
 use crate::tokens::agree;
-use crate::waiting::never;
 use std::alloc::{AllocError, Global};
 use std::marker::Model;
+use std::sync::OnceToken;
 use std::sync::ledger::Share;
-use std::sync::{OnceToken, Wait};
 
 /// An operator's handle of the desk.
 ///
@@ -86,26 +85,22 @@ impl<'a, H: DeskBrand> Seat<'a, H> {
         self.seen.len()
     }
 
-    /// Gives its share back, if what it has seen is a beginning of the log. Otherwise it is no seat of this desk, and
-    /// waits for ever.
-    pub(crate) fn give_back<R: Wait>(
+    /// Gives its share back. What it has seen is a beginning of the log.
+    pub(crate) fn give_back(
         self,
-        rt: &R,
         log: &'a Log,
         entries: &Vec<OnceToken<'a, LogEntry>>,
         rest: &mut Share<H>,
     )
         requires log { log.now ≡ H.cells }
         requires entries { AreFirst H.cells entries.now.items }
+        requires few { length self.seen ≤ length entries.now.items }
         ensures begins { IsPrefix self.entry.seen (shown entries.now.items) }
         ensures parts { rest.new.parts ≡ rest.old.parts + 1 }
         ensures amount { rest.new.amount ≡ rest.old.amount + self.entry.count }
         ensures apart { rest.new.parts ≤ H.parts }
     {
         let Seat { seen, mine, .. } = self;
-        if entries.len() < seen.len() {
-            return never(rt);
-        }
         agree(log, &seen, entries);
         rest.merge(mine);
     }

@@ -8,7 +8,7 @@ ghost use Rattle.desk_edit.specs.Asked.{asked_by};
 ghost use Rattle.versions.specs.Published.{new_reader};
 ghost use Rattle.operator_desk.specs.LegalLogs.{IsLegal};
 ghost use Rattle.operator_desk.specs.Seats.{SeatOf, new_seats};
-ghost use Rattle.operator_desk.specs.Answers.{IsAnswered, IsNotice, IsCopy, Tells};
+ghost use Rattle.operator_desk.specs.Answers.{IsAnswered, IsUnanswered, IsNotice, IsCopy, Tells};
 ghost use Rattle.operator_desk.specs.Opening.{desk_fault};
 ghost use Rattle.operator_desk.specs.Gathering.{IsFault};
 
@@ -16,11 +16,10 @@ use crate::answer::Answer;
 use crate::desk_brand::{DeskBrand, DeskNames};
 use crate::desk_inner::DeskInner;
 use crate::entry::LogEntry;
-use crate::fault::{Behind, DeskFault, GatherFault};
+use crate::fault::{Behind, CallFault, DeskFault, GatherFault};
 use crate::gathering::judged;
 use crate::log::Log;
 use crate::seat::{Seat, seats_for};
-use crate::waiting::never;
 use desk_calls::Desk;
 use desk_edit::Call;
 use desk_rows::Rows;
@@ -108,6 +107,7 @@ impl<'a, H: DeskBrand> SharedDesk<'a, H> {
                     log,
                     entries,
                     next: None,
+                    ended: false,
                     desk,
                     publisher,
                     calls,
@@ -130,18 +130,23 @@ impl<'a, H: DeskBrand> SharedDesk<'a, H> {
 
     /// Answers a call of one of this desk's seats.
     ///
-    /// A seat of another desk waits for ever: it has seen more than this desk's log, or the log has calls of its
-    /// operator that it didn't make.
-    pub fn call<R: Wait>(&self, rt: &R, alloc: Global, seat: &mut Seat<'a, H>, call: Call) -> Answer
-        ensures { IsAnswered H.start H.publisher seat.old seat.new (asked_by call) result }
+    /// A seat of another desk has no answer, and stays as it was. Nor has any call from the first one on that could not
+    /// be published: to its seat an entry stands behind the log.
+    pub fn call<R: Wait>(
+        &self,
+        rt: &R,
+        alloc: Global,
+        seat: &mut Seat<'a, H>,
+        call: Call,
+    ) -> Result<Answer, CallFault>
+        ensures answer { IfOk result (λ answer.
+            IsAnswered H.start H.publisher seat.old seat.new (asked_by call) answer) }
+        ensures fault { IfErr result (λ fault. IsUnanswered H.start seat.old seat.new (asked_by call) fault) }
     {
         let mut held = self.inner.lock(rt);
         let answer = held.call(rt, alloc, seat, call);
         MutexGuard::unlock(held);
-        match answer {
-            Some(answer) => answer,
-            None => never(rt),
-        }
+        answer
     }
 
     /// The notice of what is published now.
@@ -167,8 +172,7 @@ impl<'a, H: DeskBrand> SharedDesk<'a, H> {
 
     /// The whole log, once all seats are back, with the notice of its last version. Readers find no rows from then on.
     ///
-    /// It waits for ever if a seat is of another desk. The fault `LogTaken` comes with what shows that the cell behind
-    /// the log is written.
+    /// The faults `LogTaken` and `Ended` come with what shows that the cell behind the log is written.
     pub fn gather<R: Wait>(
         self,
         rt: &R,
@@ -196,7 +200,7 @@ impl<'a, H: DeskBrand> SharedDesk<'a, H> {
             seats: count,
         } = self;
         let held = inner.into_inner();
-        match judged(rt, &held, alloc, &seats, count) {
+        match judged(&held, alloc, &seats, count) {
             Ok((log, notice)) => {
                 held.settle(rt, seats);
                 Ok((log, notice))

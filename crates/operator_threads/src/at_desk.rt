@@ -1,6 +1,6 @@
 //! An operator at a shared desk.
 
-ghost use Rattle.std.specs.Prelude.{◌≡◌, OnOk, OnErr};
+ghost use Rattle.std.specs.Prelude.{◌≡◌, IfOk, OnOk, OnErr};
 ghost use Rattle.desk_edit.specs.Asked.{asked_by};
 ghost use Rattle.operator_desk.specs.Answers.{IsAnswered};
 ghost use Rattle.operator_threads.specs.Told.{IsKnown, IsTelling, SeatShows};
@@ -12,7 +12,7 @@ use crate::printing::print_answer;
 use crate::seats::TakenSeat;
 use crate::wake::Wake;
 use desk_edit::Call;
-use operator_desk::{Answer, DeskBrand};
+use operator_desk::{Answer, CallFault, DeskBrand};
 use operator_lines::LineDesk;
 use std::alloc::{AllocError, Global};
 use std::sync::{MutexGuard, Wait};
@@ -21,7 +21,7 @@ use versions::Notice;
 /// An operator at a shared desk. It is not `Drop`, so that the seat is given back: end it by [`AtDesk::leave`].
 ///
 /// As a [`LineDesk`] it answers each call by `SharedDesk::call` with its own seat. It wakes the front after each
-/// accepted call.
+/// accepted call. What the desk has no answer for ends the connection, and the bridge.
 pub struct AtDesk<'b, 'a, H: DeskBrand, R: Wait, F: Wake> {
     pub(crate) operators: &'b Operators<'a, H>,
     pub(crate) rt: &'b R,
@@ -44,15 +44,17 @@ impl<'b, 'a, H: DeskBrand, R: Wait, F: Wake> AtDesk<'b, 'a, H, R, F> {
         operators.give(rt, taken);
     }
 
-    /// Answers a call by the operator's seat. Learns the notice of an accepted one, and wakes the front.
-    fn answer_call(&mut self, alloc: Global, call: Call) -> Answer
-        ensures said { IsAnswered H.start H.publisher self.old.taken.seat self.new.taken.seat (asked_by call) result }
-        ensures known { IsKnown result self.new.known }
+    /// Answers a call by the operator's seat. Learns the notice of an accepted one, and wakes the front. A desk has no
+    /// answer for a seat of another desk, nor once it has ended.
+    fn answer_call(&mut self, alloc: Global, call: Call) -> Result<Answer, CallFault>
+        ensures said { IfOk result (λ answer.
+            IsAnswered H.start H.publisher self.old.taken.seat self.new.taken.seat (asked_by call) answer) }
+        ensures known { IfOk result (λ answer. IsKnown answer self.new.known) }
     {
         let desk = &self.operators.desk;
-        let answer = desk.call(self.rt, alloc, &mut self.taken.seat, call);
+        let answer = desk.call(self.rt, alloc, &mut self.taken.seat, call)?;
         self.note(&answer);
-        answer
+        Ok(answer)
     }
 
     /// Appends the rows of one version, a line for each, and the version. An `Err` appends nothing. The rows are
@@ -68,8 +70,17 @@ impl<'b, 'a, H: DeskBrand, R: Wait, F: Wake> AtDesk<'b, 'a, H, R, F> {
             (AppendsShown (λ desk text. SeatShows H.start asked text) self.now out.old.items out.new.items) }
         ensures err { OnErr result (out.new.items ≡ out.old.items) }
     {
-        printed.refresh(self.rt, alloc, &self.operators.desk, asked)?;
+        if !printed.refresh(self.rt, alloc, &self.operators.desk, asked)? {
+            return Err(self.give_up());
+        }
         printed.append(out)
+    }
+
+    /// Ends the bridge, whose desk has no answer. What is returned ends the connection.
+    fn give_up(&self) -> AllocError {
+        self.operators.fail();
+        self.front.wake();
+        AllocError
     }
 
     /// Learns the notice of an accepted call, and wakes the front.
@@ -95,8 +106,10 @@ impl<'b, 'a, H: DeskBrand, R: Wait, F: Wake> LineDesk for AtDesk<'b, 'a, H, R, F
     ghost shows = { λ desk text. SeatShows H.start (length desk.known.lists) text };
 
     fn reply(&mut self, alloc: Global, call: Call, out: &mut Vec<u8>) -> Result<(), AllocError> {
-        let answer = self.answer_call(alloc, call);
-        print_answer(&answer, out)
+        match self.answer_call(alloc, call) {
+            Ok(answer) => print_answer(&answer, out),
+            Err(_) => Err(self.give_up()),
+        }
     }
 
     fn show(&self, alloc: Global, out: &mut Vec<u8>) -> Result<(), AllocError> {

@@ -28,6 +28,7 @@ pub struct Operators<'a, H: DeskBrand> {
     /// Operators who keep asking take one processor together, and the others' calls have the rest.
     pub(crate) printed: Mutex<Printed<H>>,
     pub(crate) stopped: AtomicBool,
+    failed: AtomicBool,
 }
 
 impl<'a, H: DeskBrand> Operators<'a, H> {
@@ -46,6 +47,7 @@ impl<'a, H: DeskBrand> Operators<'a, H> {
             latest: Mutex::new(latest),
             printed: Mutex::new(Printed::nothing(alloc)),
             stopped: AtomicBool::new(false),
+            failed: AtomicBool::new(false),
         }
     }
 
@@ -147,6 +149,17 @@ impl<'a, H: DeskBrand> Operators<'a, H> {
         self.stopped.load(Ordering::SeqCst)
     }
 
+    /// Stops the bridge, whose desk had no answer for one of its own seats.
+    pub(crate) fn fail(&self) {
+        self.failed.store(true, Ordering::SeqCst);
+        self.stop();
+    }
+
+    /// Whether the desk had no answer for one of its own seats, which has stopped the bridge.
+    pub fn has_failed(&self) -> bool {
+        self.failed.load(Ordering::SeqCst)
+    }
+
     /// The desk, and the seats that were given back, as [`SharedDesk::gather`] takes them.
     pub fn end(self) -> (SharedDesk<'a, H>, Vec<Seat<'a, H>>) {
         let Operators {
@@ -156,6 +169,7 @@ impl<'a, H: DeskBrand> Operators<'a, H> {
             latest: _,
             printed: _,
             stopped: _,
+            failed: _,
         } = self;
         (desk, seats.into_inner().seats)
     }

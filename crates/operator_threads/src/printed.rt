@@ -1,6 +1,6 @@
 //! The rows as they were printed last.
 
-ghost use Rattle.std.specs.Prelude.{◌≡◌, ◌++◌, [], OnOk, OnErr};
+ghost use Rattle.std.specs.Prelude.{◌≡◌, ◌++◌, [], IfOk, OnOk, OnErr};
 ghost use Rattle.std.specs.Bool.{OnTrue};
 ghost use Rattle.operator_threads.specs.Told.{SeatShows};
 
@@ -53,24 +53,22 @@ impl<H: DeskBrand> Printed<H> {
     }
 
     /// Prints the rows of the version that is published now, unless those that were printed last are of this version or
-    /// a later one, which was published when they were asked for. The only error is out of memory.
+    /// a later one, which was published when they were asked for. Returns whether they are; no clause of the desk says
+    /// so. The only error is out of memory.
     pub fn refresh<R: Wait>(
         &mut self,
         rt: &R,
         alloc: Global,
         desk: &SharedDesk<'_, H>,
         asked: u64,
-    ) -> Result<(), AllocError>
-        ensures { OnOk result (SeatShows H.start asked self.new) }
+    ) -> Result<bool, AllocError>
+        ensures { IfOk result (λ is_since. OnTrue is_since (SeatShows H.start asked self.new)) }
     {
-        // It prints once at most. No clause of the desk says so.
-        for _ in rt.forever() {
-            if self.is_since(asked) {
-                return Ok(());
-            }
-            self.print_anew(rt, alloc, desk)?;
+        if self.is_since(asked) {
+            return Ok(true);
         }
-        unreachable!()
+        self.print_anew(rt, alloc, desk)?;
+        Ok(self.is_since(asked))
     }
 
     /// Prints the rows of the version that is published now. The only error is out of memory.

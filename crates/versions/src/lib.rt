@@ -14,8 +14,8 @@
 //! let Some(mut reader) = readers.pop() else {
 //!     return Ok(publisher.end(&rt));
 //! };
-//! if publisher.fits(&rt, &edits) && publisher.stage(edits).is_ok() {
-//!     publisher.publish(&rt); // version 1
+//! if publisher.fits(&rt, &edits) == Some(true) && publisher.stage(edits).is_ok() {
+//!     publisher.publish(&rt); // Some(1): version 1
 //! }
 //! reader.learn(publisher.tell());
 //! if let Ok(entered) = reader.enter() {

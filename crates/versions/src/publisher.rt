@@ -1,32 +1,42 @@
 //! The publisher.
 
-ghost use Rattle.std.specs.Prelude.{◌≡◌, true, ◌-◌, ◌^◌, ◌<◌, ◌++◌, ◌∷◌, [], Some, None, length, IsSome, IsOk, IfSome};
+ghost use Rattle.std.specs.Prelude.{◌≡◌, true, ◌-◌, ◌^◌, ◌<◌, ◌++◌, ◌∷◌, []};
+ghost use Rattle.std.specs.Prelude.{Some, None, length, IsSome, IsOk, IfSome, IfNone};
 ghost use Rattle.undo_log.specs.Timeline.{all_fit};
 ghost use Rattle.desk_rows.specs.Exchange.{fits, after};
 ghost use Rattle.versions.specs.Published.{after_lists};
-ghost use Rattle.versions.specs.inner.BookRule.{head_of};
 
-use crate::notice::{Law, LogHead, Notice};
+use crate::notice::{Law, Notice};
 use crate::showing::Showing;
-use desk_rows::Edit;
+use desk_rows::{Edit, Rows};
 use logbook::Word;
 use std::marker::Model;
+use std::snapshot::Snapshot;
 use std::sync::Wait;
 use undo_log::Edits;
 
 /// Publishes versions. It isn't `Drop`: end it by [`end`](Self::end).
 ///
+/// It ends by itself where [`publish`](Self::publish) or [`fits`](Self::fits) answers `None`: readers come back from
+/// `enter` from then on, and both answer `None` again.
+///
 /// Contracts see the first desk, the lists that were published, and the list that is staged.
 pub struct Publisher {
-    // None while a list is being published.
+    // None if it has ended, and while a list is being published.
     pub(crate) showing: Option<Showing>,
+    pub(crate) first: FirstRows,
     pub(crate) head: Word<Edits<Edit>, u64, Law>,
     pub(crate) notice: Notice,
     pub(crate) staged: Option<Edits<Edit>>,
 }
 
+/// The rows at the start, in proofs alone.
+pub struct FirstRows {
+    pub(crate) rows: Snapshot<Rows>,
+}
+
 impl Model for Publisher {
-    ghost use Rattle.std.specs.Prelude.{◌≡◌, true, IsSome, IfSome, option_and_then};
+    ghost use Rattle.std.specs.Prelude.{◌≡◌, true, IfSome};
     ghost use Rattle.undo_log.specs.Timeline.{all_fit};
     ghost use Rattle.desk_rows.specs.Exchange.{fits, after};
     ghost use Rattle.versions.specs.Published.{PublisherOf};
@@ -37,30 +47,32 @@ impl Model for Publisher {
 
     ghost view = { λ p. record {
       publisher = p.notice.publisher;
-      start = start_of (option_and_then (λ s. s.seen) p.showing);
+      start = p.first.rows.value;
       lists = p.notice.lists;
       staged = p.staged;
     } };
 
-    ghost invariant = { λ p. (p.head ≡ head_of p.notice.publisher) × IsSome p.showing
+    ghost invariant = { λ p. (p.head ≡ head_of p.notice.publisher)
         × IfSome p.showing (λ s. (s.page.notice ≡ p.notice)
+        × (start_of s.seen ≡ p.first.rows.value)
         × IfSome p.staged (λ edits. all_fit fits after s.page.desk edits ≡ true)) };
 }
 
 impl Publisher {
     /// Whether a list of edits may be staged: each edit fits the rows that those before it leave, from the last version
-    /// on. It waits for readers that are still in the version before the last one.
-    pub fn fits<R: Wait>(&mut self, rt: &R, edits: &Edits<Edit>) -> bool
-        ensures fits { result ≡ all_fit fits after (after_lists self.old.start self.old.lists) edits.now }
+    /// on. It waits for readers that are still in the version before the last one. `None` if the publisher has ended.
+    pub fn fits<R: Wait>(&mut self, rt: &R, edits: &Edits<Edit>) -> Option<bool>
+        ensures fits { IfSome result (λ fit.
+            fit ≡ all_fit fits after (after_lists self.old.start self.old.lists) edits.now) }
         ensures same { self.new ≡ self.old }
     {
-        let showing = self.showing.take().unwrap();
+        let showing = self.showing.take()?;
         showing.leads();
-        let (fits, showing) = showing.fits(rt, edits);
+        let (fits, showing) = showing.fits(rt, edits)?;
         if let Some(none) = self.showing.replace(showing) {
             none.end(rt);
         }
-        fits
+        Some(fits)
     }
 
     /// Keeps a list of edits for `publish`. It takes no memory, and never hands the list back.
@@ -86,28 +98,39 @@ impl Publisher {
 
     /// Publishes the list that is staged, and returns the version. It waits for readers that are still in a version
     /// that they entered before. Neither of the two copies judges the edits again.
-    pub fn publish<R: Wait>(&mut self, rt: &R) -> u64
+    ///
+    /// `None` if the publisher has ended: it adds no list, and the staged one is gone. It ends here where a copy of the
+    /// rows has an owner too many or the edition finds no memory, which the calls before it have seen to.
+    pub fn publish<R: Wait>(&mut self, rt: &R) -> Option<u64>
         requires staged { IsSome self.old.staged }
         requires below { length self.old.lists < 2 ^ 64 - 1 }
-        ensures published { IfSome self.old.staged (λ edits. self.new.lists ≡ self.old.lists ++ edits ∷ []) }
+        ensures published { IfSome result (λ version.
+            IfSome self.old.staged (λ edits. self.new.lists ≡ self.old.lists ++ edits ∷ [])) }
+        ensures unpublished { IfNone result (self.new.lists ≡ self.old.lists) }
         ensures same { (self.new.publisher ≡ self.old.publisher) × (self.new.start ≡ self.old.start) }
         ensures none { self.new.staged ≡ None }
-        ensures version { result ≡ length self.new.lists }
+        ensures version { IfSome result (λ version. version ≡ length self.new.lists) }
     {
         let edits = self.staged.take().unwrap();
-        let showing = self.showing.take().unwrap();
-        grow(rt, &self.head, &mut self.notice, &edits);
-        let showing = showing.after(rt, self.notice.again(), edits);
+        let showing = self.showing.take()?;
+        let mut notice = self.notice.again();
+        if !notice.add(&self.head, &edits) {
+            showing.end(rt);
+            return None;
+        }
+        let showing = showing.after(rt, notice.again(), edits)?;
         if let Some(none) = self.showing.replace(showing) {
             none.end(rt);
         }
-        self.notice.version()
+        self.notice = notice;
+        Some(self.notice.version())
     }
 
     /// Waits for readers that are still in a version. From then on readers come back from `enter`.
     pub fn end<R: Wait>(self, rt: &R) {
         let Publisher {
             showing,
+            first: _,
             head: _,
             notice: _,
             staged: _,
@@ -115,16 +138,5 @@ impl Publisher {
         if let Some(showing) = showing {
             showing.end(rt);
         }
-    }
-}
-
-// Adds a list to the book. Nobody else adds to it, so the loop never runs.
-fn grow<R: Wait>(rt: &R, head: &LogHead, notice: &mut Notice, edits: &Edits<Edit>)
-    requires below { length notice.old.lists < 2 ^ 64 - 1 }
-    requires head { head.now ≡ head_of notice.old.publisher }
-    ensures { notice.new ≡ record notice.old { lists = notice.old.lists ++ edits.now ∷ [] } }
-{
-    if !notice.add(head, edits) {
-        for _ in rt.forever() {}
     }
 }

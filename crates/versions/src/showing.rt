@@ -1,7 +1,8 @@
 //! Shows editions, from two copies of the rows.
 
-ghost use Rattle.std.specs.Prelude.{◌≡◌, true, ◌++◌, ◌∷◌, [], drop};
+ghost use Rattle.std.specs.Prelude.{◌≡◌, true, ◌+◌, ◌++◌, ◌∷◌, [], length, fold, drop, IfSome};
 ghost use Rattle.std.specs.Arc.{arc_value};
+ghost use Rattle.std.specs.Bool.{OnTrue};
 ghost use Rattle.left_right.specs.Sides.{view as sight_of};
 ghost use Rattle.undo_log.specs.Timeline.{all_fit};
 ghost use Rattle.desk_rows.specs.Exchange.{fits, after};
@@ -69,10 +70,10 @@ impl Showing {
         let _writer = &self.writer;
     }
 
-    /// Whether each of the edits fits the rows that those before it leave.
-    pub fn fits<R: Wait>(self, rt: &R, edits: &Edits<Edit>) -> (bool, Showing)
-        ensures fits { result.0 ≡ all_fit fits after self.page.desk edits.now }
-        ensures same { (result.1.page ≡ self.page) × (start_of result.1.seen ≡ start_of self.seen) }
+    /// Whether each of the edits fits the rows that those before it leave. `None` if it has ended.
+    pub fn fits<R: Wait>(self, rt: &R, edits: &Edits<Edit>) -> Option<(bool, Showing)>
+        ensures fits { IfSome result (λ r. r.0 ≡ all_fit fits after self.page.desk edits.now) }
+        ensures same { IfSome result (λ r. (r.1.page ≡ self.page) × (start_of r.1.seen ≡ start_of self.seen)) }
     {
         let Showing {
             writer,
@@ -80,9 +81,12 @@ impl Showing {
             before,
             last,
             alloc,
-        } = self.caught_up(rt);
+        } = self.caught_up(rt)?;
         let mut before = before;
-        let fits = judged(rt, &mut before, edits);
+        let Some(fits) = judged(&mut before, edits) else {
+            writer.take(rt);
+            return None;
+        };
         let showing = Showing {
             writer,
             shown,
@@ -90,16 +94,16 @@ impl Showing {
             last,
             alloc,
         };
-        (fits, showing)
+        Some((fits, showing))
     }
 
-    /// Absorbs a list of edits into the copy of the edition before, and shows that copy.
-    pub fn after<R: Wait>(self, rt: &R, notice: Notice, edits: Edits<Edit>) -> Showing
+    /// Absorbs a list of edits into the copy of the edition before, and shows that copy. `None` if it has ended.
+    pub fn after<R: Wait>(self, rt: &R, notice: Notice, edits: Edits<Edit>) -> Option<Showing>
         requires fit { all_fit fits after self.page.desk edits ≡ true }
         requires publisher { notice.publisher ≡ self.page.notice.publisher }
         requires lists { notice.lists ≡ self.page.notice.lists ++ edits ∷ [] }
-        ensures page { result.page ≡ next_page after_list self.page edits notice }
-        ensures start { start_of result.seen ≡ start_of self.seen }
+        ensures page { IfSome result (λ s. s.page ≡ next_page after_list self.page edits notice) }
+        ensures start { IfSome result (λ s. start_of s.seen ≡ start_of self.seen) }
     {
         let Showing {
             writer,
@@ -107,25 +111,28 @@ impl Showing {
             before,
             last: _,
             alloc,
-        } = self.caught_up(rt);
+        } = self.caught_up(rt)?;
         let mut next = before;
-        absorbed(rt, &mut next, &edits);
-        let edition = Edition::new(owned(rt, &next), notice);
-        let writer = published(rt, writer, edition, &edits);
-        Showing {
+        let Some(edition) = edition_after(&mut next, &edits, notice) else {
+            writer.take(rt);
+            return None;
+        };
+        let writer = published(rt, writer, edition, &edits)?;
+        Some(Showing {
             writer,
             shown: next,
             before: shown,
             last: edits,
             alloc,
-        }
+        })
     }
 
-    /// Brings the copy of the edition before up to date. It waits for readers that are still in that edition.
-    fn caught_up<R: Wait>(self, rt: &R) -> Showing
-        ensures page { result.page ≡ self.page }
-        ensures start { start_of result.seen ≡ start_of self.seen }
-        ensures lacking { result.lacking ≡ [] }
+    /// Brings the copy of the edition before up to date. It waits for readers that are still in that edition. `None` if
+    /// it has ended.
+    fn caught_up<R: Wait>(self, rt: &R) -> Option<Showing>
+        ensures page { IfSome result (λ s. s.page ≡ self.page) }
+        ensures start { IfSome result (λ s. start_of s.seen ≡ start_of self.seen) }
+        ensures lacking { IfSome result (λ s. s.lacking ≡ []) }
     {
         let Showing {
             writer,
@@ -135,16 +142,19 @@ impl Showing {
             alloc,
         } = self;
         // Both sides own what is shown then, so the other copy has one owner.
-        let writer = repeated(rt, writer, &shown);
+        let writer = repeated(rt, writer)?;
         let mut before = before;
-        absorbed(rt, &mut before, &last);
-        Showing {
+        if !absorbed(&mut before, &last) {
+            writer.take(rt);
+            return None;
+        }
+        Some(Showing {
             writer,
             shown,
             before,
             last: Edits::new(Vec::new(alloc)),
             alloc,
-        }
+        })
     }
 
     /// Waits for readers that are still in a version. From then on readers come back from `enter`.
@@ -160,107 +170,115 @@ impl Showing {
     }
 }
 
-// Nobody else owns these rows, so the loop runs once.
-fn absorbed<R: Wait>(rt: &R, rows: &mut Arc<Listed<Rows>>, edits: &Edits<Edit>)
+// Absorbs the edits, unless the rows have another owner.
+fn absorbed(rows: &mut Arc<Listed<Rows>>, edits: &Edits<Edit>) -> bool
     requires { all_fit fits after (arc_value rows.old) edits.now ≡ true }
-    ensures { arc_value rows.new ≡ after_list (arc_value rows.old) edits.now }
+    ensures { OnTrue result (arc_value rows.new ≡ after_list (arc_value rows.old) edits.now) }
 {
-    for _ in rt.forever() {
-        if let Some(rows) = Arc::get_mut(rows) {
+    match Arc::get_mut(rows) {
+        Some(rows) => {
             rows.absorb_fitting(edits);
-            return;
+            true
         }
+        None => false,
     }
-    unreachable!()
 }
 
-// Nobody else owns these rows, so the loop runs once.
-fn judged<R: Wait>(rt: &R, rows: &mut Arc<Listed<Rows>>, edits: &Edits<Edit>) -> bool
-    ensures judged { result ≡ all_fit fits after (arc_value rows.old) edits.now }
+// Whether the edits fit. None if the rows have another owner.
+fn judged(rows: &mut Arc<Listed<Rows>>, edits: &Edits<Edit>) -> Option<bool>
+    ensures judged { IfSome result (λ fit. fit ≡ all_fit fits after (arc_value rows.old) edits.now) }
     ensures same { arc_value rows.new ≡ arc_value rows.old }
 {
-    for _ in rt.forever() {
-        if let Some(rows) = Arc::get_mut(rows) {
-            return rows.fits(edits);
-        }
+    match Arc::get_mut(rows) {
+        Some(rows) => Some(rows.fits(edits)),
+        None => None,
     }
-    unreachable!()
 }
 
-// The count of owners is never full, so the loop runs once.
-fn owned<R: Wait>(rt: &R, rows: &Arc<Listed<Rows>>) -> Arc<Listed<Rows>>
-    ensures { arc_value result ≡ arc_value rows.now }
+// Absorbs the edits, and makes an edition of the rows. None if the rows have another owner, or 2^63 of them.
+fn edition_after(
+    rows: &mut Arc<Listed<Rows>>,
+    edits: &Edits<Edit>,
+    notice: Notice,
+) -> Option<Edition>
+    requires { all_fit fits after (arc_value rows.old) edits.now ≡ true }
+    ensures rows { IfSome result (λ edition. arc_value rows.new ≡ after_list (arc_value rows.old) edits.now) }
+    ensures edition { IfSome result (λ edition. edition ≡ record { notice = notice; desk = arc_value rows.new }) }
 {
-    for _ in rt.forever() {
-        if let Ok(rows) = Arc::try_clone(rows) {
-            return rows;
-        }
+    if !absorbed(rows, edits) {
+        return None;
     }
-    unreachable!()
+    match Arc::try_clone(rows) {
+        Ok(rows) => Some(Edition::new(rows, notice)),
+        Err(_) => None,
+    }
 }
 
-// The log of the writer has had the capacity for two editions from the start on, so the loop runs once.
-fn appended<R: Wait>(rt: &R, writer: Lead, edition: Edition) -> Lead
-    requires { drop writer.behind writer.log.items ≡ [] }
-    ensures desk { result.desk ≡ writer.desk }
-    ensures one { drop result.behind result.log.items ≡ edition ∷ [] }
-{
-    let mut writer = writer;
-    let mut edition = edition;
-    for _ in rt.forever() {
-        match writer.append(edition) {
-            Ok(()) => break,
-            Err(back) => edition = back,
-        }
-    }
-    writer
-}
-
-// Shows readers the next edition. The count of owners of its rows is never full, so the loop runs once.
-fn published<R: Wait>(rt: &R, writer: Lead, edition: Edition, edits: &Edits<Edit>) -> Lead
+// Shows readers the next edition. None if the log has no memory for it, or its rows have 2^63 owners: the writer has
+// ended then.
+fn published<R: Wait>(rt: &R, writer: Lead, edition: Edition, edits: &Edits<Edit>) -> Option<Lead>
     requires settled { drop writer.behind writer.log.items ≡ [] }
     requires page { edition ≡ next_page after_list writer.desk.shown.value edits.now edition.notice }
     requires publisher { edition.notice.publisher ≡ writer.desk.shown.value.notice.publisher }
     requires lists { edition.notice.lists ≡ writer.desk.shown.value.notice.lists ++ edits.now ∷ [] }
     requires seen { IsOf writer.desk.shown.value.notice.publisher (sight_of writer.desk.place) }
-    ensures settled { drop result.behind result.log.items ≡ [] }
-    ensures shown { result.desk.shown.value ≡ edition }
-    ensures start { start_of (sight_of result.desk.place) ≡ start_of (sight_of writer.desk.place) }
-    ensures seen { IsOf edition.notice.publisher (sight_of result.desk.place) }
-    ensures leads { edition.desk ≡ after_lists (start_of (sight_of result.desk.place)) edition.notice.lists }
+    ensures settled { IfSome result (λ w. drop w.behind w.log.items ≡ []) }
+    ensures shown { IfSome result (λ w. w.desk.shown.value ≡ edition) }
+    ensures start { IfSome result (λ w. start_of (sight_of w.desk.place) ≡ start_of (sight_of writer.desk.place)) }
+    ensures seen { IfSome result (λ w. IsOf edition.notice.publisher (sight_of w.desk.place)) }
+    ensures leads { IfSome result (λ w.
+        edition.desk ≡ after_lists (start_of (sight_of w.desk.place)) edition.notice.lists) }
 {
-    let mut writer = appended(rt, writer, edition);
-    for _ in rt.forever() {
-        let (next, outcome) = writer.publish_as::<Looks, R>(rt);
-        writer = next;
-        if outcome.is_ok() {
-            break;
-        }
+    let mut writer = writer;
+    if writer.append(edition).is_err() {
+        writer.take(rt);
+        return None;
     }
-    writer
+    let (next, outcome) = writer.publish_as::<Looks, R>(rt);
+    if outcome.is_err() {
+        next.take(rt);
+        return None;
+    }
+    Some(next)
 }
 
-// Shows the same edition on the other side, which lets go of the rows that it owns. The count of owners is never full,
-// so the loop runs once.
-fn repeated<R: Wait>(rt: &R, writer: Lead, shown: &Arc<Listed<Rows>>) -> Lead
+// Shows the same edition on the other side, which lets go of the rows that it owns. None if the log has no memory for
+// it, or its rows have 2^63 owners: the writer has ended then.
+fn repeated<R: Wait>(rt: &R, writer: Lead) -> Option<Lead>
     requires settled { drop writer.behind writer.log.items ≡ [] }
-    requires rows { arc_value shown.now ≡ writer.desk.shown.value.desk }
     requires seen { IsOf writer.desk.shown.value.notice.publisher (sight_of writer.desk.place) }
-    ensures settled { drop result.behind result.log.items ≡ [] }
-    ensures same { result.desk.shown.value ≡ writer.desk.shown.value }
-    ensures start { start_of (sight_of result.desk.place) ≡ start_of (sight_of writer.desk.place) }
-    ensures seen { IsOf writer.desk.shown.value.notice.publisher (sight_of result.desk.place) }
-    ensures leads { writer.desk.shown.value.desk
-        ≡ after_lists (start_of (sight_of result.desk.place)) writer.desk.shown.value.notice.lists }
+    ensures settled { IfSome result (λ w. drop w.behind w.log.items ≡ []) }
+    ensures same { IfSome result (λ w. w.desk.shown.value ≡ writer.desk.shown.value) }
+    ensures start { IfSome result (λ w. start_of (sight_of w.desk.place) ≡ start_of (sight_of writer.desk.place)) }
+    ensures seen { IfSome result (λ w. IsOf writer.desk.shown.value.notice.publisher (sight_of w.desk.place)) }
+    ensures leads { IfSome result (λ w. writer.desk.shown.value.desk
+        ≡ after_lists (start_of (sight_of w.desk.place)) writer.desk.shown.value.notice.lists) }
 {
-    let edition = Edition::new(owned(rt, shown), writer.published().notice().again());
-    let mut writer = appended(rt, writer, edition);
-    for _ in rt.forever() {
-        let (next, outcome) = writer.publish_as::<Looks, R>(rt);
-        writer = next;
-        if outcome.is_ok() {
-            break;
-        }
+    let mut writer = writer;
+    if !repeats(&mut writer) {
+        writer.take(rt);
+        return None;
     }
-    writer
+    let (next, outcome) = writer.publish_as::<Looks, R>(rt);
+    if outcome.is_err() {
+        next.take(rt);
+        return None;
+    }
+    Some(next)
+}
+
+// Appends the edition that is shown, unless the log has no memory for it, or its rows have 2^63 owners.
+pub(crate) fn repeats(writer: &mut Lead) -> bool
+    requires idle { fold (λ before next. next) writer.old.desk.shown.value (drop writer.old.behind writer.old.log.items)
+        ≡ writer.old.desk.shown.value }
+    ensures same { writer.new.desk ≡ writer.old.desk }
+    ensures idle { fold (λ before next. next) writer.new.desk.shown.value (drop writer.new.behind writer.new.log.items)
+        ≡ writer.new.desk.shown.value }
+    ensures one { OnTrue result (length (drop writer.new.behind writer.new.log.items)
+        ≡ length (drop writer.old.behind writer.old.log.items) + 1) }
+{
+    match writer.published().again() {
+        Ok(edition) => writer.append(edition).is_ok(),
+        Err(_) => false,
+    }
 }

@@ -9,13 +9,14 @@ ghost use Rattle.versions.specs.inner.ReaderRule.{IsOf, first_sight, reader_of};
 
 use crate::edition::Edition;
 use crate::notice::{Notice, Opened};
-use crate::publisher::Publisher;
+use crate::publisher::{FirstRows, Publisher};
 use crate::reader::LaneReader;
 use crate::rule::{Looks, Shares};
-use crate::showing::{Lead, Showing};
+use crate::showing::{Lead, Showing, repeats};
 use desk_rows::Rows;
 use left_right::writer::Writer;
 use std::alloc::{AllocError, Global};
+use std::snapshot::Snapshot;
 use std::sync::{Arc, Wait};
 use thiserror::Error;
 use undo_log::{Edits, Listed};
@@ -67,12 +68,14 @@ fn made<R: Wait>(
     ensures readers { IfOk result (λ r. All (λ reader. reader ≡ new_reader opened rows) r.1.items) }
 {
     let (head, notice) = opened.into_parts();
+    let first = FirstRows {
+        rows: Snapshot::of(&rows),
+    };
     let shown = owned(alloc, rows.copy(alloc)?)?;
     let before = owned(alloc, rows)?;
-    let first = Edition::new(Arc::try_clone(&shown)?, notice.again());
-    let second = Edition::new(Arc::try_clone(&before)?, notice.again());
-    let writer: Lead = Writer::new(alloc, first, second, readers)?;
-    let mut writer = begun(rt, writer)?;
+    let one = Edition::new(Arc::try_clone(&shown)?, notice.again());
+    let other = Edition::new(Arc::try_clone(&before)?, notice.again());
+    let mut writer = begun(rt, Writer::new(alloc, one, other, readers)?)?;
     match seats(alloc, &mut writer, &notice, readers) {
         Ok(lanes) => {
             let showing = Showing {
@@ -84,6 +87,7 @@ fn made<R: Wait>(
             };
             let publisher = Publisher {
                 showing: Some(showing),
+                first,
                 head,
                 notice,
                 staged: None,
@@ -132,22 +136,6 @@ fn holds_two(writer: &mut Lead) -> bool
     ensures two { OnTrue result (length (drop writer.new.behind writer.new.log.items) ≡ 2) }
 {
     repeats(writer) && repeats(writer)
-}
-
-// Appends the edition that is shown.
-fn repeats(writer: &mut Lead) -> bool
-    requires idle { fold (λ before next. next) writer.old.desk.shown.value (drop writer.old.behind writer.old.log.items)
-        ≡ writer.old.desk.shown.value }
-    ensures same { writer.new.desk ≡ writer.old.desk }
-    ensures idle { fold (λ before next. next) writer.new.desk.shown.value (drop writer.new.behind writer.new.log.items)
-        ≡ writer.new.desk.shown.value }
-    ensures one { OnTrue result (length (drop writer.new.behind writer.new.log.items)
-        ≡ length (drop writer.old.behind writer.old.log.items) + 1) }
-{
-    match writer.published().again() {
-        Ok(edition) => writer.append(edition).is_ok(),
-        Err(_) => false,
-    }
 }
 
 // Shows the other side, where what waits changes nothing.

@@ -32,12 +32,15 @@ fn filled<R: Wait>(rt: &R, alloc: Global, publisher: &mut Publisher) -> io::Resu
     requires lists { publisher.old.lists ≡ [] }
 {
     let edits = fills(alloc)?;
-    if !publisher.fits(rt, &edits) {
+    let fits = publisher.fits(rt, &edits).unwrap_or(false);
+    if !fits {
         return Err(io::Error::other("the rows do not fit"));
     }
     let _staged = publisher.stage(edits);
-    publisher.publish(rt);
-    Ok(())
+    match publisher.publish(rt) {
+        Some(_) => Ok(()),
+        None => Err(io::Error::other("the publisher has ended")),
+    }
 }
 
 /// The sum of the versions, and the rows of the last entry.

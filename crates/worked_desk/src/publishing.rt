@@ -1,6 +1,6 @@
 //! What a publisher has published.
 
-ghost use Rattle.std.specs.Prelude.{◌≡◌, ◌∷◌, [], true, Some, None};
+ghost use Rattle.std.specs.Prelude.{◌≡◌, ◌∷◌, [], true, None, IfSome, IfNone};
 ghost use Rattle.undo_log.specs.Timeline.{all_fit};
 ghost use Rattle.desk_rows.specs.Exchange.{fits, after};
 ghost use Rattle.versions.specs.Published.{after_list, after_lists};
@@ -10,7 +10,7 @@ use std::sync::Wait;
 use undo_log::Edits;
 use versions::{Notice, Publisher};
 
-/// The first list is version 1.
+/// The first list is version 1. A publisher that has ended adds none.
 pub fn publishes_version_1<R: Wait>(
     rt: &R,
     publisher: &mut Publisher,
@@ -19,13 +19,14 @@ pub fn publishes_version_1<R: Wait>(
     requires none { publisher.old.staged ≡ None }
     requires lists { publisher.old.lists ≡ [] }
     requires fit { all_fit fits after publisher.old.start edits ≡ true }
-    ensures lists { publisher.new.lists ≡ edits ∷ [] }
-    ensures version { result ≡ Some 1 }
+    ensures lists { IfSome result (λ version. publisher.new.lists ≡ edits ∷ []) }
+    ensures version { IfSome result (λ version. version ≡ 1) }
+    ensures ended { IfNone result (publisher.new.lists ≡ []) }
     ensures same { (publisher.new.publisher ≡ publisher.old.publisher) × (publisher.new.start ≡ publisher.old.start) }
     ensures none { publisher.new.staged ≡ None }
 {
-    publisher.stage(edits).ok()?;
-    Some(publisher.publish(rt))
+    let _staged = publisher.stage(edits);
+    publisher.publish(rt)
 }
 
 /// Lists stand in the order in which they are published.
@@ -34,19 +35,19 @@ pub fn publishes_two<R: Wait>(
     publisher: &mut Publisher,
     first: Edits<Edit>,
     second: Edits<Edit>,
-) -> Notice
+) -> Option<Notice>
     requires none { publisher.old.staged ≡ None }
     requires lists { publisher.old.lists ≡ [] }
     requires first { all_fit fits after publisher.old.start first ≡ true }
     requires second { all_fit fits after (after_list publisher.old.start first) second ≡ true }
-    ensures told { result.lists ≡ first ∷ second ∷ [] }
-    ensures publisher { result.publisher ≡ publisher.old.publisher }
+    ensures told { IfSome result (λ notice. notice.lists ≡ first ∷ second ∷ []) }
+    ensures publisher { IfSome result (λ notice. notice.publisher ≡ publisher.old.publisher) }
     ensures start { publisher.new.start ≡ publisher.old.start }
 {
-    let _one = publishes_version_1(rt, publisher, first);
+    publishes_version_1(rt, publisher, first)?;
     let _staged = publisher.stage(second);
-    publisher.publish(rt);
-    publisher.tell()
+    publisher.publish(rt)?;
+    Some(publisher.tell())
 }
 
 /// A list that is staged isn't published yet, and it isn't handed back.

@@ -1,7 +1,7 @@
 //! Answers, printed.
 
 use desk_edit::{Call, Carried};
-use operator_desk::{Answer, DeskBrand, GatherFault, Seat, SharedDesk, Why};
+use operator_desk::{Answer, CallFault, DeskBrand, GatherFault, Seat, SharedDesk, Why};
 use std::alloc::Global;
 use std::io;
 use std::sync::Wait;
@@ -15,8 +15,10 @@ pub fn says<'a, H: DeskBrand, R: Wait + Print>(
     call: Call,
 ) -> io::Result<()> {
     match desk.call(rt, alloc, seat, call) {
-        Answer::Accepted { no, .. } => println!(rt; "ok {no}"),
-        Answer::Refused { at, why } => say_why(rt, at, why),
+        Ok(Answer::Accepted { no, .. }) => println!(rt; "ok {no}"),
+        Ok(Answer::Refused { at, why }) => say_why(rt, at, why),
+        Err(CallFault::SeatForeign) => println!(rt; "call SeatForeign"),
+        Err(CallFault::Ended) => println!(rt; "call Ended"),
     }
 }
 
@@ -35,7 +37,9 @@ fn say_why<R: Print>(rt: &R, at: u64, why: Why) -> io::Result<()> {
 pub fn say_fault<R: Print>(rt: &R, fault: GatherFault) -> io::Result<()> {
     match fault {
         GatherFault::SeatMissing { op } => println!(rt; "missing {op}"),
+        GatherFault::SeatForeign { op } => println!(rt; "foreign {op}"),
         GatherFault::LogTaken => println!(rt; "gather LogTaken"),
+        GatherFault::Ended => println!(rt; "gather Ended"),
         GatherFault::OutOfMemory => println!(rt; "gather OutOfMemory"),
     }
 }

@@ -66,11 +66,12 @@ fn published<R: Wait>(rt: &R, publisher: &mut Publisher, edits: Edits<Edit>) -> 
     ensures none { publisher.new.staged ≡ None }
     ensures more { length publisher.new.lists ≤ length publisher.old.lists + 1 }
 {
-    if !publisher.fits(rt, &edits) {
+    let fits = publisher.fits(rt, &edits)?;
+    if !fits {
         return None;
     }
     let _staged = publisher.stage(edits);
-    Some(publisher.publish(rt))
+    publisher.publish(rt)
 }
 
 /// Publishes a list for each further room, and says whether each list fit and memory sufficed.

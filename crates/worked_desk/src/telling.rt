@@ -148,7 +148,7 @@ fn told_of<'a, H: DeskBrand, R: Wait>(
         f.version ≡ f.no → f.count ≡ count_of kind (desk_now (after_log H.start seat.new.seen))) }
 {
     match desk.call(rt, alloc, seat, call) {
-        Answer::Accepted { no, notice } => match read(reader, notice, kind) {
+        Ok(Answer::Accepted { no, notice }) => match read(reader, notice, kind) {
             (Some(entry), reader) => {
                 let found = Found {
                     no,
@@ -159,7 +159,7 @@ fn told_of<'a, H: DeskBrand, R: Wait>(
             }
             (None, reader) => (None, reader),
         },
-        Answer::Refused { .. } => (None, reader),
+        Ok(Answer::Refused { .. }) | Err(_) => (None, reader),
     }
 }
 

@@ -114,8 +114,8 @@ fn made<'d, 'a, H: DeskBrand, R: Wait>(
 {
     let Post { desk, mut seat } = post;
     match desk.call(rt, alloc, &mut seat, call) {
-        Answer::Accepted { .. } => Some(seat),
-        Answer::Refused { .. } => None,
+        Ok(Answer::Accepted { .. }) => Some(seat),
+        Ok(Answer::Refused { .. }) | Err(_) => None,
     }
 }
 

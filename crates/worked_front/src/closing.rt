@@ -41,7 +41,7 @@ pub fn call_and_close<'a, H: DeskBrand, N: PublisherName, P: Pace, S: Sink, R: T
 {
     let mut bridge = bridge;
     match desk.call(rt, alloc, seat, call) {
-        Answer::Accepted { no: _, notice } => {
+        Ok(Answer::Accepted { no: _, notice }) => {
             tell(&mut bridge, 0, notice.again(), moment);
             tell(&mut bridge, 1, notice.again(), moment);
             let ends = bridge.close(rt);
@@ -53,7 +53,7 @@ pub fn call_and_close<'a, H: DeskBrand, N: PublisherName, P: Pace, S: Sink, R: T
                 None
             }
         }
-        Answer::Refused { .. } => {
+        Ok(Answer::Refused { .. }) | Err(_) => {
             bridge.close(rt);
             None
         }

@@ -85,7 +85,7 @@ pub fn call_desk<'a, H: DeskBrand, R: Wait>(
 ) -> u64 {
     let mut accepted = 0u64;
     for made in 0..calls {
-        if let Answer::Accepted { .. } = desk.call(rt, alloc, seat, call_of(turn, made)) {
+        if let Ok(Answer::Accepted { .. }) = desk.call(rt, alloc, seat, call_of(turn, made)) {
             accepted = accepted.saturating_add(1);
         }
     }
@@ -101,9 +101,9 @@ pub fn fill<'a, H: DeskBrand, R: Wait>(
     commands: &[Command],
 ) -> bool {
     for command in commands {
-        if let Answer::Refused { .. } = desk.call(rt, alloc, seat, Call::Apply(*command)) {
+        let Ok(Answer::Accepted { .. }) = desk.call(rt, alloc, seat, Call::Apply(*command)) else {
             return false;
-        }
+        };
     }
     true
 }

@@ -54,9 +54,9 @@ fn call_all<'d, 'a, H: DeskBrand, R: Wait>(
         let call = call_of(Turn::Mutes { picture: 0 }, made);
         let answer = desk.call(rt, alloc, &mut seat, call);
         meeting.begin();
-        if let Answer::Refused { .. } = answer {
+        let Ok(Answer::Accepted { .. }) = answer else {
             return false;
-        }
+        };
     }
     false
 }

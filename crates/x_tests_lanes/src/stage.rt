@@ -85,8 +85,8 @@ impl<'a, H: DeskBrand> OneDesk<'a, H> {
             .desk
             .call(rt, alloc, &mut self.seat, Call::Apply(command))
         {
-            Answer::Accepted { no: _, notice } => Some(Told::new(notice)),
-            Answer::Refused { .. } => None,
+            Ok(Answer::Accepted { no: _, notice }) => Some(Told::new(notice)),
+            Ok(Answer::Refused { .. }) | Err(_) => None,
         }
     }
 

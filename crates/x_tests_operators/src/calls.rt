@@ -2,7 +2,7 @@
 
 use desk_edit::{Call, Command, Refusal};
 use desk_rows::Room;
-use operator_desk::{Answer, Why};
+use operator_desk::{Answer, CallFault, Why};
 
 /// The answer to a call, as a desk with one operator gives it too.
 #[derive(Clone, Copy, PartialEq, Eq)]
@@ -34,8 +34,8 @@ pub fn version_of(reply: Reply) -> u64 {
 }
 
 /// The answer, if a desk with one operator can give it.
-pub fn reply_of(answer: Answer) -> Option<Reply> {
-    match answer {
+pub fn reply_of(answer: Result<Answer, CallFault>) -> Option<Reply> {
+    match answer.ok()? {
         Answer::Accepted { no, .. } => Some(Reply::Accepted { no }),
         Answer::Refused { at, why } => match why {
             Why::Told(why) => Some(Reply::Refused { at, why }),

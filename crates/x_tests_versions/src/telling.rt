@@ -26,11 +26,12 @@ pub fn publish<R: Wait>(
     let Ok(edits) = plain.next(alloc) else {
         return None;
     };
-    if !publisher.fits(rt, &edits) {
+    let fits = publisher.fits(rt, &edits)?;
+    if !fits {
         return None;
     }
     let _staged = publisher.stage(edits);
-    Some(publisher.publish(rt))
+    publisher.publish(rt)
 }
 
 /// The version that a reader finds, if its rows are those that the plain copy has at it.

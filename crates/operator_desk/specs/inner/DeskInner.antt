@@ -1,6 +1,5 @@
 -- What holds whenever nobody has the desk.
 use Rattle.std.specs.Prelude.{◌≡◌, ℕ, List, length, Option, None}
-use mathlib.Core.List.{IsPrefix}
 use Rattle.logbook.specs.Pages.{Book}
 use Rattle.desk_rows.specs.Desk.{Desk}
 use Rattle.desk_rows.specs.Edit.{EditOf}
@@ -11,8 +10,6 @@ use Rattle.desk_calls.specs.Following.{HasCalled}
 use Rattle.versions.specs.Published.{PublisherOf}
 use Rattle.operator_desk.specs.Entry.{EntryOf}
 use Rattle.operator_desk.specs.LegalLogs.{after_log, IsLegal}
-use Rattle.operator_desk.specs.OwnCalls.{numbers}
-use Rattle.operator_desk.specs.Seats.{SeatOf}
 use Rattle.operator_desk.specs.Published.{AreDesks}
 
 -- what lies under the lock: the log, the desk, what is published, an entry behind the log, and the count of calls
@@ -32,10 +29,6 @@ pub record IsInner (start : Desk) (publisher : Book) (h : InnerOf) : Type 0 wher
   pub desks : AreDesks start h.log h.edition.lists
   pub staged : h.beyond ≡ None → h.edition.staged ≡ None
   pub counted : length h.log ≡ h.total
-
--- the seat has seen a beginning of the log, in which its operator has the calls that the seat has seen and no others
-abbrev pub IsOurs : SeatOf → List EntryOf → Type 0
-IsOurs seat log = IsPrefix seat.seen log × (numbers seat.op log ≡ numbers seat.op seat.seen)
 
 -- the edits lead from the desk to the one that the call makes of it
 abbrev pub Leads : DeskOf → CallOf → List EditOf → Type 0

@@ -1,4 +1,4 @@
-use Rattle.std.proofs.Common.{◌≡◌, ◌++◌, ◌∷◌, [], sym, ap, ◌∙◌, fold}
+use Rattle.std.proofs.Common.{◌≡◌, ◌++◌, ◌∷◌, [], drop, rules, sym, ap, ◌∙◌, fold}
 use Rattle.versions.specs.Published.{after_list}
 use Rattle.versions.specs.inner.Page.{Page}
 use Rattle.versions.proofs.ReaderSteps.{shows}
@@ -6,10 +6,13 @@ use Rattle.versions.proofs.showing.published.Goals as goal
 
 pub publish_as-next-requires : goal.publish_as-next-requires
 publish_as-next-requires g c next is =
-    let (shown, seen, waits) = c.loop.invariant in
+    let w = c.append.new.self in
+    let now = w.desk.shown.value in
     let edits = c.args.edits.now in
-    let leads : next ≡ c.args.edition = is ∙ ap (fold (λ (x y : Page). y) c.loop.writer.desk.shown.value) waits in
-    shows after_list _ _ c.loop.writer.desk.shown.value next edits
+    let shown : now ≡ c.args.writer.desk.shown.value = search rules in
+    let waits : drop w.behind w.log.items ≡ c.args.edition ∷ [] = search rules in
+    let leads : next ≡ c.args.edition = is ∙ ap (fold (λ (x y : Page). y) now) waits in
+    shows after_list _ _ now next edits
     (ap (λ (p : Page). p.notice.publisher) leads
     ∙ (c.requires.publisher ∙ ap (λ (p : Page). p.notice.publisher) (sym shown)))
     (ap (λ (p : Page). p.notice.lists) leads

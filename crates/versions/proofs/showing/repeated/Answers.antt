@@ -1,4 +1,4 @@
-use Rattle.std.proofs.Common.{◌≡◌, sym, ap, subst, ◌∙◌, fold}
+use Rattle.std.proofs.Common.{sym, subst, ◌∙◌}
 use Rattle.left_right.specs.Register.{TurnsAt}
 use Rattle.left_right.specs.Sides.{view as sight_of}
 use Rattle.versions.specs.Published.{after_list}
@@ -9,9 +9,7 @@ use Rattle.versions.proofs.showing.repeated.Goals as goal
 
 pub publish_as-next-requires : goal.publish_as-next-requires
 publish_as-next-requires g c next is =
-    let (shown, seen, waits) = c.loop.invariant in
-    let w = c.loop.writer in
-    let same : next ≡ w.desk.shown.value = is ∙ (ap (fold (λ (x y : Page). y) w.desk.shown.value) waits ∙ sym shown) in
+    let w = c.repeats.new.writer in
     let P : Page → Type 0 = λ y.
     TurnsAt (Kept after_list) w.desk.place.id (sight_of w.desk.place) w.desk.shown.value y (Sees after_list) in
-    subst P (sym same) (looks after_list _ _ _)
+    subst P (sym (is ∙ c.repeats.ensures.idle)) (looks after_list _ _ _)

@@ -1,15 +1,29 @@
 use Rattle.std.proofs.lemmas.List.{nil_from_length}
-use Rattle.std.proofs.Common.{◌≡◌, ◌+◌, ◌++◌, ◌∷◌, [], length, rules, sym, ap, subst, ◌∙◌, append_assoc, append-nil}
-use Rattle.std.proofs.Common.{length-append, arith}
+use Rattle.std.proofs.Common.{◌≡◌, ◌+◌, ◌≤◌, ◌++◌, ◌∷◌, [], length, rules, sym, ap, subst, ◌∙◌, append_assoc}
+use Rattle.std.proofs.Common.{append-nil, length-append, arith}
 use Rattle.std.specs.List.{All, sum_by}
-use Rattle.std.proofs.lemmas.List.Elements.{All-push}
+use Rattle.std.proofs.lemmas.List.Elements.{All-push, All-head, All-rest, All-same}
 use Rattle.std.proofs.lemmas.List.Sums.{sum_by-append}
 use mathlib.Core.List.{IsPrefix}
 use Rattle.operator_desk.specs.Seats.{SeatOf}
 use Rattle.operator_desk.specs.inner.DeskInner.{InnerOf}
 use Rattle.operator_desk.specs.inner.Tokens.{shown}
 use Rattle.operator_desk.proofs.SeatLemmas.{enough}
+use Rattle.operator_desk.proofs.TokenLemmas.{length-shown}
 use Rattle.operator_desk.proofs.desk_inner.DeskInner.settle.Goals as goal
+
+pub give_back-requires-clause-few : goal.give_back-requires-clause-few
+give_back-requires-clause-few g c =
+    let log = c.args.self.log in
+    let P : SeatOf → Type 0 = λ s. length s.seen ≤ length log in
+    let entries = c.self.inside.entries.items in
+    let is : length (shown entries) ≡ length log = ap (λ (h : InnerOf). length h.log) c.self.view_is in
+    let seat = c.in-Some.seat in
+    let rest = c.next.new.self.rest.items in
+    let few : P seat =
+    All-head P seat rest (All-same P (seat ∷ rest) c.loop-seat.seat-iterator.rest.items (sym c.in-Some.ensures.steps.0)
+    c.loop-seat.invariant.few) in
+    omega (arith, few, is, length-shown entries)
 
 pub loop-seat-preserved : goal.loop-seat-preserved
 loop-seat-preserved g c =
@@ -33,6 +47,9 @@ loop-seat-preserved g c =
             sum_by-append (λ (s : SeatOf). s.count) c.loop-seat.yielded (seat ∷ []),
           );
       begins = All-push (λ (s : SeatOf). IsPrefix s.seen log) c.loop-seat.yielded seat inv.begins begins;
+      few =
+          All-rest (λ (s : SeatOf). length s.seen ≤ length log) seat c.next.new.self.rest.items
+          c.loop-seat.seat-iterator.rest.items c.in-Some.ensures.steps.0 inv.few;
     }
 
 pub returns-clause-begins : goal.returns-clause-begins

@@ -11,4 +11,5 @@ invariant-loop-seat g l = record {
   apart : l.rest.parts ≤ g.H.Ledger.parts;
   amount : l.rest.amount ≡ sum_by (λ (s : SeatOf). s.count) l.yielded;
   begins : All (λ (s : SeatOf). IsPrefix s.seen l.fn.self.log) l.yielded;
+  few : All (λ (s : SeatOf). length s.seen ≤ length l.fn.self.log) l.seat-iterator.rest.items;
 }

@@ -1,5 +1,5 @@
-use Rattle.std.proofs.Common.{◌≡◌, true, ◌<◌, ◌+◌, ◌++◌, ◌∷◌, [], length, vec_len, vec_capacity, rules, sym, ap, subst}
-use Rattle.std.proofs.Common.{◌∙◌, arith, refl, None, Some, length-append}
+use Rattle.std.proofs.Common.{◌≡◌, true, false, ◌<◌, ◌+◌, ◌++◌, ◌∷◌, [], length, vec_len, vec_capacity, rules, sym, ap}
+use Rattle.std.proofs.Common.{subst, ◌∙◌, arith, refl, None, Some, length-append}
 use Rattle.std.specs.Prelude.{slice_get}
 use Rattle.desk_edit.specs.Asked.{CallOf, asked_by}
 use Rattle.desk_edit.specs.Calls.{call_limit, refusal_of, after_call}
@@ -13,12 +13,14 @@ use Rattle.operator_desk.specs.LegalLogs.{after_log, IsLegal}
 use Rattle.operator_desk.specs.OwnCalls.{numbers}
 use Rattle.operator_desk.specs.Published.{AreDesks}
 use Rattle.operator_desk.specs.Seats.{SeatOf}
-use Rattle.operator_desk.specs.Answers.{Tells}
+use Rattle.operator_desk.specs.declared.answer.Answer.{Answer}
+use Rattle.operator_desk.specs.declared.answer.Answer.TheVariants.{Refused}
+use Rattle.operator_desk.specs.Answers.{IsAnswered, Tells}
 use Rattle.operator_desk.specs.inner.DeskInner.{InnerOf, IsInner, Leads}
 use Rattle.operator_desk.specs.inner.Tokens.{shown, shown_next}
 use Rattle.operator_desk.proofs.LogLemmas.{accepted-log, desks-all, held-push, own_numbers}
 use Rattle.operator_desk.proofs.TokenLemmas.{tokens-push, none_shown, length-shown, shown-push, is_there}
-use Rattle.operator_desk.proofs.AnswerLemmas.{refused, accepted}
+use Rattle.operator_desk.proofs.AnswerLemmas.{refused, accepted, taken, answered}
 use Rattle.operator_desk.proofs.desk_inner.DeskInner.write.Given
 use Rattle.operator_desk.proofs.desk_inner.DeskInner.write.Goals as goal
 
@@ -70,13 +72,13 @@ push_reserved-requires-in-Ok g c =
     omega (arith, there, len, long, seat_len, tokens.few)
 
 -- the entry of the call
-abbrev entry_of : (g : Given.Over) → goal.After-tell g → EntryOf
+abbrev entry_of : (g : Given.Over) → goal.After-tell-notice g → EntryOf
 entry_of g c = record { op = c.seat.inside.op; call = asked_by c.args.call }
 
-value : (g : Given.Over) (c : goal.After-tell g) → c.in-Ok.token.value ≡ entry_of g c
+value : (g : Given.Over) (c : goal.After-tell-notice g) → c.in-Ok.token.value ≡ entry_of g c
 value g c = c.in-Ok.ensures.ok.1 ∙ c.new.ensures
 
-cell : (g : Given.Over) (c : goal.After-tell g)
+cell : (g : Given.Over) (c : goal.After-tell-notice g)
     → slice_get g.H.DeskBrand.cells (length c.self.inside.entries.items) ≡ Some c.in-Ok.token.of
 cell g c =
     let len : c.len-next.result ≡ length c.self.inside.entries.items = search rules in
@@ -84,29 +86,30 @@ cell g c =
     (subst (λ cs. slice_get cs c.len-next.result ≡ Some c.in-Ok.token.of) c.self.invariant.0 c.in-Ok.ensures.ok.0)
 
 -- the desk's log after the call
-longer : (g : Given.Over) (c : goal.After-tell g)
+longer : (g : Given.Over) (c : goal.After-tell-notice g)
     → shown c.push_reserved.new.self.items ≡ shown c.self.inside.entries.items ++ entry_of g c ∷ []
 longer g c =
-    shown-push c.self.inside.entries.items c.push_reserved.new.self.items c.again.result (entry_of g c)
-    c.push_reserved.ensures.items (c.again.ensures.1 ∙ value g c)
+    shown-push c.self.inside.entries.items c.push_reserved.new.self.items c.again-in-Ok.result (entry_of g c)
+    c.push_reserved.ensures.items (c.again-in-Ok.ensures.1 ∙ value g c)
 
 -- the seat has seen what the desk has
-same : (g : Given.Over) (c : goal.After-tell g) → shown c.seat.inside.seen.items ≡ shown c.self.inside.entries.items
+same : (g : Given.Over) (c : goal.After-tell-notice g)
+    → shown c.seat.inside.seen.items ≡ shown c.self.inside.entries.items
 same g c =
     ap (λ (s : SeatOf). s.seen) c.seat.view_is ∙ (c.requires.seen ∙ sym (ap (λ (h : InnerOf). h.log) c.self.view_is))
 
 -- what the seat has seen after the call
-seen : (g : Given.Over) (c : goal.After-tell g)
+seen : (g : Given.Over) (c : goal.After-tell-notice g)
     → shown c.push_reserved-in-Ok.new.self.items ≡ shown c.seat.inside.seen.items ++ entry_of g c ∷ []
 seen g c =
     shown-push c.seat.inside.seen.items c.push_reserved-in-Ok.new.self.items c.in-Ok.token (entry_of g c)
     c.push_reserved-in-Ok.ensures.items (value g c)
 
 -- what was committed is the call
-asked : (g : Given.Over) (c : goal.After-tell g) → asked_by c.call.result.now ≡ asked_by c.args.call
+asked : (g : Given.Over) (c : goal.After-tell-notice g) → asked_by c.call.result.now ≡ asked_by c.args.call
 asked g c = c.call.ensures ∙ ap (λ (e : EntryOf). e.call) (c.read-entry.ensures ∙ value g c)
 
-abbrev before : (g : Given.Over) → goal.After-tell g → InnerOf
+abbrev before : (g : Given.Over) → goal.After-tell-notice g → InnerOf
 before g c =
     record {
       log = shown c.self.inside.entries.items;
@@ -116,7 +119,7 @@ before g c =
       total = c.self.inside.calls.total;
     }
 
-abbrev after_all : (g : Given.Over) → goal.After-tell g → InnerOf
+abbrev after_all : (g : Given.Over) → goal.After-tell-notice g → InnerOf
 after_all g c =
     record {
       log = shown c.push_reserved.new.self.items;
@@ -126,7 +129,8 @@ after_all g c =
       total = c.add.new.self.total;
     }
 
-held : (g : Given.Over) (c : goal.After-tell g) → IsInner g.H.DeskBrand.start g.H.DeskBrand.publisher (after_all g c)
+held : (g : Given.Over) (c : goal.After-tell-notice g)
+    → IsInner g.H.DeskBrand.start g.H.DeskBrand.publisher (after_all g c)
 held g c =
     let start = g.H.DeskBrand.start in
     let call = asked_by c.args.call in
@@ -142,10 +146,10 @@ held g c =
     let leads =
     subst (λ (h : InnerOf). Leads h.desk call c.args.edits) (sym is) c.requires.leads c.commit-no.new.self does in
     held-push start g.H.DeskBrand.publisher (before g c) (after_all g c) c.stage.new.self (entry_of g c) c.args.edits
-    old free called leads c.stage.ensures.staged c.publish.ensures.published c.publish.ensures.same
+    old free called leads c.stage.ensures.staged c.in-Some.ensures.published c.publish.ensures.same
     c.publish.ensures.none (longer g c) c.add.ensures.total
 
-legal : (g : Given.Over) (c : goal.After-tell g)
+legal : (g : Given.Over) (c : goal.After-tell-notice g)
     → IsLegal g.H.DeskBrand.start (shown c.push_reserved-in-Ok.new.self.items)
 legal g c =
     subst (IsLegal g.H.DeskBrand.start) (longer g c ∙ sym (seen g c ∙ ap (λ l. l ++ entry_of g c ∷ []) (same g c)))
@@ -157,14 +161,14 @@ invariant_of-self-in-Ok g c =
     let none : c.self.inside.next ≡ None =
     none_shown c.self.inside.next (ap (λ (h : InnerOf). h.beyond) c.self.view_is ∙ c.requires.beyond) in
     let tokens =
-    tokens-push g.H.DeskBrand.cells c.self.inside.entries.items c.push_reserved.new.self.items c.again.result
+    tokens-push g.H.DeskBrand.cells c.self.inside.entries.items c.push_reserved.new.self.items c.again-in-Ok.result
     (vec_capacity c.self.inside.entries) (vec_capacity c.push_reserved.new.self) c.self.inside.next c.self.inside.next
-    i.2 (cell g c ∙ ap Some (sym c.again.ensures.0)) c.push_reserved.ensures.items c.push_reserved.ensures.capacity
-    none in
+    i.2 (cell g c ∙ ap Some (sym c.again-in-Ok.ensures.0)) c.push_reserved.ensures.items
+    c.push_reserved.ensures.capacity none in
     (i.0, i.1, tokens, held g c, i.4, i.5)
 
-pub invariant_of-seat : goal.invariant_of-seat
-invariant_of-seat g c =
+pub invariant_of-seat-in-Ok : goal.invariant_of-seat-in-Ok
+invariant_of-seat-in-Ok g c =
     let seat = c.seat.inside in
     let old = shown seat.seen.items in
     let long : length c.self.inside.entries.items ≡ length seat.seen.items =
@@ -181,8 +185,8 @@ invariant_of-seat g c =
     ∙ (ap (λ n. n + 1) c.seat.invariant.2 ∙ sym c.add.ensures.amount)) in
     (tokens, legal g c, count, c.add.ensures.parts ∙ c.seat.invariant.3)
 
-pub returns-in-Ok : goal.returns-in-Ok
-returns-in-Ok g c =
+pub returns-in-Some-clause-answer : goal.returns-in-Some-clause-answer
+returns-in-Some-clause-answer g c =
     let start = g.H.DeskBrand.start in
     let seat = c.seat.inside in
     let was = c.args.seat.now in
@@ -200,32 +204,39 @@ returns-in-Ok g c =
     c.commit-no.ensures.version.0 ∙ ap (λ n. n + 1) (c.self.invariant.3.called.version ∙ accepted-log start log) in
     let counted = subst (λ (s : SeatOf). length (numbers s.op s.seen) ≡ s.count) view c.seat.invariant.2 in
     let count : c.add.new.share.amount ≡ was.count + 1 = c.add.ensures.amount ∙ ap (λ (s : SeatOf). s.count + 1) view in
-    let told = c.tell.ensures in
+    let told = c.tell-notice.ensures in
     let lists =
     subst (λ ls. AreDesks start pushed ls) (sym (ap (λ (n : NoticeOf). n.lists) told))
     (subst (λ l. AreDesks start l c.publish.new.self.lists)
     (longer g c ∙ sym (seen g c ∙ ap (λ l. l ++ entry_of g c ∷ []) (same g c))) (held g c).desks) in
-    let tells : Tells start g.H.DeskBrand.publisher pushed c.tell.result =
+    let tells : Tells start g.H.DeskBrand.publisher pushed c.tell-notice.result =
     (ap (λ (n : NoticeOf). n.publisher) told ∙ (held g c).named, lists) in
-    accepted start g.H.DeskBrand.publisher was new log call c.commit-no.result c.tell.result
+    accepted start g.H.DeskBrand.publisher was new log call c.commit-no.result c.tell-notice.result
     (c.requires.seen ∙ sym (ap (λ (h : InnerOf). h.log) c.self.view_is)) who goes number (legal g c) counted count tells
 
-pub returns-in-Err : goal.returns-in-Err
-returns-in-Err g c =
+pub returns-in-Err-clause-answer : goal.returns-in-Err-clause-answer
+returns-in-Err-clause-answer g c =
     let held = c.self.invariant.3 in
     let log = shown c.self.inside.entries.items in
     let is_log : log ≡ c.args.self.now.log = ap (λ (h : InnerOf). h.log) c.self.view_is in
     let is = c.seat.view_is in
     let seat = c.seat.inside in
-    let number : c.version-at.result ≡ length log =
+    let call = asked_by c.args.call in
+    let at = c.version-at.result in
+    let number : at ≡ length log =
     c.version-at.ensures.version ∙ (held.called.version ∙ accepted-log g.H.DeskBrand.start log) in
-    let new : SeatOf =
-    record {
+    let new : SeatOf = record {
       op = seat.op;
       seen = shown seat.seen.items;
       count = seat.mine.amount;
       beyond = Some c.in-Err.token.value;
     } in
-    refused g.H.DeskBrand.start c.args.seat.now new log (asked_by c.args.call) c.version-at.result LogTaken
-    (c.requires.seen ∙ sym is_log) (ap (λ (s : SeatOf). s.op) is) (ap (λ (s : SeatOf). s.seen) is)
-    (ap (λ (s : SeatOf). s.count) is) number held.legal refl
+    let told = refused g.H.DeskBrand.start c.args.seat.now new log call at LogTaken (c.requires.seen ∙ sym is_log)
+    (ap (λ (s : SeatOf). s.op) is) (ap (λ (s : SeatOf). s.seen) is) (ap (λ (s : SeatOf). s.count) is)
+    number held.legal refl in
+    let P : Answer → Type 0 = IsAnswered g.H.DeskBrand.start g.H.DeskBrand.publisher c.args.seat.now new call in
+    taken false c.taken_answer.result (Refused at LogTaken) P c.taken_answer.ensures told
+
+pub returns-in-Err-clause-ended : goal.returns-in-Err-clause-ended
+returns-in-Err-clause-ended g c =
+    answered c.taken_answer.result (Refused c.version-at.result LogTaken) _ c.taken_answer.ensures
