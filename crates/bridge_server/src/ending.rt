@@ -11,10 +11,12 @@ ghost use Rattle.bridge_server.specs.Counts.{counts_by};
 ghost use Rattle.bridge_server.specs.OneRun.{IsSetUp, IsOneRun, sent_into};
 
 use crate::calls::calls_of;
+use crate::causes::note_lanes;
 use crate::rounds::{Running, ServerMedia};
 use crate::setup::Setup;
 use crate::sinks::LaneSocket;
 use crate::stopped::{DeskEnd, MediaEnd};
+use crate::telling::Teller;
 use front_rounds::Rounds;
 use lane_laws::{lanes_saw_what_they_know, none_knew_more, the_running_headline};
 use lane_wire::{LaneSent, LaneWire, WireSink};
@@ -115,6 +117,7 @@ pub(crate) fn close<H, R>(
     alloc: Global,
     running: Running<H, R>,
     last: &Notice,
+    teller: &Teller,
 ) -> Result<MediaEnd, FrontFault>
 where
     H: DeskBrand + Setup + Send + Sync + 'static,
@@ -130,6 +133,7 @@ where
     let media = media_in(running);
     let dropped = dropped_of(alloc, &media);
     let ends = media.close(rt);
+    note_lanes(rt, teller, &ends);
     lanes_saw_what_they_know::<PublisherOf<H>, SleepPace<R, ()>, WireSink<LaneSocket>>();
     the_running_headline::<PublisherOf<H>, SleepPace<R, ()>, WireSink<LaneSocket>>();
     if let Some(fault) = fault_of(&ends) {
@@ -142,12 +146,13 @@ where
 }
 
 /// Ends the lanes of a bridge whose log is lost. Returns their fault, or `Io`.
-pub(crate) fn give_up<H, R>(rt: &R, running: Running<H, R>) -> FrontFault
+pub(crate) fn give_up<H, R>(rt: &R, running: Running<H, R>, teller: &Teller) -> FrontFault
 where
     H: DeskBrand + Setup + Send + Sync + 'static,
     R: Threads + Clock + Wait + Copy + Send + Drop + 'static,
 {
     let ends = media_in(running).close(rt);
+    note_lanes(rt, teller, &ends);
     fault_of(&ends).unwrap_or(FrontFault::Io)
 }
 

@@ -12,7 +12,8 @@
 //! ```rust
 //! let front = Front::bind(&rt, settings(alloc, text)?)?; // text: the settings' file
 //! println!(rt; "{}", front.listening()?)?;
-//! let stopped = front.run(&rt)?; // until an operator stops it
+//! let teller = Teller::new(alloc)?; // a thread of its own writes what `EventLines::next` answers
+//! let stopped = front.run(&rt, &teller)?; // until an operator stops it
 //! println!(rt; "{} calls of operator 0", stopped.accepted[0])?;
 //! ```
 //!
@@ -20,8 +21,10 @@
 #![tactic(auto)]
 
 mod calls;
+mod causes;
 mod ending;
 mod front;
+mod listener;
 mod opening;
 mod rounds;
 mod serving;
@@ -29,8 +32,12 @@ mod setup;
 mod sinks;
 mod sockets;
 mod stopped;
+mod telling;
 mod waking;
+mod watching;
 
 pub use self::calls::calls_of;
+pub use self::causes::BindFault;
 pub use self::front::Front;
 pub use self::stopped::Stopped;
+pub use self::telling::{EventLines, Teller};

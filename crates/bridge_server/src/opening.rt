@@ -11,15 +11,19 @@ ghost use Rattle.lane_wire.specs.Logs.{taken_list};
 ghost use Rattle.bridge_server.specs.Counts.{counts_by};
 ghost use Rattle.bridge_server.specs.OneRun.{IsSetUp, IsOneRun, signer, sent_into};
 
+use crate::causes::{note_desk, note_end, note_round, note_start};
 use crate::ending::{close, gather, give_up};
 use crate::front::Front;
+use crate::listener::OperatorListener;
 use crate::rounds::{Running, ServerMedia};
 use crate::serving::serve;
 use crate::setup::Setup;
 use crate::sinks::{LaneSocket, counts_for, sinks_for};
-use crate::sockets::{OperatorListener, Sockets, SystemWatch, chunk, sockets_of};
+use crate::sockets::{Sockets, chunk, sockets_of};
 use crate::stopped::Stopped;
+use crate::telling::Teller;
 use crate::waking::FrontWaker;
+use crate::watching::SystemWatch;
 use bridge_core::{Intake, Settings};
 use front_rounds::{RoundStage, Rounds, Wakes};
 use lane_wire::WireSink;
@@ -39,7 +43,12 @@ use udp_wire::{FrontFault, ReportTimer};
 use versions::LaneReader;
 
 /// Runs a bridge until an operator stops it.
-pub(crate) fn open<R>(rt: &R, alloc: Global, front: Front) -> Result<Stopped, FrontFault>
+pub(crate) fn open<R>(
+    rt: &R,
+    alloc: Global,
+    front: Front,
+    teller: &Teller,
+) -> Result<Stopped, FrontFault>
 where
     R: Threads + Clock + Wait + Net + Copy + Send + Sync + Drop + 'static,
     ensures legal { IfOk result (λ s. IsLegal (no_rows front.settings.bridge.bridge_ssrc) s.log.items) }
@@ -58,20 +67,20 @@ where
         &log,
         DeskNames::new(operators),
         ssrc,
-        operators,
         front,
+        teller,
     )
 }
 
-/// Runs a bridge whose desk has a brand of its own, with the SSRC and the number of operators of its settings.
+/// Runs a bridge whose desk has a brand of its own, with the SSRC of its settings.
 fn open_in<'a, H, R>(
     rt: &R,
     alloc: Global,
     log: &'a Log,
     names: DeskNames,
     ssrc: u32,
-    operators: u32,
     front: Front,
+    teller: &Teller,
 ) -> Result<Stopped, FrontFault>
 where
     H: DeskBrand + Setup + Send + Sync + 'static,
@@ -80,7 +89,7 @@ where
     requires ledger { (names.ledger.name ≡ H.name) × (names.ledger.parts ≡ H.parts) }
     requires publisher { names.publisher ≡ H.publisher }
     requires start { no_rows ssrc ≡ H.start }
-    requires seats { (operators ≡ H.seats) × (H.seats ≡ H.parts) }
+    requires seats { (front.settings.operators ≡ H.seats) × (H.seats ≡ H.parts) }
     requires who { signer front.settings.bridge ≡ H.who }
     requires lanes { front.settings.lanes ≡ H.lanes }
     ensures legal { IfOk result (λ s. IsLegal H.start s.log.items) }
@@ -89,13 +98,14 @@ where
     ensures dropped { IfOk result (λ s. vec_len s.dropped ≡ H.lanes) }
     ensures sent { IfOk result (λ s. vec_len s.sent ≡ H.lanes) }
 {
+    let operators = front.settings.operators;
     // One reader for each lane, and one for the front.
     let readers = front.settings.lanes as usize + 1;
     let made = SharedDesk::<H>::new(rt, alloc, log, names, ssrc, operators, readers);
     match made {
         // There are as many seats as operators.
         Ok((desk, seats, readers)) if seats.len() <= MAX_OPERATORS as usize => {
-            run(rt, alloc, desk, seats, readers, front)
+            run(rt, alloc, desk, seats, readers, front, teller)
         }
         Ok((desk, _seats, _readers)) => {
             desk.end(rt);
@@ -132,6 +142,7 @@ fn begin<H, R>(
     alloc: Global,
     readers: Vec<LaneReader>,
     front: Front,
+    teller: &Teller,
 ) -> Result<(Running<H, R>, FrontWaker, OperatorListener), FrontFault>
 where
     H: DeskBrand + Setup + Send + Sync + 'static,
@@ -143,15 +154,15 @@ where
 {
     let mut readers = readers;
     let own = readers.pop();
-    let (sockets, listener, waker, settings) = sockets_of(alloc, front)?;
+    let (sockets, listener, waker, moments, settings) = sockets_of(rt, alloc, front, teller)?;
     let Sockets { inlet, wire, udp } = sockets;
     let chunk = chunk(alloc)?;
-    let watch = SystemWatch::begin(rt)?;
+    let watch = SystemWatch::new(rt, moments);
     let start = watch.start();
     let counts = counts_for(alloc, readers.len())?;
     let sinks = sinks_for(alloc, &udp, &counts)?;
     let reports = ReportTimer::begin(settings.report_ms, start);
-    let mut media = media_of(rt, alloc, readers, settings.bridge, sinks, reports)?;
+    let mut media = media_of(rt, alloc, readers, settings.bridge, sinks, reports, teller)?;
     media.renew();
     let rounds = Rounds {
         alloc,
@@ -180,6 +191,7 @@ fn media_of<H, R>(
     settings: Settings,
     sinks: Vec<WireSink<LaneSocket>>,
     reports: ReportTimer,
+    teller: &Teller,
 ) -> Result<ServerMedia<H, R>, FrontFault>
 where
     H: DeskBrand + Setup + Send + Sync + 'static,
@@ -201,7 +213,10 @@ where
     let cost = pli_octets(alloc, &settings)?;
     match LaneFeed::start(rt, alloc, readers, &settings, sinks) {
         Ok(feed) => Ok(MediaFront::new(intake, feed, limiter, cost, reports)),
-        Err(fault) => Err(start_fault(fault)),
+        Err(fault) => {
+            note_start(rt, teller, fault);
+            Err(start_fault(fault))
+        }
     }
 }
 
@@ -213,6 +228,7 @@ fn run<'a, H, R>(
     seats: Vec<Seat<'a, H>>,
     readers: Vec<LaneReader>,
     front: Front,
+    teller: &Teller,
 ) -> Result<Stopped, FrontFault>
 where
     H: DeskBrand + Setup + Send + Sync + 'static,
@@ -231,20 +247,26 @@ where
     ensures sent { IfOk result (λ s. vec_len s.sent ≡ H.lanes) }
 {
     let count = front.settings.operators;
-    match begin(rt, alloc, readers, front) {
+    match begin(rt, alloc, readers, front, teller) {
         Ok((running, waker, listener)) => {
             let operators = Operators::new(rt, alloc, desk, seats);
             let mut running = running;
             let mut listener = listener;
             let done = serve(rt, alloc, &operators, &waker, &mut listener, &mut running);
+            note_round(rt, teller, &running, &done);
+            if operators.has_failed() {
+                note_desk(rt, teller, FrontFault::Io);
+            }
             // The desk ends first: a lane then ends at its next item, and what is left in its ring is dropped.
             match gather(rt, alloc, operators, count) {
                 Ok((desk, last)) => {
-                    let lanes = close(rt, alloc, running, &last);
+                    let lanes = close(rt, alloc, running, &last, teller);
+                    note_end(rt, teller, lanes.as_ref().err().copied());
                     Stopped::told(done, lanes, Ok(desk))
                 }
                 Err(fault) => {
-                    let lanes = give_up(rt, running);
+                    note_desk(rt, teller, fault);
+                    let lanes = give_up(rt, running, teller);
                     Stopped::told(done, Err(lanes), Err(fault))
                 }
             }

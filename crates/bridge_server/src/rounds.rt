@@ -4,7 +4,10 @@ ghost use Rattle.std.specs.Prelude.{◌≡◌};
 
 use crate::setup::Setup;
 use crate::sinks::LaneSocket;
-use crate::sockets::{FrontSocket, SystemWatch, UdpInlet};
+use crate::sockets::{FrontSocket, UdpInlet};
+use crate::telling::Teller;
+use crate::watching::SystemWatch;
+use event_lines::{Cause, Event, LaneDrops};
 use front_rounds::Rounds;
 use lane_wire::{SharedCounts, WireSink};
 use media_front::{MediaFront, PublisherOf};
@@ -72,5 +75,27 @@ impl<
         requires { notice.publisher ≡ H.publisher }
     {
         self.rounds.end_round(rt, notice)
+    }
+
+    /// Tells of each lane its first dropped item of a second. `drops` is what is known of each lane.
+    pub(crate) fn tell_drops(&self, rt: &R, teller: &Teller, drops: &mut [LaneDrops]) {
+        let now = self.rounds.ticked;
+        let media = &self.rounds.media;
+        for lane in 0..media.lanes() {
+            let items = media.dropped(lane);
+            if let Some(known) = drops.get_mut(lane as usize) {
+                if known.look(items, now) {
+                    teller.tell(rt, Event::Dropped { lane, items });
+                }
+            }
+        }
+    }
+
+    /// What failed last at its sockets and its clock.
+    pub(crate) fn trouble(&self) -> Option<Cause> {
+        match self.rounds.inlet.trouble() {
+            Some(cause) => Some(cause),
+            None => self.rounds.watch.trouble(),
+        }
     }
 }

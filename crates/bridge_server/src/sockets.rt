@@ -4,17 +4,22 @@ ghost use Rattle.std.specs.Prelude.{◌≡◌, ◌<◌, ◌≤◌, length, IfOk}
 ghost use Rattle.intake.specs.Readings.{most_octets};
 ghost use Rattle.front_rounds.specs.Came.{octets_read};
 
+use crate::causes::started;
 use crate::front::{Front, TCP, UDP, WAKER};
+use crate::listener::OperatorListener;
+use crate::telling::Teller;
 use crate::waking::FrontWaker;
-use front_rounds::{Inlet, Read, ReadLog, TryLog, Watch, WatchLog};
+use event_lines::{Cause, ServerPart, WhyFailed};
+use front_rounds::{Inlet, Read, ReadLog, TryLog};
 use front_settings::FrontSettings;
-use mio::net::{TcpListener, TcpStream, UdpSocket};
+use mio::net::UdpSocket;
 use mio::{Events, Poll, Waker};
 use rtp_codec::Address;
 use std::alloc::{AllocError, Global};
+use std::io;
 use std::io::ErrorKind;
-use std::sync::Arc;
-use std::time::{Clock, Duration};
+use std::sync::{Arc, Wait};
+use std::time::Duration;
 use udp_wire::{FrontFault, Moments, Wire, address_of, socket_address};
 
 /// How many of the system's events are taken at a time.
@@ -38,22 +43,47 @@ pub(crate) struct UdpInlet {
     events: Events,
     /// Lanes have handles of it, too.
     udp: Arc<UdpSocket, Global>,
+    /// The address of the socket, as the settings have it.
+    at: Address,
     /// Datagrams may wait.
     has_datagrams: bool,
+    /// What failed last.
+    trouble: Option<Cause>,
     /// What was read, in proofs alone.
     log: ReadLog,
 }
 
 impl UdpInlet {
     /// An inlet from which nothing was read yet.
-    fn new(alloc: Global, poll: Poll, udp: &Arc<UdpSocket, Global>) -> Result<Self, AllocError> {
+    fn new(
+        alloc: Global,
+        poll: Poll,
+        udp: &Arc<UdpSocket, Global>,
+        at: Address,
+    ) -> Result<Self, AllocError> {
         Ok(Self {
             poll,
             events: Events::with_capacity(alloc, EVENTS)?,
             udp: Arc::try_clone(udp)?,
+            at,
             has_datagrams: true,
+            trouble: None,
             log: ReadLog::new(),
         })
+    }
+
+    /// What failed last.
+    pub(crate) fn trouble(&self) -> Option<Cause> {
+        self.trouble
+    }
+
+    /// Notes that a part failed, and why. Returns its fault.
+    fn fails(&mut self, part: ServerPart, error: io::Error) -> FrontFault
+        ensures log { self.new.log ≡ self.old.log }
+    {
+        let why = WhyFailed::of(&error);
+        self.trouble = Some(Cause::Failed { part, why });
+        FrontFault::from(error)
     }
 
     /// Reads the next datagram, if one waits.
@@ -75,7 +105,10 @@ impl UdpInlet {
                     Ok(Read::Nothing)
                 }
                 ErrorKind::Interrupted | ErrorKind::ConnectionRefused => Ok(Read::Other),
-                _ => Err(FrontFault::from(error)),
+                _ => {
+                    let at = ServerPart::Udp(self.at);
+                    Err(self.fails(at, error))
+                }
             },
         }
     }
@@ -95,8 +128,10 @@ impl Inlet for UdpInlet {
     /// It doesn't wait if datagrams may be there already.
     fn wait(&mut self, longest: u64) -> Result<bool, FrontFault> {
         let longest = if self.has_datagrams { 0 } else { longest };
-        self.poll
-            .poll(&mut self.events, Some(Duration::from_nanos(longest)))?;
+        let longest = Some(Duration::from_nanos(longest));
+        if let Err(error) = self.poll.poll(&mut self.events, longest) {
+            return Err(self.fails(ServerPart::Poll, error));
+        }
         let mut may_wait = false;
         for event in &self.events {
             match event.token() {
@@ -167,72 +202,6 @@ impl Wire for FrontSocket {
     }
 }
 
-/// The moments of a bridge that runs, as a watch.
-#[derive(Drop)]
-pub(crate) struct SystemWatch<R: Clock + Drop> {
-    rt: R,
-    moments: Moments,
-    /// What it told, in proofs alone.
-    log: WatchLog,
-}
-
-impl<R: Clock + Copy + Drop> SystemWatch<R> {
-    /// A watch that has told nothing yet.
-    pub(crate) fn begin(rt: &R) -> Result<Self, FrontFault> {
-        Ok(Self {
-            rt: *rt,
-            moments: Moments::begin(rt)?,
-            log: WatchLog::new(),
-        })
-    }
-
-    /// The moment at which it began, in nanoseconds since 1970.
-    pub(crate) fn start(&self) -> u64 {
-        self.moments.start()
-    }
-}
-
-impl<R: Clock + Drop> Watch for SystemWatch<R> {
-    ghost use Rattle.front_rounds.specs.Logs.{told_list};
-
-    ghost told = { λ watch. told_list watch.log };
-
-    fn now(&mut self) -> Result<u64, FrontFault> {
-        let now = self.moments.now(&self.rt)?;
-        self.log.note(now);
-        Ok(now)
-    }
-}
-
-/// Where operators connect.
-#[derive(Drop)]
-pub(crate) struct OperatorListener {
-    tcp: TcpListener,
-    /// Connections may wait.
-    has_callers: bool,
-}
-
-impl OperatorListener {
-    /// Notes whether connections may wait since the last call.
-    pub(crate) fn note(&mut self, may_wait: bool) {
-        self.has_callers = self.has_callers || may_wait;
-    }
-
-    /// The next connection, if one waits.
-    pub(crate) fn next_caller(&mut self) -> Option<TcpStream> {
-        if !self.has_callers {
-            return None;
-        }
-        match self.tcp.accept() {
-            Ok((stream, _)) => Some(stream),
-            Err(error) => {
-                self.has_callers = error.kind() != ErrorKind::WouldBlock;
-                None
-            }
-        }
-    }
-}
-
 /// The socket for datagrams of a front, from which nothing was read yet.
 #[derive(Drop)]
 pub(crate) struct Sockets {
@@ -242,26 +211,48 @@ pub(crate) struct Sockets {
     pub(crate) udp: Arc<UdpSocket, Global>,
 }
 
-/// The sockets of a front, what ends a wait at them, and the settings.
-pub(crate) fn sockets_of(
+/// The sockets of a front, what ends a wait at them, the clock, and the settings.
+pub(crate) fn sockets_of<R: Wait>(
+    rt: &R,
     alloc: Global,
     front: Front,
-) -> Result<(Sockets, OperatorListener, FrontWaker, FrontSettings), FrontFault>
-    ensures { IfOk result (λ parts. parts.3 ≡ front.settings) }
+    teller: &Teller,
+) -> Result<
+    (
+        Sockets,
+        OperatorListener,
+        FrontWaker,
+        Moments,
+        FrontSettings,
+    ),
+    FrontFault,
+>
+    ensures { IfOk result (λ parts. parts.4 ≡ front.settings) }
 {
     let Front {
         poll,
         udp,
         tcp,
+        moments,
         settings,
     } = front;
-    let waker = FrontWaker(Arc::new(alloc, Waker::new(poll.registry(), WAKER)?)?);
+    let waker = started(
+        rt,
+        teller,
+        ServerPart::Poll,
+        Waker::new(poll.registry(), WAKER),
+    )?;
+    let waker = FrontWaker {
+        waker: Arc::new(alloc, waker)?,
+        teller: teller.clone()?,
+    };
     let udp = Arc::new(alloc, udp)?;
     let wire = FrontSocket::new(alloc, &udp)?;
-    let inlet = UdpInlet::new(alloc, poll, &udp)?;
+    let inlet = UdpInlet::new(alloc, poll, &udp, settings.udp)?;
     let listener = OperatorListener {
         tcp,
         has_callers: true,
     };
-    Ok((Sockets { inlet, wire, udp }, listener, waker, settings))
+    let sockets = Sockets { inlet, wire, udp };
+    Ok((sockets, listener, waker, moments, settings))
 }

@@ -1,23 +1,55 @@
 //! How other threads wake the front.
 
+use crate::telling::Teller;
+use event_lines::{Event, WhyFailed};
 use mio::Waker;
 use operator_threads::Wake;
+use rtp_codec::Address;
 use std::alloc::{AllocError, Global};
-use std::sync::Arc;
+use std::sync::{Arc, Wait};
 
-/// Ends the front's wait. An operator's thread does so after an accepted call, and after `stop`.
+/// Ends the front's wait, and takes what there is to tell.
 #[derive(Drop)]
-pub(crate) struct FrontWaker(pub(crate) Arc<Waker, Global>);
-
-impl Wake for FrontWaker {
-    fn wake(&self) {
-        // If a wake fails, the next round comes at most 20 ms later.
-        let _ = self.0.wake();
-    }
+pub(crate) struct FrontWaker {
+    pub(crate) waker: Arc<Waker, Global>,
+    pub(crate) teller: Teller,
 }
 
 impl Clone for FrontWaker {
     fn clone(&self) -> Result<Self, AllocError> {
-        Ok(Self(Arc::try_clone(&self.0)?))
+        Ok(Self {
+            waker: Arc::try_clone(&self.waker)?,
+            teller: self.teller.clone()?,
+        })
+    }
+}
+
+impl FrontWaker {
+    /// Tells that a connection was refused since no thread could be started for it.
+    pub(crate) fn note_unstarted<R: Wait>(&self, rt: &R, from: Address) {
+        let why = WhyFailed::NoThread;
+        self.teller.tell(rt, Event::Refused { from, why });
+    }
+}
+
+/// Ends the front's wait for one connection. The thread of its operator does so after an accepted call, and after
+/// `stop`.
+#[derive(Drop)]
+pub(crate) struct CallerWaker {
+    pub(crate) front: FrontWaker,
+    /// Where the connection comes from.
+    pub(crate) from: Address,
+}
+
+impl Wake for CallerWaker {
+    fn wake(&self) {
+        // If a wake fails, the next round comes at most 20 ms later.
+        let _ = self.front.waker.wake();
+    }
+
+    fn note_busy<R: Wait>(&self, rt: &R) {
+        let from = self.from;
+        let why = WhyFailed::Busy;
+        self.front.teller.tell(rt, Event::Refused { from, why });
     }
 }

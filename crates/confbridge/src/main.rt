@@ -3,11 +3,13 @@
 #![tactic(auto)]
 
 mod ending;
+mod telling;
 
 use crate::ending::{ServeFault, serve_status};
-use bridge_server::{Front, Stopped};
+use crate::telling::{tell_cause, tell_causes, tell_counts, tell_fault, tell_file, write_lines};
+use bridge_server::{EventLines, Front, Stopped, Teller};
+use event_lines::{Cause, ServerPart, WhyFailed};
 use front_settings::{FrontSettings, SettingsFault, settings};
-use lane_wire::{SendCounts, SendFault};
 use script_text::{Ask, Exit, Reader, Writer, asked, exit_status, run, unread};
 use std::alloc::AllocGlobal;
 use std::fs::Files;
@@ -17,7 +19,8 @@ use std::rt::Runtime;
 use std::sync::Wait;
 use std::thread::Threads;
 use std::time::Clock;
-use std::{env, fs, io};
+use std::{env, fs, io, thread};
+use udp_wire::FrontFault;
 
 /// What the arguments ask for.
 #[derive(Drop)]
@@ -26,6 +29,10 @@ enum Task {
     Script(Ask),
     /// A bridge on sockets, with the settings of this file.
     Serve(String),
+    /// How the program is called.
+    Help,
+    /// Which program this is.
+    Version,
 }
 
 /// What the arguments ask for.
@@ -44,7 +51,34 @@ fn arguments(rt: &HostRuntime) -> Task {
             None => Task::Script(Ask::Unknown),
         };
     }
-    Task::Script(asked(first.as_deref(), second.as_deref()))
+    match (first.as_deref(), second.as_deref()) {
+        (Some("--help"), None) => Task::Help,
+        (Some("--version"), None) => Task::Version,
+        (first, second) => Task::Script(asked(first, second)),
+    }
+}
+
+/// What `confbridge --help` says.
+const HELP: &str = "\
+usage: confbridge replay | confbridge serve FILE
+
+replay      answers the lines of a script from standard input
+serve FILE  runs a bridge on sockets, with the settings of FILE, until an operator says `stop`
+--help      says this
+--version   says which program this is";
+
+/// What `confbridge --version` says.
+const VERSION: &str = "confbridge 1";
+
+/// Says something on standard output. The exit status is 0, or 3 if that failed.
+fn say(rt: &HostRuntime, text: &str) -> ExitCode {
+    match println!(rt; "{text}") {
+        Ok(()) => ExitCode::from(0),
+        Err(_) => {
+            let _ = eprintln!(rt; "confbridge: {}", FrontFault::Io);
+            ExitCode::from(3)
+        }
+    }
 }
 
 /// Does what needs no more than standard input.
@@ -69,13 +103,79 @@ fn tell(rt: &HostRuntime, outcome: &Exit) -> ExitCode {
     ExitCode::from(status)
 }
 
-/// The settings that a file gives.
-fn settings_in<R: Files + AllocGlobal>(rt: &R, path: &str) -> Result<FrontSettings, ServeFault> {
-    let octets = fs::read(rt, path)?;
-    match str::from_utf8(&octets) {
-        Ok(text) => Ok(settings(rt.alloc(), text)?),
-        Err(_) => Err(ServeFault::Settings(SettingsFault::BadToml)),
+/// The settings that a file gives. What is wrong is told.
+fn settings_in<R: Runtime + Files + AllocGlobal>(
+    rt: &R,
+    path: &str,
+) -> Result<FrontSettings, ServeFault> {
+    let octets = match fs::read(rt, path) {
+        Ok(octets) => octets,
+        Err(error) => {
+            tell_file(rt, path, &WhyFailed::of(&error));
+            return Err(ServeFault::from(error));
+        }
+    };
+    let Ok(text) = str::from_utf8(&octets) else {
+        tell_file(rt, path, &"no UTF-8");
+        return Err(ServeFault::Settings(SettingsFault::BadToml));
+    };
+    match settings(rt.alloc(), text) {
+        Ok(settings) => Ok(settings),
+        Err(fault) => {
+            tell_fault(rt, path, text, &fault);
+            Err(ServeFault::from(fault))
+        }
     }
+}
+
+/// A bridge that has its sockets. What fails is told.
+fn bound<R>(rt: &R, path: &str) -> Result<Front, ServeFault>
+where
+    R: Runtime + Files + AllocGlobal + Net + Clock,
+{
+    match Front::bind(rt, settings_in(rt, path)?) {
+        Ok(front) => Ok(front),
+        Err(fault) => {
+            tell_cause(rt, &fault.cause);
+            Err(ServeFault::Front(fault.ends))
+        }
+    }
+}
+
+/// Says why a bridge doesn't start, and returns its fault.
+fn unstarted<R: Runtime>(rt: &R, why: WhyFailed, ends: FrontFault) -> ServeFault {
+    let part = ServerPart::Start;
+    tell_cause(rt, &Cause::Failed { part, why });
+    ServeFault::Front(ends)
+}
+
+/// What takes what a bridge has to tell, and the lines of that. What fails is told.
+fn tellers<R: Runtime + AllocGlobal + Clock>(rt: &R) -> Result<(Teller, EventLines), ServeFault> {
+    let Ok(teller) = Teller::new(rt.alloc()) else {
+        return Err(unstarted(rt, WhyFailed::OutOfMemory, FrontFault::OutOfMemory));
+    };
+    match EventLines::begin(rt, rt.alloc(), &teller) {
+        Ok(lines) => Ok((teller, lines)),
+        Err(error) => Err(unstarted(rt, WhyFailed::of(&error), FrontFault::from(error))),
+    }
+}
+
+/// Runs a bridge until it ends, while a thread of its own says what happens. That thread has ended when this returns.
+fn run_told<R>(rt: &R, front: Front) -> Result<Stopped, ServeFault>
+where
+    R: Runtime + AllocGlobal + Net + Clock + Threads + Wait + Copy + Send + Sync + Drop + 'static,
+{
+    let (teller, lines) = tellers(rt)?;
+    let mut lines = lines;
+    let own = *rt;
+    let Ok(writer) = thread::spawn(rt, move || write_lines(&own, &mut lines)) else {
+        return Err(unstarted(rt, WhyFailed::NoThread, FrontFault::Io));
+    };
+    let done = front.run(rt, &teller);
+    teller.end(rt);
+    writer.join(rt);
+    tell_causes(rt, &teller);
+    Ok(done?)
 }
 
 /// Runs a bridge with the settings of a file until it is stopped. Tells on standard error where it listens.
@@ -94,52 +194,11 @@ where
         + Drop
         + 'static,
 {
-    let front = Front::bind(rt, settings_in(rt, path)?)?;
+    let front = bound(rt, path)?;
     let listening = front.listening()?;
-    let _ = eprintln!(rt; "confbridge: listening on {listening}");
-    Ok(front.run(rt)?)
-}
-
-/// Why a lane may not have sent a packet, in the order in which it is told.
-const CAUSES: [SendFault; 6] = [
-    SendFault::NotReady,
-    SendFault::Denied,
-    SendFault::Refused,
-    SendFault::Unreachable,
-    SendFault::TooLong,
-    SendFault::Other,
-];
-
-/// Tells how many packets a lane could not send, by cause, if there were any.
-fn tell_unsent<R: Runtime>(rt: &R, lane: u32, counts: &SendCounts) {
-    for cause in CAUSES {
-        let packets = counts.failed(cause);
-        if packets > 0 {
-            let _ = eprintln!(rt; "confbridge: lane {lane}: {packets} packets not sent: {cause}");
-        }
-    }
-}
-
-/// Tells of each operator how many calls were accepted, and of each lane how many items were dropped and how many
-/// packets were not sent, if any were.
-fn tell_counts<R: Runtime>(rt: &R, stopped: &Stopped) {
-    let mut op: u32 = 0;
-    for calls in &stopped.accepted {
-        let _ = eprintln!(rt; "confbridge: operator {op}: {calls} calls");
-        op = op.saturating_add(1);
-    }
-    let mut lane: u32 = 0;
-    for dropped in &stopped.dropped {
-        if *dropped > 0 {
-            let _ = eprintln!(rt; "confbridge: lane {lane}: {dropped} items dropped");
-        }
-        lane = lane.saturating_add(1);
-    }
-    let mut lane: u32 = 0;
-    for sent in &stopped.sent {
-        tell_unsent(rt, lane, &sent.counts);
-        lane = lane.saturating_add(1);
-    }
+    let start = front.start();
+    let _ = eprintln!(rt; "confbridge: listening on {listening}, ticks from {start}");
+    run_told(rt, front)
 }
 
 /// Runs a bridge, and tells how it ended: on standard error and by the exit status.
@@ -172,6 +231,8 @@ where
 fn main(rt: HostRuntime) -> ExitCode {
     match arguments(&rt) {
         Task::Serve(path) => served(&rt, path.as_str()),
+        Task::Help => say(&rt, HELP),
+        Task::Version => say(&rt, VERSION),
         Task::Script(ask) => {
             let outcome = outcome(&rt, ask);
             tell(&rt, &outcome)

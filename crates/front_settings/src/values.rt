@@ -47,7 +47,7 @@ fn number(value: &Value, low: u32, high: u32) -> Option<u32>
 }
 
 /// Whether each octet is printed.
-fn are_printable(text: &[u8]) -> bool
+pub(crate) fn are_printable(text: &[u8]) -> bool
     ensures { result ≡ list_all is_printable text.now }
 {
     text.iter().all(|octet| 32 <= *octet && *octet <= 126)

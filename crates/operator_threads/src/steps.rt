@@ -136,6 +136,7 @@ impl<'a, H: DeskBrand> Operators<'a, H> {
             }
             None => {
                 caller.refuse_seat();
+                front.note_busy(rt);
                 Seating::Waits
             }
         }

@@ -46,7 +46,6 @@ mod talking;
 mod text;
 
 use crate::lines::carry_out;
-use crate::running::Start;
 use crate::stage::Stage;
 use std::{env, io, thread};
 
@@ -75,8 +74,8 @@ fn main(rt: HostRuntime) -> io::Result<()> {
         tried = tried.saturating_add(1);
         let is_well = match line.strip_prefix("bridge ") {
             Some(rest) => match stage.begins(&rt, rest) {
-                Some(Start { front, left }) => {
-                    let run = move || left.note(&rt, front.run(&rt).ok());
+                Some(start) => {
+                    let run = move || start.run(&rt);
                     thread::spawn(&rt, run).is_ok()
                 }
                 None => false,

@@ -26,6 +26,9 @@ from lib.shared import CRATES, ROOT, crates, fail
 
 NEEDS = "`rt`; ten seconds, and a minute or two where ./confbridge has to build one"
 
+# The moment at which a bridge that listens began.
+MOMENT = re.compile(r"(?<=, ticks) from [0-9]+$", re.M)
+
 # Blocks that are not run, by how they begin, and why.
 NOT_RUN = {
     "rt ci": "an hour; its last line is compared with the crates and edits that are there",
@@ -144,6 +147,8 @@ class Folder:
         out, err = self.said
         # What the start of a bridge says of its building is no part of what the bridge says.
         own = "".join(line for line in err.splitlines(keepends=True) if not line.startswith("./confbridge: "))
+        # A bridge starts at another moment each time.
+        own, wanted = (MOMENT.sub(" from N", text) for text in (own, wanted))
         if is_whole and wanted not in (out, own) or not is_whole and wanted not in f"\n{out}":
             differs(where, wanted, out + err)
 

@@ -26,6 +26,7 @@ one on again.
 
 import collections
 import copy
+import re
 import socket
 import subprocess
 import tempfile
@@ -44,6 +45,8 @@ NEEDS = "the program, `cc`, two minutes"
 FRAME = next(iter(STEPS))
 
 OUT_OF_MEMORY, FAILED = "confbridge: out of memory\n", "confbridge: input or output failed\n"
+# The line before says what failed, and why.
+CAUSE = re.compile(r"confbridge: (.*[.]toml|start|front|end|poll|lane [0-9]+): (out of memory.*|no thread could be started)\n")
 
 
 def options(parser):
@@ -96,7 +99,9 @@ def status_of(bridge, wanted, what):
         status, said = bridge.wait(PATIENCE), LISTENS.sub("", bridge.stderr.read())
     except subprocess.TimeoutExpired:
         fail(f"{what} is refused, and the bridge doesn't end")
-    check(wanted.get(status) == said, f"{what} is refused: the bridge ends with status {status} and says {said!r}")
+    *before, last = said.splitlines(keepends=True) or [""]
+    check(wanted.get(status) == last, f"{what} is refused: the bridge ends with status {status} and says {said!r}")
+    check(any(CAUSE.fullmatch(line) for line in before), f"{what} is refused: the bridge doesn't say why it ends: {said!r}")
     return status
 
 

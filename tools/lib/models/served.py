@@ -12,6 +12,7 @@ import socket
 import socketserver
 import sys
 import threading
+import time
 import tomllib
 
 if __name__ == "__main__":
@@ -101,7 +102,7 @@ def main():
         udp.bind(address_of(settings["udp"]))
         front = Front(address_of(settings["tcp"]), settings.get("operators", 1), settings.get("bridge_ssrc", 1))
         places = "udp {}:{} and tcp {}:{}".format(*udp.getsockname(), *front.server_address)
-        print(f"confbridge: listening on {places}", file=sys.stderr, flush=True)
+        print(f"confbridge: listening on {places}, ticks from {time.time_ns()}", file=sys.stderr, flush=True)
         front.serve_forever()
 
 

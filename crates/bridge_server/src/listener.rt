@@ -1,0 +1,41 @@
+//! Where operators connect.
+
+use mio::net::{TcpListener, TcpStream};
+use rtp_codec::Address;
+use std::io::ErrorKind;
+use udp_wire::address_of;
+
+/// Where a connection comes from that has no address of IPv4, which none has here.
+const NOWHERE: Address = Address {
+    ip: [0, 0, 0, 0],
+    port: 0,
+};
+
+/// Where operators connect.
+#[derive(Drop)]
+pub(crate) struct OperatorListener {
+    pub(crate) tcp: TcpListener,
+    /// Connections may wait.
+    pub(crate) has_callers: bool,
+}
+
+impl OperatorListener {
+    /// Notes whether connections may wait since the last call.
+    pub(crate) fn note(&mut self, may_wait: bool) {
+        self.has_callers = self.has_callers || may_wait;
+    }
+
+    /// The next connection, if one waits, and where it comes from.
+    pub(crate) fn next_caller(&mut self) -> Option<(TcpStream, Address)> {
+        if !self.has_callers {
+            return None;
+        }
+        match self.tcp.accept() {
+            Ok((stream, told)) => Some((stream, address_of(told).unwrap_or(NOWHERE))),
+            Err(error) => {
+                self.has_callers = error.kind() != ErrorKind::WouldBlock;
+                None
+            }
+        }
+    }
+}

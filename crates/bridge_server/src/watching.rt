@@ -1,0 +1,60 @@
+//! The clock of a bridge that runs.
+
+use event_lines::{Cause, ServerPart, WhyFailed};
+use front_rounds::{Watch, WatchLog};
+use std::time::Clock;
+use udp_wire::{FrontFault, Moments};
+
+/// The moments of a bridge that runs, as a watch.
+#[derive(Drop)]
+pub(crate) struct SystemWatch<R: Clock + Drop> {
+    rt: R,
+    moments: Moments,
+    /// Why the clock failed last.
+    trouble: Option<Cause>,
+    /// What it told, in proofs alone.
+    log: WatchLog,
+}
+
+impl<R: Clock + Copy + Drop> SystemWatch<R> {
+    /// A watch that has told nothing yet.
+    pub(crate) fn new(rt: &R, moments: Moments) -> Self {
+        Self {
+            rt: *rt,
+            moments,
+            trouble: None,
+            log: WatchLog::new(),
+        }
+    }
+
+    /// Why the clock failed last.
+    pub(crate) fn trouble(&self) -> Option<Cause> {
+        self.trouble
+    }
+
+    /// The moment at which it began, in nanoseconds since 1970.
+    pub(crate) fn start(&self) -> u64 {
+        self.moments.start()
+    }
+}
+
+impl<R: Clock + Drop> Watch for SystemWatch<R> {
+    ghost use Rattle.front_rounds.specs.Logs.{told_list};
+
+    ghost told = { λ watch. told_list watch.log };
+
+    fn now(&mut self) -> Result<u64, FrontFault> {
+        match self.moments.now(&self.rt) {
+            Ok(now) => {
+                self.log.note(now);
+                Ok(now)
+            }
+            Err(error) => {
+                let why = WhyFailed::of(&error);
+                let part = ServerPart::Clock;
+                self.trouble = Some(Cause::Failed { part, why });
+                Err(FrontFault::from(error))
+            }
+        }
+    }
+}
