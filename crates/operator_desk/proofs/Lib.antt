@@ -2,3 +2,4 @@ pub mod TokenLemmas
 pub mod LogLemmas
 pub mod AnswerLemmas
 pub mod SeatLemmas
+pub mod PastLemmas

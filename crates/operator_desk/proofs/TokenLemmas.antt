@@ -107,3 +107,13 @@ pub shown-push : (xs ys : List Token) (t : Token) (e : EntryOf) → ys ≡ xs ++
     → shown ys ≡ shown xs ++ e ∷ []
 shown-push xs ys t e is value =
     ap shown is ∙ (map-append (λ (u : Token). u.value) xs (t ∷ []) ∙ ap (λ x. shown xs ++ x ∷ []) value)
+
+-- tokens of the same cells
+pub first_same : (cells : List ℕ) (xs ys : List Token) → marks ys ≡ marks xs → AreFirst cells xs → AreFirst cells ys
+first_same cells xs ys same first =
+    let many : length ys ≡ length xs =
+    sym (length-map ys (λ (t : Token). t.of)) ∙ (ap length same ∙ length-map xs (λ (t : Token). t.of)) in
+    record {
+      known = same ∙ (first.known ∙ ap (λ n. take n cells) (sym many));
+      few = subst (λ n. n ≤ length cells) (sym many) first.few;
+    }

@@ -1,6 +1,7 @@
 pub mod Entry
 pub mod LegalLogs
 pub mod OwnCalls
+pub mod PastCalls
 pub mod Published
 pub mod Seats
 pub mod Answers

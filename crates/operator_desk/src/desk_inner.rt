@@ -22,10 +22,11 @@ use crate::entry::LogEntry;
 use crate::fault::CallFault;
 use crate::log::Log;
 use crate::seat::Seat;
-use crate::tokens::{agree, catch_up, copied, none_of};
+use crate::tokens::{agree, catch_up, none_of};
+use call_history::{AcceptedCall, CallLists};
 use desk_calls::{Desk, Prepared};
 use desk_edit::{Call, Refusal};
-use desk_rows::{Edit, Rows};
+use desk_rows::Edit;
 use std::alloc::{AllocError, Global};
 use std::marker::Model;
 use std::sync::ledger::{Book, Share};
@@ -47,6 +48,8 @@ pub struct DeskInner<'a, H: DeskBrand> {
     pub desk: Desk,
     /// Publishes each version of its rows.
     pub publisher: Publisher,
+    /// The calls of the log that are in force, and those that can be redone.
+    pub lists: CallLists<AcceptedCall<'a>>,
     /// Counts the accepted calls.
     pub calls: Book<H>,
     /// The desk's own share of the ledger. It is empty: the seats have all parts, and have counted all calls.
@@ -56,6 +59,7 @@ pub struct DeskInner<'a, H: DeskBrand> {
 impl<'a, H: DeskBrand> Model for DeskInner<'a, H> {
     ghost use Rattle.std.specs.Prelude.{◌≡◌, length, vec_capacity};
     ghost use Rattle.desk_edit.specs.Calls.{call_limit};
+    ghost use Rattle.operator_desk.specs.PastCalls.{lists_in};
     ghost use Rattle.operator_desk.specs.inner.DeskInner.{InnerOf, IsInner};
     ghost use Rattle.operator_desk.specs.inner.Tokens.{shown, shown_next, AreTokens};
 
@@ -81,7 +85,8 @@ impl<'a, H: DeskBrand> Model for DeskInner<'a, H> {
           total = h.calls.total;
         })
         × (h.rest.parts ≡ 0)
-        × (h.rest.amount ≡ 0) };
+        × (h.rest.amount ≡ 0)
+        × (h.lists.lists ≡ lists_in (shown h.entries.items)) };
 }
 
 impl<'a, H: DeskBrand> DeskInner<'a, H> {
@@ -106,23 +111,6 @@ impl<'a, H: DeskBrand> DeskInner<'a, H> {
         self.publisher.tell()
     }
 
-    /// The version, and a copy of its rows.
-    pub fn rows(&self, alloc: Global) -> Result<(u64, Rows), AllocError>
-        ensures copy { IfOk result (λ r. IsCopy H.start r.0 r.1) }
-        ensures good { IfOk result (λ r. good r.1 ≡ true) }
-    {
-        let rows = self.desk.rows().copy(alloc)?;
-        Ok((self.desk.version(), rows))
-    }
-
-    /// A copy of the log.
-    pub fn copied(&self, alloc: Global) -> Result<Vec<LogEntry>, AllocError>
-        ensures copy { IfOk result (λ log. log.items ≡ self.now.log) }
-        ensures legal { IsLegal H.start self.now.log }
-    {
-        copied(alloc, self.log, &self.entries)
-    }
-
     /// Takes all seats back: each has seen a beginning of the log, and together they made its calls.
     pub fn settle<R: Wait>(self, rt: &R, seats: Vec<Seat<'a, H>>)
         requires parts { H.seats ≡ H.parts }
@@ -140,6 +128,7 @@ impl<'a, H: DeskBrand> DeskInner<'a, H> {
             next: _,
             ended: _,
             desk: _,
+            lists: _,
         } = self;
         publisher.end(rt);
         for seat in seats {
@@ -157,6 +146,7 @@ impl<'a, H: DeskBrand> DeskInner<'a, H> {
             next: _,
             ended: _,
             desk: _,
+            lists: _,
             calls: _,
             rest: _,
         } = self;
@@ -268,7 +258,7 @@ impl<'a, H: DeskBrand> DeskInner<'a, H> {
         ensures ended { IfNone result (IsEnded H.start seat.old seat.new (asked_by call)) }
     {
         let at = self.desk.version();
-        if self.publisher.stage(edits).is_err() {
+        if self.lists.reserve().is_err() || self.publisher.stage(edits).is_err() {
             return Some(refused(at, Refusal::OutOfMemory));
         }
         let next = self.entries.len();
@@ -285,6 +275,7 @@ impl<'a, H: DeskBrand> DeskInner<'a, H> {
                 seat.seen.push_reserved(token);
                 seat.next = None;
                 let no = self.desk.commit(entry.call(), prepared);
+                self.lists.note(entry.call(), entry.accepted(no));
                 self.calls.add(&mut seat.mine, 1);
                 let notice = self.publisher.tell();
                 Some(Answer::Accepted { no, notice })

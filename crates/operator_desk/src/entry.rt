@@ -3,6 +3,7 @@
 ghost use Rattle.std.specs.Prelude.{◌≡◌, IfOk};
 ghost use Rattle.desk_edit.specs.Asked.{asked_by};
 
+use call_history::AcceptedCall;
 use desk_edit::Call;
 use std::alloc::{AllocError, Global};
 use std::marker::Model;
@@ -44,6 +45,13 @@ impl LogEntry {
         ensures { asked_by result.now ≡ self.now.call }
     {
         &self.call
+    }
+
+    /// The call with its operator, as the accepted call of this number.
+    pub(crate) fn accepted(&self, no: u64) -> AcceptedCall<'_>
+        ensures { result ≡ record { number = no; op = self.now.op; call = self.now.call } }
+    {
+        AcceptedCall::new(no, self.op, &self.call)
     }
 
     /// The call itself. It uses the entry up.

@@ -23,12 +23,14 @@
 #![tactic(auto)]
 
 mod answer;
+mod copying;
 mod desk_brand;
 mod desk_inner;
 mod entry;
 mod fault;
 mod gathering;
 mod log;
+mod past;
 mod seat;
 mod shared;
 mod tokens;
@@ -38,5 +40,6 @@ pub use self::desk_brand::{DeskBrand, DeskNames};
 pub use self::entry::LogEntry;
 pub use self::fault::{Behind, CallFault, DeskFault, GatherFault};
 pub use self::log::Log;
+pub use self::past::Past;
 pub use self::seat::Seat;
 pub use self::shared::{MAX_OPERATORS, SharedDesk};

@@ -7,6 +7,7 @@ ghost use Rattle.desk_rows.specs.Desk.{blank as no_rows, good};
 ghost use Rattle.desk_edit.specs.Asked.{asked_by};
 ghost use Rattle.versions.specs.Published.{new_reader};
 ghost use Rattle.operator_desk.specs.LegalLogs.{IsLegal};
+ghost use Rattle.operator_desk.specs.PastCalls.{IsPast};
 ghost use Rattle.operator_desk.specs.Seats.{SeatOf, new_seats};
 ghost use Rattle.operator_desk.specs.Answers.{IsAnswered, IsUnanswered, IsNotice, IsCopy, Tells};
 ghost use Rattle.operator_desk.specs.Opening.{desk_fault};
@@ -19,7 +20,9 @@ use crate::entry::LogEntry;
 use crate::fault::{Behind, CallFault, DeskFault, GatherFault};
 use crate::gathering::judged;
 use crate::log::Log;
+use crate::past::Past;
 use crate::seat::{Seat, seats_for};
+use call_history::CallLists;
 use desk_calls::Desk;
 use desk_edit::Call;
 use desk_rows::Rows;
@@ -110,6 +113,7 @@ impl<'a, H: DeskBrand> SharedDesk<'a, H> {
                     ended: false,
                     desk,
                     publisher,
+                    lists: CallLists::new(alloc),
                     calls,
                     rest,
                 };
@@ -168,6 +172,21 @@ impl<'a, H: DeskBrand> SharedDesk<'a, H> {
         let rows = held.rows(alloc);
         MutexGuard::unlock(held);
         rows
+    }
+
+    /// The last calls that are in force, and the last that can be redone: at most so many of each.
+    pub fn past<R: Wait>(
+        &self,
+        rt: &R,
+        alloc: Global,
+        most: usize,
+    ) -> Result<Past<'a, H>, AllocError>
+        ensures { IfOk result (λ past. IsPast H.start most past) }
+    {
+        let held = self.inner.lock(rt);
+        let past = held.past(alloc, most);
+        MutexGuard::unlock(held);
+        past
     }
 
     /// The whole log, once all seats are back, with the notice of its last version. Readers find no rows from then on.

@@ -7,7 +7,8 @@ use Rattle.desk_edit.specs.Asked.{CallOf, asked_by}
 use Rattle.script_text.specs.declared.fault.Fault.{Fault}
 use Rattle.script_text.specs.declared.fault.Fault.TheVariants.{LineTooLong, BadByte, UnknownWord, MissingWord}
 use Rattle.script_text.specs.declared.fault.Fault.TheVariants.{ExtraWord, BadNumber, BadAddress, BadHex, BadFrame}
-use Rattle.script_text.specs.Words.{cut_of}
+use Rattle.script_text.specs.Words.{cut_of, value_or}
+use Rattle.script_text.specs.Numbers.{decimal_of}
 use Rattle.script_text.specs.Calls.{spoken_call, spoken_words}
 use Rattle.script_text.specs.Requests.{is_printable}
 use Rattle.script_text.specs.Text.{fault_text}
@@ -15,10 +16,12 @@ use Rattle.operator_lines.specs.declared.asking.LineAsk.{LineAsk}
 use Rattle.operator_lines.specs.declared.asking.LineAsk.TheVariants as variants
 use Rattle.operator_lines.specs.declared.asking.Verb.{Verb}
 use Rattle.operator_lines.specs.declared.asking.Verb.TheVariants.{Show, Quit, Stop}
+use Rattle.operator_lines.specs.declared.line_desk.View.{View}
+use Rattle.operator_lines.specs.declared.line_desk.View.TheVariants.{Rows, History}
 use Rattle.operator_lines.specs.declared.answering.Next.{Next}
 use Rattle.operator_lines.specs.declared.answering.Next.TheVariants as next
 
--- what a line asks for: a call of the desk, or what a line of one word asks for
+-- what a line asks for: a call of the desk, or what a line asks for that is no call
 pub data AskOf : Type 0 where
   spoken : CallOf → AskOf
   alone : Verb → AskOf
@@ -33,10 +36,15 @@ abbrev pub asked_call : Result CallOf (ℕ × Fault) → Result AskOf (ℕ × Fa
 asked_call (Ok call) = Ok (spoken call)
 asked_call (Err fault) = Err fault
 
+-- the greatest number of 64 bits: more calls than a desk accepts
+abbrev pub every_call : ℕ
+every_call = 18446744073709551615
+
 -- the line of one word that this is, if it is one
 abbrev pub alone_of : List ℕ → Option Verb
 alone_of word =
-    if bytes_eq word (codes "show") then Some Show
+    if bytes_eq word (codes "show") then Some (Show Rows)
+    else if bytes_eq word (codes "history") then Some (Show (History every_call))
     else if bytes_eq word (codes "quit") then Some Quit
     else if bytes_eq word (codes "stop") then Some Stop
     else None
@@ -46,15 +54,37 @@ abbrev pub alone_or : Option Verb → Result AskOf (ℕ × Fault) → Result Ask
 alone_or (Some verb) otherwise = Ok (alone verb)
 alone_or None otherwise = otherwise
 
--- behind such a word no other may stand
-abbrev pub extra_or : Option Verb → Result AskOf (ℕ × Fault) → Result AskOf (ℕ × Fault)
-extra_or (Some verb) otherwise = Err (2, ExtraWord)
-extra_or None otherwise = otherwise
+-- behind a second word none may stand; but the second one is judged first
+abbrev pub fault_behind : Option ℕ → Result ℕ (ℕ × Fault)
+fault_behind None = Err (2, BadNumber)
+fault_behind (Some most) = Err (3, ExtraWord)
+
+-- the number of 64 bits that a text is, the second word of its line, cut at its first space (32) if it has one
+abbrev pub most_in : List ℕ → Option (List ℕ × List ℕ) → Result ℕ (ℕ × Fault)
+most_in text None = value_or 2 BadNumber (decimal_of every_call text)
+most_in text (Some parts) = fault_behind (decimal_of every_call parts.0)
+
+-- so many of the last calls are to be shown
+abbrev pub asked_most : Result ℕ (ℕ × Fault) → Result AskOf (ℕ × Fault)
+asked_most (Ok most) = Ok (alone (Show (History most)))
+asked_most (Err fault) = Err fault
+
+-- what such a line asks for with this text behind its word: only behind `history` may one stand, a number
+abbrev pub behind_of : Verb → List ℕ → Result AskOf (ℕ × Fault)
+behind_of (Show (History most)) text = asked_most (most_in text (cut_of 32 text))
+behind_of (Show Rows) text = Err (2, ExtraWord)
+behind_of Quit text = Err (2, ExtraWord)
+behind_of Stop text = Err (2, ExtraWord)
+
+-- such a word asks for this with the text behind it; any other line is a call
+abbrev pub behind_or : Option Verb → List ℕ → Result AskOf (ℕ × Fault) → Result AskOf (ℕ × Fault)
+behind_or (Some verb) text otherwise = behind_of verb text
+behind_or None text otherwise = otherwise
 
 -- what a line asks for, cut at its first space (32) if it has one
 abbrev pub asked_in : List ℕ → Option (List ℕ × List ℕ) → Result AskOf (ℕ × Fault) → Result AskOf (ℕ × Fault)
 asked_in line None otherwise = alone_or (alone_of line) otherwise
-asked_in line (Some parts) otherwise = extra_or (alone_of parts.0) otherwise
+asked_in line (Some parts) otherwise = behind_or (alone_of parts.0) parts.1 otherwise
 
 -- each octet is one that a line may hold
 abbrev pub is_printed : List ℕ → Bool
@@ -101,18 +131,18 @@ after_fault BadFrame = next.Stay
 abbrev pub Replying : Type 0 → Type 1
 Replying D = D → D → CallOf → List ℕ → Type 0
 
--- what a desk may show: the text that is told of its rows
+-- what a desk may show: what is asked of it, and the text that is told
 abbrev pub Showing : Type 0 → Type 1
-Showing D = D → List ℕ → Type 0
+Showing D = D → View → List ℕ → Type 0
 
 -- a call is answered, and its text is appended
 abbrev pub AppendsReply : {D : Type 0} → Replying D → D → D → CallOf → List ℕ → List ℕ → Type 0
 AppendsReply replies old new call before after =
     (text : List ℕ) × (after ≡ before ++ text) × replies old new call text
 
--- the rows are shown, and their text is appended
-abbrev pub AppendsShown : {D : Type 0} → Showing D → D → List ℕ → List ℕ → Type 0
-AppendsShown shows desk before after = (text : List ℕ) × (after ≡ before ++ text) × shows desk text
+-- this is shown, and its text is appended
+abbrev pub AppendsShown : {D : Type 0} → Showing D → D → View → List ℕ → List ℕ → Type 0
+AppendsShown shows desk view before after = (text : List ℕ) × (after ≡ before ++ text) × shows desk view text
 
 -- what was read of a line is answered so, and this happens to the connection
 abbrev pub AnswersAsk :
@@ -121,8 +151,8 @@ AnswersAsk replies shows old (Err fault) new text becomes =
     (new ≡ old) × (text ≡ fault_line fault.0 fault.1) × (becomes ≡ after_fault fault.1)
 AnswersAsk replies shows old (Ok (spoken call)) new text becomes =
     replies old new call text × (becomes ≡ next.Stay)
-AnswersAsk replies shows old (Ok (alone Show)) new text becomes =
-    (new ≡ old) × shows old text × (becomes ≡ next.Stay)
+AnswersAsk replies shows old (Ok (alone (Show view))) new text becomes =
+    (new ≡ old) × shows old view text × (becomes ≡ next.Stay)
 AnswersAsk replies shows old (Ok (alone Quit)) new text becomes = (new ≡ old) × (text ≡ []) × (becomes ≡ next.Quit)
 AnswersAsk replies shows old (Ok (alone Stop)) new text becomes = (new ≡ old) × (text ≡ []) × (becomes ≡ next.Stop)
 

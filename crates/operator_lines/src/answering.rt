@@ -66,7 +66,7 @@ pub fn print_too_long<A: Allocator + Copy>(alloc: A, out: &mut Vec<u8, A>) -> Re
     print_fault(alloc, 0, Fault::LineTooLong, out)
 }
 
-/// Carries out a line of one word, and appends the answer. An `Err` appends nothing.
+/// Carries out a line that is no call, and appends the answer. An `Err` appends nothing.
 fn answer_verb<D: LineDesk>(
     alloc: Global,
     desk: &D,
@@ -78,8 +78,8 @@ fn answer_verb<D: LineDesk>(
     ensures err { OnErr result (out.new.items ≡ out.old.items) }
 {
     match verb {
-        Verb::Show => {
-            desk.show(alloc, out)?;
+        Verb::Show(view) => {
+            desk.show(alloc, view, out)?;
             Ok(Next::Stay)
         }
         Verb::Quit => Ok(Next::Quit),

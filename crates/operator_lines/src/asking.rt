@@ -4,17 +4,21 @@ ghost use Rattle.std.specs.Prelude.{◌≡◌, ◌≢◌, Err};
 ghost use Rattle.desk_edit.specs.Asked.{asked_by};
 ghost use Rattle.script_text.specs.Words.{Gives, cut_of};
 ghost use Rattle.script_text.specs.Calls.{spoken_call};
+ghost use Rattle.operator_lines.specs.Operators.AskOf.{alone};
 ghost use Rattle.operator_lines.specs.Operators.{
   alone_of,
   asked_call,
   asked_in,
   asked_of,
   asks,
+  behind_of,
   begins_group,
   is_printed,
   is_request,
 };
 
+use crate::counting::most;
+use crate::line_desk::View;
 use desk_edit::Call;
 use script_text::{Fault, ParseFault, cut, parse_desk};
 use std::alloc::{Allocator, Global};
@@ -26,11 +30,11 @@ pub(crate) enum LineAsk<A: Allocator + Copy = Global> {
     Verb(Verb),
 }
 
-/// A line of one word.
+/// What a line asks for that is no call.
 #[derive(Clone, Copy)]
 pub(crate) enum Verb {
-    /// The rows of the desk.
-    Show,
+    /// This, to be shown.
+    Show(View),
     /// The end of the connection.
     Quit,
     /// The end of the bridge.
@@ -56,13 +60,31 @@ fn alone(word: &[u8]) -> Option<Verb>
     ensures { result ≡ alone_of word.now }
 {
     if word == b"show".as_slice() {
-        Some(Verb::Show)
+        Some(Verb::Show(View::Rows))
+    } else if word == b"history".as_slice() {
+        Some(Verb::Show(View::History { most: u64::MAX }))
     } else if word == b"quit".as_slice() {
         Some(Verb::Quit)
     } else if word == b"stop".as_slice() {
         Some(Verb::Stop)
     } else {
         None
+    }
+}
+
+/// What such a line asks for with this text behind its word: only behind `history` may one stand, a number.
+fn behind(verb: Verb, text: &[u8]) -> Result<Verb, ParseFault>
+    ensures { Gives alone result (behind_of verb text.now) }
+{
+    match verb {
+        Verb::Show(View::History { .. }) => match most(text) {
+            Ok(most) => Ok(Verb::Show(View::History { most })),
+            Err(why) => Err(why),
+        },
+        Verb::Show(View::Rows) | Verb::Quit | Verb::Stop => Err(ParseFault::Line {
+            word: 2,
+            fault: Fault::ExtraWord,
+        }),
     }
 }
 
@@ -87,11 +109,11 @@ fn words<A: Allocator + Copy>(alloc: A, line: &[u8]) -> Result<LineAsk<A>, Parse
             Some(verb) => Ok(LineAsk::Verb(verb)),
             None => call(alloc, line),
         },
-        Some((word, _)) => match alone(word) {
-            Some(_) => Err(ParseFault::Line {
-                word: 2,
-                fault: Fault::ExtraWord,
-            }),
+        Some((word, text)) => match alone(word) {
+            Some(verb) => match behind(verb, text) {
+                Ok(verb) => Ok(LineAsk::Verb(verb)),
+                Err(first) => Err(first),
+            },
             None => call(alloc, line),
         },
     }

@@ -24,6 +24,7 @@
 
 mod answering;
 mod asking;
+mod counting;
 mod feeding;
 mod foreign;
 mod greeting;
@@ -35,5 +36,5 @@ pub use answering::{Next, answer, busy, print_too_long};
 pub use feeding::{Fed, Lines};
 pub use greeting::{Opening, greet};
 pub use laws::{cuts_are_whole, too_long_for_good};
-pub use line_desk::LineDesk;
+pub use line_desk::{LineDesk, View};
 pub use outgoing::Outgoing;

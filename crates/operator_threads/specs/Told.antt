@@ -1,16 +1,20 @@
 -- What an operator at a shared desk is answered (own).
-use Rattle.std.specs.Prelude.{◌≡◌, ◌≤◌, ℕ, List}
+use Rattle.std.specs.Prelude.{◌≡◌, ◌≤◌, ℕ, List, length}
 use mathlib.Core.List.{IsPrefix}
 use Rattle.logbook.specs.Pages.{Book}
 use Rattle.desk_rows.specs.Desk.{Desk}
 use Rattle.desk_edit.specs.Asked.{CallOf}
 use Rattle.bridge_core.specs.declared.reply.Reply.TheVariants as replies
+use Rattle.call_text.specs.HistoryText.{history_text}
+use Rattle.operator_lines.specs.declared.line_desk.View.{View}
+use Rattle.operator_lines.specs.declared.line_desk.View.TheVariants.{Rows, History}
 use Rattle.script_text.specs.RowLines.{show_text}
 use Rattle.script_text.specs.Text.{reply_text, refused_text}
 use Rattle.versions.specs.Published.{NoticeOf}
 use Rattle.operator_desk.specs.declared.answer.Answer.{Answer}
 use Rattle.operator_desk.specs.declared.answer.Answer.TheVariants.{Accepted, Refused}
 use Rattle.operator_desk.specs.Answers.{IsAnswered, IsCopy, IsNotice, why_told}
+use Rattle.operator_desk.specs.PastCalls.{PastOf, IsPast}
 use Rattle.operator_desk.specs.Seats.{SeatOf}
 
 -- the line of an answer: that of an accepted call's number, or of the version and the refusal
@@ -41,3 +45,19 @@ ShowsAt start version text = (rows : Desk) × IsCopy start version rows × (text
 -- the rows of a version are told that is this one or a later one
 abbrev pub SeatShows : Desk → ℕ → List ℕ → Type 0
 SeatShows start least text = (version : ℕ) × (least ≤ version) × ShowsAt start version text
+
+-- the last calls of a legal log that are in force are told, and the last that can be redone: at most so many of each;
+-- and last how many calls the log has
+abbrev pub TellsPast : Desk → (most : ℕ) → PastOf → List ℕ → Type 0
+TellsPast start most past text =
+    IsPast start most past × (text ≡ history_text past.done past.undone (length past.log))
+
+-- those of a log are told that goes on from what the seat has seen, and has so many calls at least
+abbrev pub SeatTellsPast : Desk → (least most : ℕ) → SeatOf → List ℕ → Type 0
+SeatTellsPast start least most seat text =
+    (past : PastOf) × IsPrefix seat.seen past.log × (least ≤ length past.log) × TellsPast start most past text
+
+-- what a seat is told of a desk, by what it asks for, after so many calls at least
+abbrev pub SeatViews : Desk → (least : ℕ) → SeatOf → View → List ℕ → Type 0
+SeatViews start least seat Rows text = SeatShows start least text
+SeatViews start least seat (History most) text = SeatTellsPast start least most seat text

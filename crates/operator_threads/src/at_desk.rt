@@ -1,19 +1,19 @@
 //! An operator at a shared desk.
 
-ghost use Rattle.std.specs.Prelude.{◌≡◌, IfOk, OnOk, OnErr};
+ghost use Rattle.std.specs.Prelude.{◌≡◌, ◌++◌, ℕ, List, IfOk, OnOk, OnErr};
 ghost use Rattle.desk_edit.specs.Asked.{asked_by};
 ghost use Rattle.operator_desk.specs.Answers.{IsAnswered};
-ghost use Rattle.operator_threads.specs.Told.{IsKnown, IsTelling, SeatShows};
-ghost use Rattle.operator_lines.specs.Operators.{AppendsShown};
+ghost use Rattle.operator_threads.specs.Told.{IsKnown, IsTelling, SeatShows, SeatTellsPast};
 
 use crate::operators::Operators;
 use crate::printed::Printed;
+use crate::printed_past::PrintedPast;
 use crate::printing::print_answer;
 use crate::seats::TakenSeat;
 use crate::wake::Wake;
 use desk_edit::Call;
 use operator_desk::{Answer, CallFault, DeskBrand};
-use operator_lines::LineDesk;
+use operator_lines::{LineDesk, View};
 use std::alloc::{AllocError, Global};
 use std::sync::{MutexGuard, Wait};
 use versions::Notice;
@@ -59,21 +59,73 @@ impl<'b, 'a, H: DeskBrand, R: Wait, F: Wake> AtDesk<'b, 'a, H, R, F> {
 
     /// Appends the rows of one version, a line for each, and the version. An `Err` appends nothing. The rows are
     /// printed anew if those that were printed last are of an earlier version than `asked`.
-    fn print(
+    fn print_rows(
         &self,
         alloc: Global,
         printed: &mut Printed<H>,
         asked: u64,
         out: &mut Vec<u8>,
     ) -> Result<(), AllocError>
-        ensures ok { OnOk result
-            (AppendsShown (λ desk text. SeatShows H.start asked text) self.now out.old.items out.new.items) }
+        ensures ok { OnOk result ((text : List ℕ)
+            × (out.new.items ≡ out.old.items ++ text) × SeatShows H.start asked text) }
         ensures err { OnErr result (out.new.items ≡ out.old.items) }
     {
         if !printed.refresh(self.rt, alloc, &self.operators.desk, asked)? {
             return Err(self.give_up());
         }
         printed.append(out)
+    }
+
+    /// Appends the last calls that are in force and the last that can be redone, at most so many of each, a line for
+    /// each, and the version. An `Err` appends nothing. They are printed anew if those that were printed last are of an
+    /// earlier version than `asked`, or of another number.
+    fn print_past(
+        &self,
+        alloc: Global,
+        printed: &mut PrintedPast<'a, H>,
+        asked: u64,
+        most: u64,
+        out: &mut Vec<u8>,
+    ) -> Result<(), AllocError>
+        ensures ok { OnOk result ((text : List ℕ) × (out.new.items ≡ out.old.items ++ text)
+            × SeatTellsPast H.start asked most self.now.taken.seat text) }
+        ensures err { OnErr result (out.new.items ≡ out.old.items) }
+    {
+        let desk = &self.operators.desk;
+        if !printed.refresh(self.rt, alloc, desk, asked, most, &self.taken.seat)? {
+            return Err(self.give_up());
+        }
+        printed.append(out)
+    }
+
+    /// Appends the rows in the operator's turn. An `Err` appends nothing.
+    fn show_rows(&self, alloc: Global, asked: u64, out: &mut Vec<u8>) -> Result<(), AllocError>
+        ensures ok { OnOk result ((text : List ℕ)
+            × (out.new.items ≡ out.old.items ++ text) × SeatShows H.start asked text) }
+        ensures err { OnErr result (out.new.items ≡ out.old.items) }
+    {
+        let mut printed = self.operators.printed.lock(self.rt);
+        let answer = self.print_rows(alloc, &mut printed, asked, out);
+        MutexGuard::unlock(printed);
+        answer
+    }
+
+    /// Appends the calls in the operator's turn. An `Err` appends nothing.
+    fn show_past(
+        &self,
+        alloc: Global,
+        asked: u64,
+        most: u64,
+        out: &mut Vec<u8>,
+    ) -> Result<(), AllocError>
+        ensures ok { OnOk result ((text : List ℕ) × (out.new.items ≡ out.old.items ++ text)
+            × SeatTellsPast H.start asked most self.now.taken.seat text) }
+        ensures err { OnErr result (out.new.items ≡ out.old.items) }
+    {
+        let mut printed = self.operators.printed_past.lock(self.rt);
+        let answer = self.print_past(alloc, &mut printed, asked, most, out);
+        MutexGuard::unlock(printed);
+        answer
     }
 
     /// Ends the bridge, whose desk has no answer. What is returned ends the connection.
@@ -98,12 +150,12 @@ impl<'b, 'a, H: DeskBrand, R: Wait, F: Wake> AtDesk<'b, 'a, H, R, F> {
 
 impl<'b, 'a, H: DeskBrand, R: Wait, F: Wake> LineDesk for AtDesk<'b, 'a, H, R, F> {
     ghost use Rattle.std.specs.Prelude.{length};
-    ghost use Rattle.operator_threads.specs.Told.{SeatReplies, SeatShows};
+    ghost use Rattle.operator_threads.specs.Told.{SeatReplies, SeatViews};
 
     ghost replies = { λ old new call text.
         SeatReplies H.start H.publisher old.taken.seat new.taken.seat new.known call text };
 
-    ghost shows = { λ desk text. SeatShows H.start (length desk.known.lists) text };
+    ghost shows = { λ desk view text. SeatViews H.start (length desk.known.lists) desk.taken.seat view text };
 
     fn reply(&mut self, alloc: Global, call: Call, out: &mut Vec<u8>) -> Result<(), AllocError> {
         match self.answer_call(alloc, call) {
@@ -112,12 +164,12 @@ impl<'b, 'a, H: DeskBrand, R: Wait, F: Wake> LineDesk for AtDesk<'b, 'a, H, R, F
         }
     }
 
-    fn show(&self, alloc: Global, out: &mut Vec<u8>) -> Result<(), AllocError> {
+    fn show(&self, alloc: Global, view: View, out: &mut Vec<u8>) -> Result<(), AllocError> {
         let published = self.operators.desk.notice(self.rt).version();
         let asked = published.max(self.known.version());
-        let mut printed = self.operators.printed.lock(self.rt);
-        let answer = self.print(alloc, &mut printed, asked, out);
-        MutexGuard::unlock(printed);
-        answer
+        match view {
+            View::Rows => self.show_rows(alloc, asked, out),
+            View::History { most } => self.show_past(alloc, asked, most, out),
+        }
     }
 }

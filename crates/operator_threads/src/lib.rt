@@ -38,6 +38,7 @@ mod line_log;
 mod lobby;
 mod operators;
 mod printed;
+mod printed_past;
 mod printing;
 mod readiness;
 mod seats;

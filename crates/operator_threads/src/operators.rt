@@ -8,6 +8,7 @@ use crate::at_desk::AtDesk;
 use crate::latest::Latest;
 use crate::lobby::Lobby;
 use crate::printed::Printed;
+use crate::printed_past::PrintedPast;
 use crate::seats::{FreeSeats, TakenSeat};
 use crate::wake::Wake;
 use operator_desk::{DeskBrand, Seat, SharedDesk};
@@ -27,6 +28,8 @@ pub struct Operators<'a, H: DeskBrand> {
     /// Held while the rows are printed, which takes milliseconds for a full desk, or copied as they were printed last.
     /// Operators who keep asking take one processor together, and the others' calls have the rest.
     pub(crate) printed: Mutex<Printed<H>>,
+    /// The same for the calls in force.
+    pub(crate) printed_past: Mutex<PrintedPast<'a, H>>,
     pub(crate) stopped: AtomicBool,
     failed: AtomicBool,
 }
@@ -46,6 +49,7 @@ impl<'a, H: DeskBrand> Operators<'a, H> {
             lobby: Mutex::new(Lobby::new(alloc)),
             latest: Mutex::new(latest),
             printed: Mutex::new(Printed::nothing(alloc)),
+            printed_past: Mutex::new(PrintedPast::nothing(alloc)),
             stopped: AtomicBool::new(false),
             failed: AtomicBool::new(false),
         }
@@ -168,6 +172,7 @@ impl<'a, H: DeskBrand> Operators<'a, H> {
             lobby: _,
             latest: _,
             printed: _,
+            printed_past: _,
             stopped: _,
             failed: _,
         } = self;

@@ -156,8 +156,8 @@ class Counts:
             self.kinds[name + " " + " ".join(word for word in answer.split()[2:] if word.isalpha())] += 1
             return
         if name in ("undo", "redo"):
-            call, _ = (log.undone if name == "undo" else log.done)[-1]
-            name += " of a group" if call == "group" else ""
+            (_, _, call), _ = (log.undone if name == "undo" else log.done)[-1]
+            name += " of a group" if call[0] == "group" else ""
         elif name == "group":
             self.without_change += log.done[-1][1].shown(0) == log.desk.shown(0)
         self.kinds[f"{name} ok"] += 1

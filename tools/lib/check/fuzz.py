@@ -20,7 +20,7 @@ import subprocess
 import tempfile
 
 from lib.models.codec import Dropped, read_rtcp, read_rtp
-from lib.models.lines import fault_of_line, fault_of_script_line, settings_of
+from lib.models.lines import ALONE, fault_of_line, fault_of_script_line, settings_of
 from lib.models.told import told_of
 from lib.serving import settings, started
 from lib.shared import CRATES, add_program, fail, release_program
@@ -133,7 +133,7 @@ def datagrams(draw, count, program):
 
 def is_alone(line):
     """Whether a line asks for more or less than one line."""
-    return line in (b"show", b"quit", b"stop")
+    return line.split(b" ")[0].decode("latin-1") in ALONE and fault_of_line(line) is None
 
 
 def said_to(answer):
@@ -144,6 +144,7 @@ def said_to(answer):
 def lines(draw, count, program):
     words = (CRATES / "x_cases_scripts" / "stdin").read_text().splitlines()
     corpus = list({re.sub(r"^\S+ \S+ ", "", it).encode() for it in words if it.startswith("desk ") and len(it) < 200})
+    corpus += len(corpus) // 20 * [b"history 18446744073709551615", b"history 1"]
 
     def line():
         while True:

@@ -3,7 +3,7 @@
 import collections
 import dataclasses
 
-from lib.models.lines import fault_of_line
+from lib.models.lines import ALONE, fault_of_line
 
 SEATS = 16
 
@@ -25,9 +25,13 @@ class Call:
     def is_call(self):
         """Whether it is a call of the desk, which a script can say."""
         return (
-            self.text.split(" ")[0] not in ("show", "quit", "stop", "")
+            self.text.split(" ")[0] not in (*ALONE, "")
             and fault_of_line(self.text.encode("latin-1")) is None
         )
+
+    def is_told_lines(self):
+        """Whether its answer is some lines, of which the last is `end VERSION`."""
+        return self.text.split(" ")[0] in ("show", "history")
 
 
 @dataclasses.dataclass(frozen=True)
@@ -58,7 +62,7 @@ class Answers:
             self.waiting.popleft()
         if not self.waiting or self.waiting[0].moment > line.moment:
             return
-        if self.waiting[0].text == "show" and not line.text.startswith(("busy", "fault", "no ")):
+        if self.waiting[0].is_told_lines() and not line.text.startswith(("busy", "fault", "no ")):
             self.take_row(line)
             return
         call = self.waiting.popleft()
@@ -67,13 +71,13 @@ class Answers:
             call.number = int(line.text[3:])
 
     def take_row(self, line):
-        """Takes a line that answers `show`."""
+        """Takes a line that answers `show` or `history`."""
         if self.rows is not None and not line.text.startswith("end "):
             self.rows.append(line.text)
         elif line.text.startswith("end "):
             call = self.waiting.popleft()
             call.answer, call.until = line.text, line.moment
-            if self.rows is not None:
+            if self.rows is not None and call.text == "show":
                 self.shown.append(Shown(call.moment, line.moment, tuple(self.rows), int(line.text[4:])))
             self.rows = []
 

@@ -128,14 +128,14 @@ def parts_of(words):
 
 
 class Log:
-    """A desk with its version, and the desks that undo and redo lead to, each with the name of the call that it
-    undoes."""
+    """A desk with its version, and the desks that undo and redo lead to, each with the call that leads there: its
+    number, operator, words."""
 
     def __init__(self):
         self.desk, self.version, self.done, self.undone = Desk(), 0, [], []
 
-    def call(self, words):
-        """The line that answers a call."""
+    def call(self, words, op=0):
+        """The line that answers a call of an operator."""
         try:
             if words[0] == "undo":
                 self.go_to(self.done, self.undone, int(words[1]), "15 NothingToUndo")
@@ -143,7 +143,7 @@ class Log:
                 self.go_to(self.undone, self.done, int(words[1]), "16 NothingToRedo")
             else:
                 later = desk_after(self.desk, words)
-                self.done.append((words[0], self.desk))
+                self.done.append(((self.version + 1, op, words), self.desk))
                 self.desk, self.undone = later, []
         except Refused as why:
             return f"no {self.version} {why}"
@@ -156,9 +156,25 @@ class Log:
             raise Refused(f"14 NewerCommand {self.version}")
         if not stack:
             raise Refused(empty)
-        name, before = stack.pop()
-        other.append((name, self.desk))
+        made, before = stack.pop()
+        other.append((made, self.desk))
         self.desk = before
+
+    def history(self, most):
+        """The lines of the last calls that are in force, and of the last that can be redone: at most so many of each."""
+        done, undone = ([made_line(*made) for made, _ in stack[max(len(stack) - most, 0) :]] for stack in (self.done, self.undone))
+        return [*done, *(["undone", *undone] if undone else []), f"end {self.version}"]
+
+
+def made_line(number, op, words):
+    """The line of an accepted call in a history."""
+    parts = [" ".join(with_rate(part)) for part in parts_of(words)] if words[0] == "group" else [" ".join(with_rate(words))]
+    return f"{number} {op} {'group ' if words[0] == 'group' else ''}{' / '.join(parts)}"
+
+
+def with_rate(words):
+    """The words of a command, with the rate of a room that names none."""
+    return [*words, str(USUAL)] if words[0] == "add-room" and len(words) == 2 else words
 
 
 # Refusals

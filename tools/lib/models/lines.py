@@ -47,6 +47,8 @@ SCRIPT = {
     "report": [U64],
     "show": [],
 }
+# The first words of operators' lines that are no calls.
+ALONE = ("show", "history", "quit", "stop")
 # How many of a command's last words may be left out.
 LEFT_OUT = {"add-room": 1, "bridge": 1}
 
@@ -118,6 +120,15 @@ def read_call(words):
     return None
 
 
+def read_alone(words):
+    """Raises the first fault of the words of an operator's line that is no call."""
+    if words[0] == "history" and words[1:]:
+        judge(words[1], U64, 2)
+    most = 2 if words[0] == "history" else 1
+    if len(words) > most:
+        raise Fault(most + 1, 5)
+
+
 def read_script_line(words):
     """Raises the first fault of the words of a script's first line."""
     if words[0] != "desk":
@@ -153,10 +164,11 @@ def fault_of_line(line):
     if any(not 32 <= octet <= 126 for octet in line):
         return "fault 0 2 BadByte"
     words = line.decode().split(" ") if line else []
-    if words and words[0] in ("show", "quit", "stop"):
-        return "fault 2 5 ExtraWord" if len(words) > 1 else None
     try:
-        read_call(words)
+        if words and words[0] in ALONE:
+            read_alone(words)
+        else:
+            read_call(words)
     except Fault as fault:
         place, number = fault.args
         return f"fault {place} {number} {FAULTS[number]}"

@@ -22,6 +22,8 @@ from lib.models.desk import COMMANDS, Desk, Log  # noqa: E402
 from lib.models.lines import fault_of_line  # noqa: E402
 
 MOST_OCTETS = 4096
+# More calls than a desk accepts.
+EVERY_CALL = 2**64 - 1
 
 
 class QuickDesk(Desk):
@@ -41,7 +43,7 @@ class Front(socketserver.ThreadingTCPServer):
 
     def __init__(self, address, seats, ssrc):
         super().__init__(address, Operator)
-        self.log, self.lock, self.seats, self.taken = Log(), threading.Lock(), seats, set()
+        self.log, self.lock, self.seats, self.taken = Log(), threading.Lock(), seats, {}
         self.log.desk = QuickDesk()
         self.log.desk.bridge = ssrc
 
@@ -58,7 +60,7 @@ class Operator(socketserver.StreamRequestHandler):
             pass
         finally:
             with self.server.lock:
-                self.server.taken.discard(self)
+                self.server.taken.pop(self, None)
 
     def says(self, text):
         self.wfile.write(f"{text}\n".encode())
@@ -74,20 +76,27 @@ class Operator(socketserver.StreamRequestHandler):
             self.says(fault)
             return not fault.startswith("fault 0")
         with self.server.lock:
-            if self not in self.server.taken and len(self.server.taken) == self.server.seats:
+            free = [seat for seat in range(self.server.seats) if seat not in self.server.taken.values()]
+            if self not in self.server.taken and not free:
                 self.says("busy")
                 return False
-            self.server.taken.add(self)
-            return self.is_carried_out(octets.decode().split(" "))
+            seat = self.server.taken.setdefault(self, free[0] if free else 0)
+            return self.is_carried_out(octets.decode().split(" "), seat)
 
-    def is_carried_out(self, words):
+    def is_carried_out(self, words, seat):
         log = self.server.log
         if words == ["stop"]:
             print("confbridge: stopped", file=sys.stderr, flush=True)
             os._exit(0)
         if words == ["quit"]:
             return False
-        self.says("\n".join(log.desk.shown(log.version)) if words == ["show"] else log.call(words))
+        if words == ["show"]:
+            lines = log.desk.shown(log.version)
+        elif words[0] == "history":
+            lines = log.history(int((words[1:] or [EVERY_CALL])[0]))
+        else:
+            lines = [log.call(words, seat)]
+        self.says("\n".join(lines))
         return True
 
 

@@ -1,16 +1,20 @@
 use Rattle.std.proofs.Common.{◌≡◌, true, false, ◌<◌, ◌+◌, ◌++◌, ◌∷◌, [], length, vec_len, vec_capacity, rules, sym, ap}
 use Rattle.std.proofs.Common.{subst, ◌∙◌, arith, refl, None, Some, length-append}
 use Rattle.std.specs.Prelude.{slice_get}
+use Rattle.call_history.specs.AcceptedCall.{AcceptedOf}
+use Rattle.call_history.specs.Lists.{ListsOf, with_call}
 use Rattle.desk_edit.specs.Asked.{CallOf, asked_by}
+use Rattle.desk_edit.specs.declared.refusal.Refusal.TheVariants.{OutOfMemory}
 use Rattle.desk_edit.specs.Calls.{call_limit, refusal_of, after_call}
 use Rattle.desk_calls.specs.Desk.{Does}
 use Rattle.desk_calls.specs.Edits.{fits}
 use Rattle.desk_calls.specs.Following.{HasCalled}
 use Rattle.versions.specs.Published.{NoticeOf, after_lists}
-use Rattle.operator_desk.specs.declared.answer.Why.TheVariants.{LogTaken}
+use Rattle.operator_desk.specs.declared.answer.Why.TheVariants.{Told, LogTaken}
 use Rattle.operator_desk.specs.Entry.{EntryOf}
 use Rattle.operator_desk.specs.LegalLogs.{after_log, IsLegal}
 use Rattle.operator_desk.specs.OwnCalls.{numbers}
+use Rattle.operator_desk.specs.PastCalls.{lists_in}
 use Rattle.operator_desk.specs.Published.{AreDesks}
 use Rattle.operator_desk.specs.Seats.{SeatOf}
 use Rattle.operator_desk.specs.declared.answer.Answer.{Answer}
@@ -20,7 +24,8 @@ use Rattle.operator_desk.specs.inner.DeskInner.{InnerOf, IsInner, Leads}
 use Rattle.operator_desk.specs.inner.Tokens.{shown, shown_next}
 use Rattle.operator_desk.proofs.LogLemmas.{accepted-log, desks-all, held-push, own_numbers}
 use Rattle.operator_desk.proofs.TokenLemmas.{tokens-push, none_shown, length-shown, shown-push, is_there}
-use Rattle.operator_desk.proofs.AnswerLemmas.{refused, accepted, taken, answered}
+use Rattle.operator_desk.proofs.AnswerLemmas.{refused, accepted, taken, answered, wants_memory}
+use Rattle.operator_desk.proofs.PastLemmas.{made, lists-push}
 use Rattle.operator_desk.proofs.desk_inner.DeskInner.write.Given
 use Rattle.operator_desk.proofs.desk_inner.DeskInner.write.Goals as goal
 
@@ -155,6 +160,27 @@ legal g c =
     subst (IsLegal g.H.DeskBrand.start) (longer g c ∙ sym (seen g c ∙ ap (λ l. l ++ entry_of g c ∷ []) (same g c)))
     (held g c).legal
 
+-- the call stands in the lists of the longer log
+noted : (g : Given.Over) (c : goal.After-tell-notice g)
+    → c.note.new.self.lists ≡ lists_in (shown c.push_reserved.new.self.items)
+noted g c =
+    let start = g.H.DeskBrand.start in
+    let log = shown c.self.inside.entries.items in
+    let entry = entry_of g c in
+    let is : c.read-entry.result.now ≡ entry = c.read-entry.ensures ∙ value g c in
+    let number : c.commit-no.result ≡ length log + 1 =
+    c.commit-no.ensures.version.0 ∙ ap (λ n. n + 1) (c.self.invariant.3.called.version ∙ accepted-log start log) in
+    let told : c.accepted.result ≡ made (length log + 1) entry =
+    c.accepted.ensures
+    ∙ (ap (λ (e : EntryOf). made c.commit-no.result e) is ∙ ap (λ n. made n entry) number) in
+    let call : asked_by c.call-in-Ok.result.now ≡ entry.call =
+    c.call-in-Ok.ensures ∙ ap (λ (e : EntryOf). e.call) is in
+    let same : c.reserve.new.self.lists ≡ lists_in log = c.reserve.ensures.same ∙ c.self.invariant.6 in
+    c.note.ensures.lists
+    ∙ (ap (λ (k : CallOf). with_call c.reserve.new.self.lists k c.accepted.result) call
+    ∙ (ap (λ (l : ListsOf AcceptedOf). with_call l entry.call c.accepted.result) same
+    ∙ (lists-push log entry c.accepted.result told ∙ ap lists_in (sym (longer g c)))))
+
 pub invariant_of-self-in-Ok : goal.invariant_of-self-in-Ok
 invariant_of-self-in-Ok g c =
     let i = c.self.invariant in
@@ -165,7 +191,7 @@ invariant_of-self-in-Ok g c =
     (vec_capacity c.self.inside.entries) (vec_capacity c.push_reserved.new.self) c.self.inside.next c.self.inside.next
     i.2 (cell g c ∙ ap Some (sym c.again-in-Ok.ensures.0)) c.push_reserved.ensures.items
     c.push_reserved.ensures.capacity none in
-    (i.0, i.1, tokens, held g c, i.4, i.5)
+    (i.0, i.1, tokens, held g c, i.4, i.5, noted g c)
 
 pub invariant_of-seat-in-Ok : goal.invariant_of-seat-in-Ok
 invariant_of-seat-in-Ok g c =
@@ -240,3 +266,18 @@ returns-in-Err-clause-answer g c =
 pub returns-in-Err-clause-ended : goal.returns-in-Err-clause-ended
 returns-in-Err-clause-ended g c =
     answered c.taken_answer.result (Refused c.version-at.result LogTaken) _ c.taken_answer.ensures
+
+pub returns-then-is_err-clause-answer : goal.returns-then-is_err-clause-answer
+returns-then-is_err-clause-answer g c =
+    let held = c.self.invariant.3 in
+    let log = shown c.self.inside.entries.items in
+    let start = g.H.DeskBrand.start in
+    let is_log : log ≡ c.args.self.now.log = ap (λ (h : InnerOf). h.log) c.self.view_is in
+    let seat = c.args.seat.now in
+    let call = asked_by c.args.call in
+    let at = c.version-at.result in
+    let number : at ≡ length log = c.version-at.ensures.version ∙ (held.called.version ∙ accepted-log start log) in
+    let free = subst (λ l. refusal_of (after_log start l) call ≡ None) (sym is_log) c.requires.free in
+    subst (IsAnswered start g.H.DeskBrand.publisher seat seat call) (sym c.refused.ensures)
+    (refused start seat seat log call at (Told OutOfMemory) (c.requires.seen ∙ sym is_log) refl refl refl number
+    held.legal (wants_memory start log seat.beyond call free))

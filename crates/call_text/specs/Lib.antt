@@ -1,0 +1,2 @@
+pub mod HistoryText
+pub mod inner
