@@ -8,7 +8,9 @@ import subprocess
 
 from lib.shared import fail
 
-LISTENS = re.compile(r"confbridge: listening on udp 127\.0\.0\.1:([0-9]+) and tcp 127\.0\.0\.1:([0-9]+), ticks from ([0-9]+)\n")
+LISTENS = re.compile(
+    r"confbridge: listening on udp 127\.0\.0\.1:([0-9]+) and tcp 127\.0\.0\.1:([0-9]+), ticks from ([0-9]+)\n"
+)
 
 
 def udp_socket(port=0):

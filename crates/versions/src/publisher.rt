@@ -35,6 +35,16 @@ pub struct FirstRows {
     pub(crate) rows: Snapshot<Rows>,
 }
 
+impl FirstRows {
+    pub(crate) fn of(rows: &Rows) -> Self
+        ensures { result.rows.value ≡ rows.now }
+    {
+        Self {
+            rows: Snapshot::of(rows),
+        }
+    }
+}
+
 impl Model for Publisher {
     ghost use Rattle.std.specs.Prelude.{◌≡◌, true, IfSome};
     ghost use Rattle.undo_log.specs.Timeline.{all_fit};

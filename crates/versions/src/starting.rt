@@ -16,7 +16,6 @@ use crate::showing::{Lead, Showing, repeats};
 use desk_rows::Rows;
 use left_right::writer::Writer;
 use std::alloc::{AllocError, Global};
-use std::snapshot::Snapshot;
 use std::sync::{Arc, Wait};
 use thiserror::Error;
 use undo_log::{Edits, Listed};
@@ -68,9 +67,7 @@ fn made<R: Wait>(
     ensures readers { IfOk result (λ r. All (λ reader. reader ≡ new_reader opened rows) r.1.items) }
 {
     let (head, notice) = opened.into_parts();
-    let first = FirstRows {
-        rows: Snapshot::of(&rows),
-    };
+    let first = FirstRows::of(&rows);
     let shown = owned(alloc, rows.copy(alloc)?)?;
     let before = owned(alloc, rows)?;
     let one = Edition::new(Arc::try_clone(&shown)?, notice.again());

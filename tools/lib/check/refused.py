@@ -46,7 +46,9 @@ FRAME = next(iter(STEPS))
 
 OUT_OF_MEMORY, FAILED = "confbridge: out of memory\n", "confbridge: input or output failed\n"
 # The line before says what failed, and why.
-CAUSE = re.compile(r"confbridge: (.*[.]toml|start|front|end|poll|lane [0-9]+): (out of memory.*|no thread could be started)\n")
+CAUSE = re.compile(
+    r"confbridge: (.*[.]toml|start|front|end|poll|lane [0-9]+): (out of memory.*|no thread could be started)\n"
+)
 
 
 def options(parser):
@@ -101,7 +103,8 @@ def status_of(bridge, wanted, what):
         fail(f"{what} is refused, and the bridge doesn't end")
     *before, last = said.splitlines(keepends=True) or [""]
     check(wanted.get(status) == last, f"{what} is refused: the bridge ends with status {status} and says {said!r}")
-    check(any(CAUSE.fullmatch(line) for line in before), f"{what} is refused: the bridge doesn't say why it ends: {said!r}")
+    says_why = any(CAUSE.fullmatch(line) for line in before)
+    check(says_why, f"{what} is refused: the bridge doesn't say why it ends: {said!r}")
     return status
 
 

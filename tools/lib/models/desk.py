@@ -161,15 +161,21 @@ class Log:
         self.desk = before
 
     def history(self, most):
-        """The lines of the last calls that are in force, and of the last that can be redone: at most so many of each."""
-        done, undone = ([made_line(*made) for made, _ in stack[max(len(stack) - most, 0) :]] for stack in (self.done, self.undone))
+        """The lines of the last calls in force, and of the last that can be redone: at most so many of each."""
+        done, undone = last_lines(self.done, most), last_lines(self.undone, most)
         return [*done, *(["undone", *undone] if undone else []), f"end {self.version}"]
+
+
+def last_lines(stack, most):
+    """The lines of the last accepted calls of a stack, at most so many."""
+    return [made_line(*made) for made, _ in stack[max(len(stack) - most, 0) :]]
 
 
 def made_line(number, op, words):
     """The line of an accepted call in a history."""
-    parts = [" ".join(with_rate(part)) for part in parts_of(words)] if words[0] == "group" else [" ".join(with_rate(words))]
-    return f"{number} {op} {'group ' if words[0] == 'group' else ''}{' / '.join(parts)}"
+    if words[0] != "group":
+        return f"{number} {op} {' '.join(with_rate(words))}"
+    return f"{number} {op} group {' / '.join(' '.join(with_rate(part)) for part in parts_of(words))}"
 
 
 def with_rate(words):
