@@ -31,6 +31,7 @@ pub struct Publisher {
 }
 
 /// The rows at the start, in proofs alone.
+#[derive(Drop)]
 pub struct FirstRows {
     pub(crate) rows: Snapshot<Rows>,
 }
