@@ -276,8 +276,8 @@ impl<'a, H: DeskBrand> DeskInner<'a, H> {
                 seat.next = None;
                 let no = self.desk.commit(entry.call(), prepared);
                 self.lists.note(entry.call(), entry.accepted(no));
-                self.calls.add(&mut seat.mine, 1);
                 let notice = self.publisher.tell();
+                self.calls.add(&mut seat.mine, 1);
                 Some(Answer::Accepted { no, notice })
             }
             Err(token) => {

@@ -77,13 +77,13 @@ push_reserved-requires-in-Ok g c =
     omega (arith, there, len, long, seat_len, tokens.few)
 
 -- the entry of the call
-abbrev entry_of : (g : Given.Over) → goal.After-tell-notice g → EntryOf
+abbrev entry_of : (g : Given.Over) → goal.After-add g → EntryOf
 entry_of g c = record { op = c.seat.inside.op; call = asked_by c.args.call }
 
-value : (g : Given.Over) (c : goal.After-tell-notice g) → c.in-Ok.token.value ≡ entry_of g c
+value : (g : Given.Over) (c : goal.After-add g) → c.in-Ok.token.value ≡ entry_of g c
 value g c = c.in-Ok.ensures.ok.1 ∙ c.new.ensures
 
-cell : (g : Given.Over) (c : goal.After-tell-notice g)
+cell : (g : Given.Over) (c : goal.After-add g)
     → slice_get g.H.DeskBrand.cells (length c.self.inside.entries.items) ≡ Some c.in-Ok.token.of
 cell g c =
     let len : c.len-next.result ≡ length c.self.inside.entries.items = search rules in
@@ -91,30 +91,30 @@ cell g c =
     (subst (λ cs. slice_get cs c.len-next.result ≡ Some c.in-Ok.token.of) c.self.invariant.0 c.in-Ok.ensures.ok.0)
 
 -- the desk's log after the call
-longer : (g : Given.Over) (c : goal.After-tell-notice g)
+longer : (g : Given.Over) (c : goal.After-add g)
     → shown c.push_reserved.new.self.items ≡ shown c.self.inside.entries.items ++ entry_of g c ∷ []
 longer g c =
     shown-push c.self.inside.entries.items c.push_reserved.new.self.items c.again-in-Ok.result (entry_of g c)
     c.push_reserved.ensures.items (c.again-in-Ok.ensures.1 ∙ value g c)
 
 -- the seat has seen what the desk has
-same : (g : Given.Over) (c : goal.After-tell-notice g)
+same : (g : Given.Over) (c : goal.After-add g)
     → shown c.seat.inside.seen.items ≡ shown c.self.inside.entries.items
 same g c =
     ap (λ (s : SeatOf). s.seen) c.seat.view_is ∙ (c.requires.seen ∙ sym (ap (λ (h : InnerOf). h.log) c.self.view_is))
 
 -- what the seat has seen after the call
-seen : (g : Given.Over) (c : goal.After-tell-notice g)
+seen : (g : Given.Over) (c : goal.After-add g)
     → shown c.push_reserved-in-Ok.new.self.items ≡ shown c.seat.inside.seen.items ++ entry_of g c ∷ []
 seen g c =
     shown-push c.seat.inside.seen.items c.push_reserved-in-Ok.new.self.items c.in-Ok.token (entry_of g c)
     c.push_reserved-in-Ok.ensures.items (value g c)
 
 -- what was committed is the call
-asked : (g : Given.Over) (c : goal.After-tell-notice g) → asked_by c.call.result.now ≡ asked_by c.args.call
+asked : (g : Given.Over) (c : goal.After-add g) → asked_by c.call.result.now ≡ asked_by c.args.call
 asked g c = c.call.ensures ∙ ap (λ (e : EntryOf). e.call) (c.read-entry.ensures ∙ value g c)
 
-abbrev before : (g : Given.Over) → goal.After-tell-notice g → InnerOf
+abbrev before : (g : Given.Over) → goal.After-add g → InnerOf
 before g c =
     record {
       log = shown c.self.inside.entries.items;
@@ -124,7 +124,7 @@ before g c =
       total = c.self.inside.calls.total;
     }
 
-abbrev after_all : (g : Given.Over) → goal.After-tell-notice g → InnerOf
+abbrev after_all : (g : Given.Over) → goal.After-add g → InnerOf
 after_all g c =
     record {
       log = shown c.push_reserved.new.self.items;
@@ -134,7 +134,7 @@ after_all g c =
       total = c.add.new.self.total;
     }
 
-held : (g : Given.Over) (c : goal.After-tell-notice g)
+held : (g : Given.Over) (c : goal.After-add g)
     → IsInner g.H.DeskBrand.start g.H.DeskBrand.publisher (after_all g c)
 held g c =
     let start = g.H.DeskBrand.start in
@@ -154,14 +154,14 @@ held g c =
     old free called leads c.stage.ensures.staged c.in-Some.ensures.published c.publish.ensures.same
     c.publish.ensures.none (longer g c) c.add.ensures.total
 
-legal : (g : Given.Over) (c : goal.After-tell-notice g)
+legal : (g : Given.Over) (c : goal.After-add g)
     → IsLegal g.H.DeskBrand.start (shown c.push_reserved-in-Ok.new.self.items)
 legal g c =
     subst (IsLegal g.H.DeskBrand.start) (longer g c ∙ sym (seen g c ∙ ap (λ l. l ++ entry_of g c ∷ []) (same g c)))
     (held g c).legal
 
 -- the call stands in the lists of the longer log
-noted : (g : Given.Over) (c : goal.After-tell-notice g)
+noted : (g : Given.Over) (c : goal.After-add g)
     → c.note.new.self.lists ≡ lists_in (shown c.push_reserved.new.self.items)
 noted g c =
     let start = g.H.DeskBrand.start in
