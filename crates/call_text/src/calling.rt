@@ -1,6 +1,6 @@
 //! The lines of calls.
 
-ghost use Rattle.std.specs.Prelude.{◌≡◌, ◌++◌, decimal, codes};
+ghost use Rattle.std.specs.Prelude.{◌++◌, decimal, codes};
 ghost use Rattle.std.specs.List.{flat_map};
 ghost use Rattle.desk_edit.specs.Asked.{asked_by};
 ghost use Rattle.desk_edit.specs.Asked.CallOf.{Group};

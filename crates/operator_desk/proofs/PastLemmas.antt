@@ -1,5 +1,5 @@
 -- The lists of a log that goes on by one call.
-use Rattle.std.proofs.Common.{◌≡◌, ℕ, suc, ◌+◌, List, [], ◌∷◌, ◌++◌, length, refl, sym, ap, ◌∙◌, arith}
+use Rattle.std.proofs.Common.{◌≡◌, ℕ, suc, ◌+◌, List, [], ◌∷◌, ◌++◌, length, sym, ap, ◌∙◌, arith}
 use Rattle.std.proofs.lemmas.List.Sums.{fold_push}
 use Rattle.call_history.specs.AcceptedCall.{AcceptedOf}
 use Rattle.call_history.specs.Lists.{ListsOf, no_lists, with_call, lists_of}

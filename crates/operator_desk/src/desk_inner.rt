@@ -4,7 +4,6 @@ ghost use Rattle.std.specs.Prelude.{◌≡◌, ◌≤◌, true, length, slice_ge
 ghost use Rattle.std.specs.Bool.{OnTrue, OnFalse};
 ghost use Rattle.std.specs.List.{All, sum_by};
 ghost use mathlib.Core.List.{IsPrefix};
-ghost use Rattle.desk_rows.specs.Desk.{good};
 ghost use Rattle.desk_edit.specs.Asked.{asked_by};
 ghost use Rattle.desk_edit.specs.Calls.{refusal_of};
 ghost use Rattle.desk_calls.specs.Desk.{IsReady};
@@ -12,7 +11,7 @@ ghost use Rattle.desk_calls.specs.Edits.{fits};
 ghost use Rattle.operator_desk.specs.LegalLogs.{after_log, IsLegal};
 ghost use Rattle.operator_desk.specs.OwnCalls.{numbers};
 ghost use Rattle.operator_desk.specs.Seats.{SeatOf};
-ghost use Rattle.operator_desk.specs.Answers.{IsAnswered, IsUnanswered, IsEnded, IsOurs, IsNotice, IsCopy, Tells};
+ghost use Rattle.operator_desk.specs.Answers.{IsAnswered, IsUnanswered, IsEnded, IsOurs, IsNotice, Tells};
 ghost use Rattle.operator_desk.specs.Gathering.{AreAllIn};
 ghost use Rattle.operator_desk.specs.inner.DeskInner.{Leads};
 
@@ -27,7 +26,7 @@ use call_history::{AcceptedCall, CallLists};
 use desk_calls::{Desk, Prepared};
 use desk_edit::{Call, Refusal};
 use desk_rows::Edit;
-use std::alloc::{AllocError, Global};
+use std::alloc::Global;
 use std::marker::Model;
 use std::sync::ledger::{Book, Share};
 use std::sync::{OnceToken, Wait};

@@ -1,7 +1,7 @@
 //! The calls that are in force, and those that can be redone.
 
-ghost use Rattle.std.specs.Prelude.{◌≡◌, length, IfOk};
-ghost use Rattle.std.specs.Bool.{OnTrue};
+ghost use Rattle.std.specs.Prelude.{◌≡◌, ◌<◌, length, IfOk};
+ghost use Rattle.std.specs.Bool.{OnTrue, OnFalse};
 ghost use mathlib.Core.List.{IsPrefix};
 ghost use Rattle.operator_desk.specs.inner.Tokens.{marks, shown, AreFirst};
 
@@ -94,7 +94,8 @@ impl<'a, H: DeskBrand> Past<'a, H> {
 
     /// Whether the log goes on from what a seat has seen. It does, unless the seat has seen more.
     pub fn goes_on_from(&self, seat: &Seat<'a, H>) -> bool
-        ensures { OnTrue result (IsPrefix seat.now.seen self.now.log) }
+        ensures begins { OnTrue result (IsPrefix seat.now.seen self.now.log) }
+        ensures shorter { OnFalse result (length self.now.log < length seat.now.seen) }
     {
         if self.entries.len() < seat.seen.len() {
             return false;

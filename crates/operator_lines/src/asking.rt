@@ -1,7 +1,6 @@
 //! What an operator's line asks for.
 
-ghost use Rattle.std.specs.Prelude.{◌≡◌, ◌≢◌, Err};
-ghost use Rattle.desk_edit.specs.Asked.{asked_by};
+ghost use Rattle.std.specs.Prelude.{◌≡◌, Err};
 ghost use Rattle.script_text.specs.Words.{Gives, cut_of};
 ghost use Rattle.script_text.specs.Calls.{spoken_call};
 ghost use Rattle.operator_lines.specs.Operators.AskOf.{alone};

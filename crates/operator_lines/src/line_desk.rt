@@ -1,6 +1,6 @@
 //! The desk that an operator's lines ask.
 
-ghost use Rattle.std.specs.Prelude.{◌≡◌, ◌++◌, ℕ, List, OnOk, OnErr};
+ghost use Rattle.std.specs.Prelude.{◌≡◌, ℕ, List, OnOk, OnErr};
 ghost use Rattle.desk_edit.specs.Asked.{CallOf, asked_by};
 ghost use Rattle.operator_lines.specs.Operators.{AppendsReply, AppendsShown};
 

@@ -5,8 +5,8 @@ use Rattle.operator_desk.specs.Seats.{SeatOf}
 use Rattle.operator_desk.specs.inner.Tokens.{shown}
 use Rattle.operator_desk.proofs.past.Past.goes_on_from.Goals as goal
 
-pub returns : goal.returns
-returns g c =
+pub returns-clause-begins : goal.returns-clause-begins
+returns-clause-begins g c =
     let all = shown c.self.inside.entries.items in
     let seen = shown c.seat.inside.seen.items in
     let from = vec_len c.seat.inside.seen in
