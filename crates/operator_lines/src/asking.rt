@@ -1,6 +1,6 @@
 //! What an operator's line asks for.
 
-ghost use Rattle.std.specs.Prelude.{◌≡◌, Err};
+ghost use Rattle.std.specs.Prelude.{◌≡◌, ◌≢◌, Err};
 ghost use Rattle.script_text.specs.Words.{Gives, cut_of};
 ghost use Rattle.script_text.specs.Calls.{spoken_call};
 ghost use Rattle.operator_lines.specs.Operators.AskOf.{alone};
@@ -73,7 +73,8 @@ fn alone(word: &[u8]) -> Option<Verb>
 
 /// What such a line asks for with this text behind its word: only behind `history` may one stand, a number.
 fn behind(verb: Verb, text: &[u8]) -> Result<Verb, ParseFault>
-    ensures { Gives alone result (behind_of verb text.now) }
+    ensures read { Gives alone result (behind_of verb text.now) }
+    ensures memory { result ≢ Err ParseFault.OutOfMemory }
 {
     match verb {
         Verb::Show(View::History { .. }) => match most(text) {

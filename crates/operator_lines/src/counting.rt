@@ -1,6 +1,6 @@
 //! How many calls a history is to have.
 
-ghost use Rattle.std.specs.Prelude.{◌≡◌, ◌^◌, true};
+ghost use Rattle.std.specs.Prelude.{◌≡◌, ◌≢◌, ◌^◌, true, Err};
 ghost use Rattle.std.specs.List.{list_all};
 ghost use Rattle.std.specs.Char.{is_ascii_digit};
 ghost use Rattle.std.specs.Str.Parse.{digits_value};
@@ -57,7 +57,8 @@ fn fault(word: u32, fault: Fault) -> ParseFault
 
 /// The number that a text is, the second word of its line. Behind it no other word may stand.
 pub(crate) fn most(text: &[u8]) -> Result<u64, ParseFault>
-    ensures { Gives (λ most. most) result (most_in text.now (cut_of 32 text.now)) }
+    ensures read { Gives (λ most. most) result (most_in text.now (cut_of 32 text.now)) }
+    ensures memory { result ≢ Err ParseFault.OutOfMemory }
 {
     match cut(text, b' ') {
         None => match number(text) {

@@ -2,6 +2,7 @@
 
 ghost use Rattle.std.specs.Prelude.{◌≡◌, ℕ, List, OnOk, OnErr};
 ghost use Rattle.desk_edit.specs.Asked.{CallOf, asked_by};
+ghost use Rattle.operator_lines.specs.declared.line_desk.View.{View};
 ghost use Rattle.operator_lines.specs.Operators.{AppendsReply, AppendsShown};
 
 use desk_edit::Call;
