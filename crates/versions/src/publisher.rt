@@ -11,7 +11,6 @@ use crate::showing::Showing;
 use desk_rows::{Edit, Rows};
 use logbook::Word;
 use std::marker::Model;
-use std::snapshot::Snapshot;
 use std::sync::Wait;
 use undo_log::Edits;
 
@@ -24,26 +23,11 @@ use undo_log::Edits;
 pub struct Publisher {
     // None if it has ended, and while a list is being published.
     pub(crate) showing: Option<Showing>,
-    pub(crate) first: FirstRows,
+    // The rows at the start, by which contracts know it once it has ended.
+    pub(crate) first: Rows,
     pub(crate) head: Word<Edits<Edit>, u64, Law>,
     pub(crate) notice: Notice,
     pub(crate) staged: Option<Edits<Edit>>,
-}
-
-/// The rows at the start, in proofs alone.
-#[derive(Drop)]
-pub struct FirstRows {
-    pub(crate) rows: Snapshot<Rows>,
-}
-
-impl FirstRows {
-    pub(crate) fn of(rows: &Rows) -> Self
-        ensures { result.rows.value ≡ rows.now }
-    {
-        Self {
-            rows: Snapshot::of(rows),
-        }
-    }
 }
 
 impl Model for Publisher {
@@ -58,14 +42,14 @@ impl Model for Publisher {
 
     ghost view = { λ p. record {
       publisher = p.notice.publisher;
-      start = p.first.rows.value;
+      start = p.first;
       lists = p.notice.lists;
       staged = p.staged;
     } };
 
     ghost invariant = { λ p. (p.head ≡ head_of p.notice.publisher)
         × IfSome p.showing (λ s. (s.page.notice ≡ p.notice)
-        × (start_of s.seen ≡ p.first.rows.value)
+        × (start_of s.seen ≡ p.first)
         × IfSome p.staged (λ edits. all_fit fits after s.page.desk edits ≡ true)) };
 }
 

@@ -9,7 +9,7 @@ ghost use Rattle.versions.specs.inner.ReaderRule.{IsOf, first_sight, reader_of};
 
 use crate::edition::Edition;
 use crate::notice::{Notice, Opened};
-use crate::publisher::{FirstRows, Publisher};
+use crate::publisher::Publisher;
 use crate::reader::LaneReader;
 use crate::rule::{Looks, Shares};
 use crate::showing::{Lead, Showing, repeats};
@@ -67,7 +67,7 @@ fn made<R: Wait>(
     ensures readers { IfOk result (λ r. All (λ reader. reader ≡ new_reader opened rows) r.1.items) }
 {
     let (head, notice) = opened.into_parts();
-    let first = FirstRows::of(&rows);
+    let first = rows.copy(alloc)?;
     let shown = owned(alloc, rows.copy(alloc)?)?;
     let before = owned(alloc, rows)?;
     let one = Edition::new(Arc::try_clone(&shown)?, notice.again());
