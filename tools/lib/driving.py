@@ -32,6 +32,7 @@ window.dragged = (from, to) => {
   fire(a, "dragstart"); fire(b, "dragover"); fire(b, "drop"); fire(a, "dragend");
 };
 window.version = () => (desk ? desk.version : -1);
+window.buttons = () => ["undo", "redo"].map((id) => document.getElementById(id).textContent);
 window.panel = (member) => {
   opened = member;
   renderDetail();
@@ -118,6 +119,11 @@ def drawn_of(rows):
     return sorted(found)
 
 
+def settles(browser, version):
+    """Waits until the page has the desk and the history of a version."""
+    browser.wait(f"version() === {version} && past?.version === {version}")
+
+
 def compare(browser, version, bridge, what):
     """The rows that the page has. Ends where these, or what it draws, are not what the bridge's `show` says."""
     rows, drawn = browser.run("[desk.rows, drawn()]")
@@ -138,30 +144,61 @@ def by_keys(browser, shown):
         if text:
             browser.types(text)
         browser.press(key, CODES[key])
-        browser.wait(f"version() === {version}")
+        settles(browser, version)
         compare(browser, version, shown(), f"{what} by keys")
 
 
-def undoes_others(browser, shown, ask):
-    """The buttons name another operator's change, and once it is undone what the page has done before. Behind a call
-    without an answer the page can't know whose the change is, and names its version alone."""
-    words = [f"document.getElementById('{name}').textContent" for name in ("undo", "redo")]
-    version, before = browser.run("version()") + 1, browser.run(words[0])
-    is_known = not browser.run("desk.calls.some((call) => call.said === 'lost')")
-    change = f"the change of another connection (version {version})" if is_known else f"version {version}"
-    if ask("add-room 9") != f"ok {version}":
-        fail("another operator's change is refused")
-    browser.wait(f"version() === {version}")
-    for script, wanted in [
-        ("true", [f"Undo: {change}", "Redo"]), ("document.getElementById('undo').click()", [before, f"Redo: {change}"])
-    ]:
-        browser.run(f"{script}; true")
-        browser.wait(f"version() === {version}")
+def names_what_goes(browser, told, wanted=None):
+    """Both buttons name what the bridge's history says, and these words where they are given."""
+    lines = told(1)
+    at = lines.index("undone") if "undone" in lines else len(lines) - 1
+    calls = [part[-1].split(" ", 2)[2] if part else "" for part in (lines[:at], lines[at + 1 : -1])]
+    said = [f"{word}: {call}" if call else word for word, call in zip(("Undo", "Redo"), calls)]
+    words = browser.run("buttons()")
+    if words != said or wanted and words != wanted:
+        fail(f"the buttons say {words}, the bridge's history {said}, and wanted is {wanted}")
+
+
+def undoes_others(browser, shown, told, ask):
+    """The buttons name another operator's changes, undos and redos, from each moment on."""
+    version, before = browser.run("version()"), browser.run("buttons()")[0]
+    changes = [("add-room 9", ["Undo: add-room 9 8000", "Redo"]), ("undo", [before, "Redo: add-room 9 8000"]),
+               ("redo", ["Undo: add-room 9 8000", "Redo"])]  # fmt: skip
+    for line, wanted in changes:
+        words = f"{line} {version}" if line in ("undo", "redo") else line
         version += 1
-        told = [browser.run(word) for word in words]
-        if told != wanted:
-            fail(f"at version {version - 1} of another operator's change the buttons say {told}, not {wanted}")
-        compare(browser, version - 1, shown(), "another operator's change")
+        if ask(words) != f"ok {version}":
+            fail(f"another operator's `{words}` is refused")
+        settles(browser, version)
+        names_what_goes(browser, told, wanted)
+    version += 1
+    browser.run("document.getElementById('undo').click(); true")
+    settles(browser, version)
+    names_what_goes(browser, told, [before, "Redo: add-room 9 8000"])
+    compare(browser, version, shown(), "another operator's change")
+
+
+def walks(browser, shown, told):
+    """A click on a call of the history says which undos lead to the desk behind it, and a button goes there and back."""
+    version = browser.run("version()")
+    calls = browser.run("past.done.map((one) => one.number)")
+    number, undos = calls[-4], 3
+    browser.run(f"press('walk {number}'), true")
+    is_told(browser, [
+        (f"document.querySelector('[data-key=\"walk {number}\"]').closest('li').textContent.includes("
+         f"'{undos} undos lead to the desk right behind it: {', '.join(map(str, calls[:-4:-1]))}.')", True),
+        ("document.querySelectorAll('#calls .way').length", undos),
+    ])  # fmt: skip
+    browser.run(f"press('go {number}'), true")
+    settles(browser, version + undos)
+    names_what_goes(browser, told)
+    is_told(browser, [("past.done[past.done.length - 1].number", number)])
+    browser.run(f"press('walk {calls[-1]}'), press('go {calls[-1]}'), true")
+    settles(browser, version + 2 * undos)
+    names_what_goes(browser, told)
+    is_told(browser, [("past.done.map((one) => one.number)", calls)])
+    compare(browser, version + 2 * undos, shown(), "a walk in the history")
+    browser.run(f"press('walk {calls[-1]}'), true")
 
 
 def is_told(browser, looks):
@@ -208,40 +245,28 @@ def undoes_music(browser, shown):
     for _ in range(2):
         version += 1
         browser.run("document.getElementById('undo').click(); true")
-        browser.wait(f"version() === {version}")
+        settles(browser, version)
     compare(browser, version, shown(), "the undo of a music room")
     is_told(browser, [("document.getElementById('redo').textContent", "Redo: add-room 3 44100")])
-
-
-def leaves_rows_out(browser, shown, ask):
-    """Of another operator's change the history shows 12 rows, and says how many more there are."""
-    version = browser.run("version()") + 1
-    rooms = " / ".join(f"add-room {room}" for room in range(20, 34))
-    if ask(f"group {rooms}") != f"ok {version}":
-        fail("another operator's group is refused")
-    browser.wait(f"version() === {version}")
-    compare(browser, version, shown(), "another operator's group")
-    is_told(browser, [
-        ("document.querySelectorAll('#calls li:first-child code').length", 12),
-        ("document.querySelector('#calls li:first-child').textContent.endsWith('and 2 more rows')", True),
-    ])  # fmt: skip
 
 
 def opened(command, folder, address):
     browser = Browser(command, folder)
     browser.shows(1280, 900)
     browser.open(address)
-    browser.wait("typeof desk !== 'undefined' && desk !== null", 30)
+    browser.wait("typeof desk !== 'undefined' && desk !== null && past !== null", 30)
     browser.run(HELPERS)
     return browser
 
 
-def drive(command, folder, address, shown, ask, pictures=None):
-    """Goes through a session. `shown` tells what the bridge's `show` says, and `ask` what it answers to another
-    operator. How long each change took to the second browser."""
+def drive(command, folder, address, shown, told, ask, pictures=None):
+    """Goes through a session. `shown` tells what the bridge's `show` says, `told` what its `history N` says, and `ask`
+    what it answers to another operator. How long each change took to the second browser."""
     one, two = opened(command, folder, address), opened(command, folder, address)
     times = []
     try:
+        for browser in one, two:
+            names_what_goes(browser, told)
         version = one.run("version()")
         for what, script in STEPS:
             version += 1
@@ -252,13 +277,15 @@ def drive(command, folder, address, shown, ask, pictures=None):
             times.append(time.monotonic() - begun)
             for browser in one, two:
                 compare(browser, version, shown(), what)
+                browser.wait(f"past?.version === {version}")
+                names_what_goes(browser, told)
         look(one, version)
         adds_music(one, shown)
         look_at_sizes(one, pictures)
         undoes_music(one, shown)
         by_keys(one, shown)
-        undoes_others(one, shown, ask)
-        leaves_rows_out(one, shown, ask)
+        undoes_others(one, shown, told, ask)
+        walks(one, shown, told)
     finally:
         one.close()
         two.close()
@@ -270,6 +297,7 @@ def look(browser, version):
     is_told(browser, [
         ('document.getElementById("undo").textContent', "Undo: mute 201"),
         ('document.getElementById("redo").textContent', "Redo: give-floor 1 10"),
+        ("document.querySelectorAll('#calls li').length", 12),
         ("document.querySelectorAll('.room').length", 2),
         ("document.querySelector('[data-room=\"1\"]').querySelectorAll('.member').length", 2),
         ("document.querySelector('[data-member=\"10\"] .muted').textContent.includes('201')", True),

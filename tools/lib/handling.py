@@ -50,7 +50,9 @@ def reaches(browser, number, what):
 
 
 def last_line(browser):
-    return browser.run("desk.calls[desk.calls.length - 1].line")
+    """The last call in force, as the bridge tells it."""
+    browser.wait("past?.version === desk.version")
+    return browser.run("past.done[past.done.length - 1].line")
 
 
 def slides(browser, other):

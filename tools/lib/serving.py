@@ -80,9 +80,9 @@ class Operator:
         self.tell(line)
         return self.lines.readline().strip()
 
-    def shown(self):
-        """The lines that answer `show`, as far as they come."""
-        self.tell("show")
+    def shown(self, line="show"):
+        """The lines that answer `show` or `history`, as far as they come."""
+        self.tell(line)
         lines = []
         for line in self.lines:
             lines.append(line.strip())

@@ -11,7 +11,8 @@ from lib.make.page import PARTS, TOKEN, WEB
 from lib.models.desk import Log
 from lib.models.lines import COMMANDS, TURNS
 
-RESERVED = ("show", "quit", "stop", "names")
+RESERVED = ("show", "history", "quit", "stop", "names")
+MOST_CALLS = 256
 LONGEST_NAME, LONGEST_CHANGE = 800, 262_144
 
 
@@ -28,38 +29,35 @@ def is_names(text):
 
 
 class Standin:
-    """A desk, the calls that were made at its page, and the names."""
+    """A desk and the names."""
 
     def __init__(self, names=None, text="{}"):
-        self.log, self.calls, self.token = Log(), [], secrets.token_hex(16)
+        self.log, self.token = Log(), secrets.token_hex(16)
         self.path, self.names, self.version = names and pathlib.Path(names), text, 0
         self.lock, self.is_gone = threading.Lock(), False
 
-    def answer(self, line):
-        """What the bridge answers to a line, as an operator at its socket gets it."""
+    def call(self, line, operator=0):
+        """What the bridge answers to a line. The page is operator 0."""
         words = line.split(" ")
         if words[0] not in (*COMMANDS, *TURNS, "group"):
             return "fault 1 3 UnknownWord"
-        return self.log.call(words)
+        with self.lock:
+            return self.log.call(words, operator)
 
     def ask(self, line):
         """Another operator's call."""
-        with self.lock:
-            return self.answer(line)
-
-    def call(self, line):
-        with self.lock:
-            said = self.answer(line)
-            self.calls = [*self.calls, (line, said)][-256:]
-        return said
+        return self.call(line, 1)
 
     def shown(self):
         with self.lock:
             return self.log.desk.shown(self.log.version)
 
+    def history(self, most=MOST_CALLS):
+        with self.lock:
+            return self.log.history(most)
+
     def desk(self):
-        lines = self.shown() + [f"names {self.version}"]
-        return lines + [part for line, said in self.calls for part in (f"call {line}", f"said {said}")]
+        return self.shown() + [f"names {self.version}"]
 
     def rename(self, body):
         head, _, text = body.partition("\n")
@@ -120,11 +118,12 @@ def handler_of(standin):
                 return self.tell(200, *standin.file(self.path))
             if self.path == "/names":
                 return self.tell(200, f"names {standin.version}\n{standin.names}")
-            if self.path != "/desk":
+            if self.path not in ("/desk", "/history"):
                 return self.tell(404, "NotFound\n")
             if standin.is_gone:
                 return self.tell(502, "Gone: the bridge is not there, nothing was sent\n")
-            return self.tell(200, "".join(f"{line}\n" for line in standin.desk()))
+            lines = standin.desk() if self.path == "/desk" else standin.history()
+            return self.tell(200, "".join(f"{line}\n" for line in lines))
 
         def do_POST(self):
             body = self.rfile.read(int(self.headers["Content-Length"])).decode()
@@ -137,7 +136,7 @@ def handler_of(standin):
             if self.path == "/names":
                 return self.tell(200, standin.rename(body) + "\n")
             if body.split(" ")[0] in RESERVED:
-                return self.tell(400, "Reserved: show, quit, stop and names are not for the page\n")
+                return self.tell(400, "Reserved: show, history, quit, stop and names are not for the page\n")
             if standin.is_gone:
                 return self.tell(502, "Gone: the bridge is not there, nothing was sent\n")
             return self.tell(200, standin.call(body) + "\n")

@@ -1,14 +1,14 @@
 -- A line is handed over at most once.
 use Rattle.std.proofs.Common.{◌≡◌, ℕ, ◌≤◌, Bool, true, false, List, [], ◌∷◌, ◌++◌, length, refl, sym, subst, arith}
-use Rattle.desk_http.specs.PendingLines.{Event, queues, takes, takes_show, takes_call, takes_names, reading}
-use Rattle.desk_http.specs.PendingLines.{queued, dispatched, lines_dispatched, listed, line_if, after_take_if, has_show}
+use Rattle.desk_http.specs.PendingLines.{Event, queues, takes, takes_query, takes_call, takes_names, reading}
+use Rattle.desk_http.specs.PendingLines.{queued, dispatched, lines_dispatched, listed, line_if, after_take_if, has_query}
 use Rattle.desk_http.specs.PendingLines.{has_call, has_names_line}
 
 -- once it was handed over, nothing more is
 pub lines-dispatched : (events : List Event) → lines_dispatched events dispatched ≡ []
 lines-dispatched [] = refl
 lines-dispatched (queues line ∷ events) = lines-dispatched events
-lines-dispatched (takes_show ∷ events) = lines-dispatched events
+lines-dispatched (takes_query query ∷ events) = lines-dispatched events
 lines-dispatched (takes_call ∷ events) = lines-dispatched events
 lines-dispatched (takes_names ∷ events) = lines-dispatched events
 lines-dispatched (takes ∷ events) = lines-dispatched events
@@ -27,7 +27,8 @@ once_if false events line h = h
 pub lines-queued : (events : List Event) (line : List ℕ) → length (lines_dispatched events (queued line)) ≤ 1
 lines-queued [] line = omega arith
 lines-queued (queues other ∷ events) line = lines-queued events line
-lines-queued (takes_show ∷ events) line = once_if (has_show (queued line)) events line (lines-queued events line)
+lines-queued (takes_query query ∷ events) line =
+    once_if (has_query query (queued line)) events line (lines-queued events line)
 lines-queued (takes_call ∷ events) line = once_if (has_call (queued line)) events line (lines-queued events line)
 lines-queued (takes_names ∷ events) line = once_if (has_names_line (queued line)) events line (lines-queued events line)
 lines-queued (takes ∷ events) line = only_one events line
@@ -35,7 +36,7 @@ lines-queued (takes ∷ events) line = only_one events line
 pub lines-reading : (events : List Event) → length (lines_dispatched events reading) ≤ 1
 lines-reading [] = omega arith
 lines-reading (queues line ∷ events) = lines-queued events line
-lines-reading (takes_show ∷ events) = lines-reading events
+lines-reading (takes_query query ∷ events) = lines-reading events
 lines-reading (takes_call ∷ events) = lines-reading events
 lines-reading (takes_names ∷ events) = lines-reading events
 lines-reading (takes ∷ events) = lines-reading events

@@ -3,6 +3,7 @@ use Rattle.std.specs.Prelude.{ℕ, ◌-◌, Bool, not, ◌&&◌, if◌then◌els
 use Rattle.std.specs.Prelude.{slice_index, codes, Option, Some, None}
 use Rattle.std.specs.List.{list_any, suffix_len}
 use Rattle.std.specs.Str.{bytes_eq}
+use Rattle.desk_http.specs.Queries.{is_query}
 use Rattle.desk_http.specs.declared.bridge_request.ReplyProgress.{ReplyProgress}
 use Rattle.desk_http.specs.declared.bridge_request.ReplyProgress.TheVariants.{Partial, Complete, Busy, Malformed}
 
@@ -32,10 +33,10 @@ last_line text = drop (length text - suffix_len is_not_lf text) text
 abbrev pub has_end_line : List ℕ → Bool
 has_end_line text = nat_le 4 (length (last_line text)) && bytes_eq (take 4 (last_line text)) (codes "end ")
 
--- the reply to `show` ends with the line `end VERSION`
-abbrev pub show_progress : Option (List ℕ) → ReplyProgress
-show_progress None = Partial
-show_progress (Some text) = if has_end_line text then Complete else Partial
+-- the reply to a query ends with the line `end VERSION`
+abbrev pub query_progress : Option (List ℕ) → ReplyProgress
+query_progress None = Partial
+query_progress (Some text) = if has_end_line text then Complete else Partial
 
 -- the reply to a call is one line
 abbrev pub call_progress : List ℕ → Option (List ℕ) → ReplyProgress
@@ -51,5 +52,5 @@ abbrev pub progress_of : List ℕ → List ℕ → ReplyProgress
 progress_of line received =
     if bytes_eq received (codes "busy\n") then Busy
     else if nat_lt longest_reply (length received) then Malformed
-    else if bytes_eq line (codes "show") then show_progress (before_last_lf received)
+    else if is_query line then query_progress (before_last_lf received)
     else call_progress received (before_last_lf received)

@@ -1,11 +1,11 @@
 pub mod Lines
+pub mod Queries
 pub mod Routes
 pub mod Guarded
 pub mod Responses
 pub mod Services
 pub mod BridgeRequests
 pub mod PendingLines
-pub mod CallLog
 pub mod BridgeConnections
 pub mod Admission
 pub mod Startup

@@ -1,8 +1,10 @@
 -- A request's line until it is handed to the bridge (own).
-use Rattle.std.specs.Prelude.{ℕ, ◌≤◌, Bool, false, not, ◌&&◌, if◌then◌else◌, List, [], ◌∷◌, ◌++◌, length, codes, Option}
+use Rattle.std.specs.Prelude.{ℕ, ◌≤◌, Bool, false, not, ◌&&◌, if◌then◌else◌, List, [], ◌∷◌, ◌++◌, length, Option}
 use Rattle.std.specs.Prelude.{Some, None}
 use Rattle.std.specs.Str.{bytes_eq}
 use Rattle.desk_http.specs.Lines.{is_names_line}
+use Rattle.desk_http.specs.Queries.{query_line, is_query}
+use Rattle.desk_http.specs.declared.query.Query.{Query}
 use Rattle.desk_http.specs.declared.pending_line.PendingLine.{PendingLine}
 use Rattle.desk_http.specs.declared.pending_line.PendingLine.TheVariants as pending
 
@@ -36,15 +38,11 @@ after_take reading = reading
 after_take (queued line) = dispatched
 after_take dispatched = dispatched
 
--- the line asks for the desk
-abbrev pub is_show : List ℕ → Bool
-is_show line = bytes_eq line (codes "show")
-
--- a line that asks for the desk is queued
-abbrev pub has_show : Stage → Bool
-has_show reading = false
-has_show (queued line) = is_show line
-has_show dispatched = false
+-- the line of this query is queued
+abbrev pub has_query : Query → Stage → Bool
+has_query query reading = false
+has_query query (queued line) = bytes_eq line (query_line query)
+has_query query dispatched = false
 
 -- a line about names is queued
 abbrev pub has_names_line : Stage → Bool
@@ -52,17 +50,17 @@ has_names_line reading = false
 has_names_line (queued line) = is_names_line line
 has_names_line dispatched = false
 
--- a call is queued: the line neither asks for the desk nor is about names
+-- a call is queued: the line is no query, and not about names
 abbrev pub has_call : Stage → Bool
 has_call reading = false
-has_call (queued line) = not (is_show line) && not (is_names_line line)
+has_call (queued line) = not (is_query line) && not (is_names_line line)
 has_call dispatched = false
 
--- what happens to a request's line: it is queued, or it is taken if it asks for the desk, if it is a call, if it is
+-- what happens to a request's line: it is queued, or it is taken if it is that of a query, if it is a call, if it is
 -- about names, or whatever it is
 pub data Event : Type 0 where
   queues : List ℕ → Event
-  takes_show : Event
+  takes_query : Query → Event
   takes_call : Event
   takes_names : Event
   takes : Event
@@ -78,7 +76,7 @@ after_take_if fits stage = if fits then after_take stage else stage
 -- how far the line has come after an event
 abbrev pub after_event : Event → Stage → Stage
 after_event (queues line) stage = after_queue line stage
-after_event takes_show stage = after_take_if (has_show stage) stage
+after_event (takes_query query) stage = after_take_if (has_query query stage) stage
 after_event takes_call stage = after_take_if (has_call stage) stage
 after_event takes_names stage = after_take_if (has_names_line stage) stage
 after_event takes stage = after_take stage
@@ -91,7 +89,7 @@ listed (Some line) = line ∷ []
 -- the lines that an event hands over
 abbrev pub dispatched_by : Event → Stage → List (List ℕ)
 dispatched_by (queues line) stage = []
-dispatched_by takes_show stage = listed (line_if (has_show stage) stage)
+dispatched_by (takes_query query) stage = listed (line_if (has_query query stage) stage)
 dispatched_by takes_call stage = listed (line_if (has_call stage) stage)
 dispatched_by takes_names stage = listed (line_if (has_names_line stage) stage)
 dispatched_by takes stage = listed (line_at stage)

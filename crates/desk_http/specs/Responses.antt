@@ -60,9 +60,9 @@ abbrev pub page_response : Assets → List ℕ → PageResponse
 page_response assets token =
     record { status = 200; content_type = html_type; body = assets.html_before.now ++ token ++ assets.html_after.now }
 
--- the page's script, from its three parts
+-- the page's script, from its two parts
 abbrev pub script_of : Assets → List ℕ
-script_of assets = assets.script_lines.now ++ assets.script_past.now ++ assets.script_view.now
+script_of assets = assets.script_lines.now ++ assets.script_view.now
 
 abbrev pub script_response : Assets → PageResponse
 script_response assets =
@@ -83,11 +83,11 @@ refusal_status NoNames = 400
 abbrev pub refusal_text : PageRefusal → List ℕ
 refusal_text ForeignHost = codes "ForeignHost: this page answers to its own address alone\n"
 refusal_text ForeignOrigin = codes "ForeignOrigin: this page takes nothing from other pages\n"
-refusal_text NotFound = codes "NotFound: the paths are / and /page.js, /page.css, /desk, /call, /names\n"
+refusal_text NotFound = codes "NotFound: the paths are / and /page.js, /page.css, /desk, /history, /call, /names\n"
 refusal_text NotAllowed = codes "NotAllowed: POST to /call, GET or POST to /names, GET elsewhere\n"
 refusal_text NoToken = codes "NoToken: load the page again, its token is of an earlier run\n"
 refusal_text NoLine = codes "NoLine: a call is one line of 1 to 4096 printed octets\n"
-refusal_text Reserved = codes "Reserved: show, quit, stop and names are not for the page\n"
+refusal_text Reserved = codes "Reserved: show, history, quit, stop and names are not for the page\n"
 refusal_text NoNames =
     codes "NoNames: a change is the word names, the version that was seen, and a JSON object of texts\n"
 
@@ -106,6 +106,7 @@ direct_response site assets routes.Script = script_response assets
 direct_response site assets routes.Style =
     record { status = 200; content_type = style_type; body = assets.style.now }
 direct_response site assets routes.Desk = waiting_response
+direct_response site assets routes.History = waiting_response
 direct_response site assets routes.Call = waiting_response
 direct_response site assets routes.Names = waiting_response
 direct_response site assets routes.ChangeNames = waiting_response

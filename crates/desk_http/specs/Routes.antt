@@ -66,6 +66,7 @@ resource_at path =
     else if bytes_eq path (codes "/page.js") then Some resources.Script
     else if bytes_eq path (codes "/page.css") then Some resources.Style
     else if bytes_eq path (codes "/desk") then Some resources.Desk
+    else if bytes_eq path (codes "/history") then Some resources.History
     else if bytes_eq path (codes "/call") then Some resources.Call
     else if bytes_eq path (codes "/names") then Some resources.Names
     else None
@@ -109,6 +110,7 @@ resource_route site request (Some resources.Page) = get_only request routes.Page
 resource_route site request (Some resources.Script) = get_only request routes.Script
 resource_route site request (Some resources.Style) = get_only request routes.Style
 resource_route site request (Some resources.Desk) = get_only request routes.Desk
+resource_route site request (Some resources.History) = get_only request routes.History
 resource_route site request (Some resources.Call) = call_route site request
 resource_route site request (Some resources.Names) = names_route site request
 

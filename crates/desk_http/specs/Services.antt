@@ -8,6 +8,8 @@ use Rattle.desk_http.specs.declared.services.Router.{Router}
 use Rattle.desk_http.specs.declared.services.Responder.{Responder}
 use Rattle.desk_http.specs.declared.routing.Route.{Route}
 use Rattle.desk_http.specs.declared.routing.Route.TheVariants as routes
+use Rattle.desk_http.specs.declared.query.Query.TheVariants as queries
+use Rattle.desk_http.specs.Queries.{query_line}
 use Rattle.desk_http.specs.Routes.{route_of}
 use Rattle.desk_http.specs.Responses.{IsPageResponse, direct_response, relayed_response, mismatch_response}
 
@@ -16,7 +18,8 @@ abbrev pub bridge_line : Route → List ℕ → Option (List ℕ)
 bridge_line routes.Page body = None
 bridge_line routes.Script body = None
 bridge_line routes.Style body = None
-bridge_line routes.Desk body = Some (codes "show")
+bridge_line routes.Desk body = Some (query_line queries.Desk)
+bridge_line routes.History body = Some (query_line queries.History)
 bridge_line routes.Call body = Some body
 bridge_line routes.Names body = Some (codes "names")
 bridge_line routes.ChangeNames body = Some body

@@ -9,9 +9,10 @@ ghost use Rattle.desk_http.specs.BridgeRequests.{
   has_end_line,
   progress_of,
   call_progress,
-  show_progress,
+  query_progress,
 };
 
+use crate::query::is_query;
 use std::alloc::{AllocError, Global};
 
 /// The most octets of a reply: 16 MiB, six times the rows of a full desk.
@@ -77,9 +78,9 @@ fn has_lf(text: &[u8]) -> bool
     text.iter().any(|octet| *octet == b'\n')
 }
 
-/// The progress of a reply to `show`, which ends with the line `end VERSION`.
-fn show_progress(received: &[u8]) -> ReplyProgress
-    ensures { result ≡ show_progress (before_last_lf received.now) }
+/// The progress of a reply to a query, which ends with the line `end VERSION`.
+fn query_progress(received: &[u8]) -> ReplyProgress
+    ensures { result ≡ query_progress (before_last_lf received.now) }
 {
     match before_last_lf(received) {
         Some(text) => {
@@ -135,8 +136,8 @@ impl BridgeRequest {
             ReplyProgress::Busy
         } else if self.received.len() > MAX_REPLY {
             ReplyProgress::Malformed
-        } else if self.line.as_slice() == b"show".as_slice() {
-            show_progress(&self.received)
+        } else if is_query(&self.line) {
+            query_progress(&self.received)
         } else {
             call_progress(&self.received)
         }

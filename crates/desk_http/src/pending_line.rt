@@ -6,19 +6,21 @@ ghost use Rattle.desk_http.specs.PendingLines.{
   after_queue,
   after_take,
   after_take_if,
-  has_show,
+  has_query,
   has_call,
   has_names_line,
   line_at,
   line_if,
 };
 
+use crate::Query;
+use crate::query::is_query;
 use crate::routing::is_names_line;
 use std::mem;
 
 /// The line of a connection, on its way to the bridge. A connection has one request, and so at most one line.
 ///
-/// Call [`queue`](Self::queue) once a request is whole. Then [`take_show`](Self::take_show) or
+/// Call [`queue`](Self::queue) once a request is whole. Then [`take_query`](Self::take_query) or
 /// [`take_call`](Self::take_call) hands the line to the bridge.
 #[derive(Drop)]
 pub enum PendingLine {
@@ -40,12 +42,11 @@ impl PendingLine {
         }
     }
 
-    /// Whether the line asks for the desk.
-    fn has_show(&self) -> bool
-        ensures { result ≡ has_show (stage_of self.now) }
+    fn has_query(&self, query: Query) -> bool
+        ensures { result ≡ has_query query (stage_of self.now) }
     {
         match self {
-            PendingLine::Queued(line) => line.as_slice() == b"show".as_slice(),
+            PendingLine::Queued(line) => line.as_slice() == query.line(),
             PendingLine::Reading | PendingLine::Dispatched => false,
         }
     }
@@ -59,13 +60,12 @@ impl PendingLine {
         }
     }
 
-    /// Whether a line is queued that neither asks for the desk nor is about names.
+    /// Whether a line is queued that is no query, and not about names.
     fn has_call(&self) -> bool
         ensures { result ≡ has_call (stage_of self.now) }
     {
         match self {
-            PendingLine::Queued(line) => line.as_slice() != b"show".as_slice()
-                && !is_names_line(line),
+            PendingLine::Queued(line) => !is_query(line) && !is_names_line(line),
             PendingLine::Reading | PendingLine::Dispatched => false,
         }
     }
@@ -85,15 +85,20 @@ impl PendingLine {
         }
     }
 
-    /// Takes the line if it asks for the desk. A call stays queued.
-    pub fn take_show(&mut self) -> Option<Vec<u8>>
-        ensures line { option_map (λ v. v.items) result ≡ line_if (has_show (stage_of self.old)) (stage_of self.old) }
-        ensures stage { stage_of self.new ≡ after_take_if (has_show (stage_of self.old)) (stage_of self.old) }
+    /// Takes the line if it is that of this query. A call stays queued.
+    pub fn take_query(&mut self, query: Query) -> Option<Vec<u8>>
+        ensures line { option_map (λ v. v.items) result
+            ≡ line_if (has_query query (stage_of self.old)) (stage_of self.old) }
+        ensures stage { stage_of self.new ≡ after_take_if (has_query query (stage_of self.old)) (stage_of self.old) }
     {
-        if self.has_show() { self.take() } else { None }
+        if self.has_query(query) {
+            self.take()
+        } else {
+            None
+        }
     }
 
-    /// Takes the line if it is a call. One that asks for the desk stays queued.
+    /// Takes the line if it is a call. A query stays queued.
     pub fn take_call(&mut self) -> Option<Vec<u8>>
         ensures line { option_map (λ v. v.items) result ≡ line_if (has_call (stage_of self.old)) (stage_of self.old) }
         ensures stage { stage_of self.new ≡ after_take_if (has_call (stage_of self.old)) (stage_of self.old) }

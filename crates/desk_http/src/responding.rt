@@ -122,7 +122,6 @@ fn fill_script(response: &mut Response, assets: Assets) -> Result<(), AllocError
         content_type,
         Bytes::from_static(assets.script_lines),
     )?;
-    response.body.put_slice(assets.script_past)?;
     response.body.put_slice(assets.script_view)
 }
 
@@ -147,12 +146,13 @@ fn refusal_text(refusal: PageRefusal) -> &'static [u8]
         PageRefusal::ForeignHost => b"ForeignHost: this page answers to its own address alone\n",
         PageRefusal::ForeignOrigin => b"ForeignOrigin: this page takes nothing from other pages\n",
         PageRefusal::NotFound =>
-            b"NotFound: the paths are / and /page.js, /page.css, /desk, /call, /names\n",
+            b"NotFound: the paths are / and /page.js, /page.css, /desk, /history, /call, /names\n",
         PageRefusal::NotAllowed =>
             b"NotAllowed: POST to /call, GET or POST to /names, GET elsewhere\n",
         PageRefusal::NoToken => b"NoToken: load the page again, its token is of an earlier run\n",
         PageRefusal::NoLine => b"NoLine: a call is one line of 1 to 4096 printed octets\n",
-        PageRefusal::Reserved => b"Reserved: show, quit, stop and names are not for the page\n",
+        PageRefusal::Reserved =>
+            b"Reserved: show, history, quit, stop and names are not for the page\n",
         PageRefusal::NoNames =>
             b"NoNames: a change is the word names, the version that was seen, and a JSON object of texts\n",
     }
@@ -183,7 +183,7 @@ pub(crate) fn respond(
         Route::Refused(refusal) => {
             fill_text(response, refusal_status(refusal), refusal_text(refusal))
         }
-        Route::Desk | Route::Call | Route::Names | Route::ChangeNames => fill_text(
+        Route::Desk | Route::History | Route::Call | Route::Names | Route::ChangeNames => fill_text(
             response,
             StatusCode::SERVICE_UNAVAILABLE,
             b"Waiting: the bridge is asked\n",

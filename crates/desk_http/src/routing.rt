@@ -46,6 +46,8 @@ pub enum Route {
     Style,
     /// The rows of the desk as they are now.
     Desk,
+    /// The last calls in force, and those that can be redone.
+    History,
     /// A call: the line in its body goes to the bridge.
     Call,
     /// The names that operators gave.
@@ -71,7 +73,7 @@ pub enum PageRefusal {
     NoToken,
     /// Its body isn't 1 to 4,096 octets from 32 to 126.
     NoLine,
-    /// Its body begins with `show`, `quit`, `stop` or `names`.
+    /// Its body begins with `show`, `history`, `quit`, `stop` or `names`.
     Reserved,
     /// Its body doesn't begin with the word `names`, or has over 262,144 octets.
     NoNames,
@@ -84,6 +86,7 @@ pub(crate) enum Resource {
     Script,
     Style,
     Desk,
+    History,
     Call,
     Names,
 }
@@ -99,6 +102,8 @@ fn resource_at(path: &str) -> Option<Resource>
         Some(Resource::Style)
     } else if path == "/desk" {
         Some(Resource::Desk)
+    } else if path == "/history" {
+        Some(Resource::History)
     } else if path == "/call" {
         Some(Resource::Call)
     } else if path == "/names" {
@@ -155,6 +160,7 @@ fn is_reserved(line: &[u8]) -> bool
 {
     let word = first_word(line);
     word == b"show".as_slice()
+        || word == b"history".as_slice()
         || word == b"quit".as_slice()
         || word == b"stop".as_slice()
         || is_names_line(line)
@@ -265,6 +271,7 @@ fn resource_route(site: &Site, request: &Request<Bytes>, resource: Option<Resour
         Some(Resource::Script) => get_only(request, Route::Script),
         Some(Resource::Style) => get_only(request, Route::Style),
         Some(Resource::Desk) => get_only(request, Route::Desk),
+        Some(Resource::History) => get_only(request, Route::History),
         Some(Resource::Call) => call_route(site, request),
         Some(Resource::Names) => names_route(site, request),
         None => Route::Refused(PageRefusal::NotFound),

@@ -7,7 +7,7 @@ ghost use Rattle.desk_http.specs.Routes.{route_of};
 ghost use Rattle.desk_http.specs.Services.{bridge_line, is_line_wanted, RoutesRequest, Responds};
 
 use crate::responding::{relay, respond, respond_mismatch};
-use crate::{Assets, BridgeReply, Route, Site, route_of};
+use crate::{Assets, BridgeReply, Query, Route, Site, route_of};
 use bytes::Bytes;
 use http::Request;
 use http_server::{Response, Service};
@@ -18,7 +18,8 @@ fn bridge_line(route: Route, body: &[u8]) -> Option<&[u8]>
     ensures { option_map (λ x. x.now) result ≡ bridge_line route body.now }
 {
     match route {
-        Route::Desk => Some(b"show"),
+        Route::Desk => Some(Query::Desk.line()),
+        Route::History => Some(Query::History.line()),
         Route::Call => Some(body),
         Route::Names => Some(b"names"),
         Route::ChangeNames => Some(body),

@@ -27,10 +27,8 @@ pub struct Assets {
     pub html_before: &'static [u8],
     /// The page in HTML, after the token.
     pub html_after: &'static [u8],
-    /// The first part of the script: the desk's text, and lines for the bridge.
+    /// The first part of the script: the bridge's texts, and lines for the bridge.
     pub script_lines: &'static [u8],
-    /// The second part of the script: what undo and redo would take.
-    pub script_past: &'static [u8],
     /// The rest of the script: what is drawn, and what operators do.
     pub script_view: &'static [u8],
     /// The page's style sheet.

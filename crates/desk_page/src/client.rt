@@ -1,7 +1,7 @@
 //! A browser's connection. It has one request.
 
 use crate::server_config::ServerConfig;
-use desk_http::{ClientActivity, ClientStage, PendingLine, Responder, Router};
+use desk_http::{ClientActivity, ClientStage, PendingLine, Query, Responder, Router};
 use http_server::Connection;
 use mio::net::TcpStream;
 use std::alloc::{AllocError, Global};
@@ -120,9 +120,9 @@ impl Client {
         line
     }
 
-    /// Takes the line for the bridge if it asks for the desk.
-    pub(crate) fn dispatch_show(&mut self) -> Option<Vec<u8>> {
-        let line = self.pending.take_show();
+    /// Takes the line for the bridge if it is that of this query.
+    pub(crate) fn dispatch_query(&mut self, query: Query) -> Option<Vec<u8>> {
+        let line = self.pending.take_query(query);
         self.dispatch(line)
     }
 

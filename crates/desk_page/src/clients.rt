@@ -3,7 +3,7 @@
 use crate::client::Client;
 use crate::names_store::NamesStore;
 use crate::server_config::ServerConfig;
-use desk_http::{BridgeReply, ClientActivity, Placement, Responder, Router, Site, admit};
+use desk_http::{BridgeReply, ClientActivity, Placement, Query, Responder, Router, Site, admit};
 use mio::net::TcpStream;
 use std::alloc::{AllocError, Global};
 use std::fs::Files;
@@ -88,15 +88,15 @@ impl Clients {
         None
     }
 
-    /// Takes one line that asks for the desk, for the bridge. All who ask for the desk get the reply to it.
-    pub(crate) fn next_show(&mut self) -> Option<Vec<u8>> {
-        let mut show = None;
+    /// Takes one line of this query, for the bridge. All who ask it get the reply.
+    pub(crate) fn next_query(&mut self, query: Query) -> Option<Vec<u8>> {
+        let mut next = None;
         for client in &mut self.connected {
-            if let Some(line) = client.dispatch_show() {
-                show = Some(line);
+            if let Some(line) = client.dispatch_query(query) {
+                next = Some(line);
             }
         }
-        show
+        next
     }
 
     /// Responds to all who await a reply.

@@ -210,10 +210,10 @@ function detailPanel(model) {
 // Asking the page's program, and what clicks, keys and drags do.
 const token = () => document.querySelector('meta[name="desk-token"]').content;
 const EVERY = 250, PATIENCE = 4000, REST = 400, FEW_ROOMS = 8, FEW_MEMBERS = 4, ROW_HEIGHT = 25;
-const seenRows = new Map(), looks = new Map(), folded = new Map(), picked = new Set(), here = new Map();
+const folded = new Map(), picked = new Set(), here = new Map();
 const widened = new Set(), resting = new Map(), suggestions = new Map();
 let desk = null, shownText = null, drag = null, group = [], timer = null, asking = false, opened = null, past = null;
-let names = {}, namesVersion = -1, since = null, look = 0;
+let names = {}, namesVersion = -1, since = null, walked = null;
 
 function notice(text, good) {
   at("notice").textContent = text;
@@ -234,7 +234,8 @@ async function post(path, body) {
   return ask(path, { method: "POST", headers: { "X-Desk-Token": token() }, body });
 }
 
-// Sends a line once. Whatever comes of it, the desk is shown again; the line is never sent again by itself.
+// Sends a line once, and tells whether it is accepted. Whatever comes of it, the desk is shown again; the line is never
+// sent again by itself.
 async function call(line, words = line) {
   if (document.body.classList.contains("gone")) return;
   if (at("collect").checked && !/^(undo|redo|group) /.test(line)) return collect(line);
@@ -242,10 +243,23 @@ async function call(line, words = line) {
     const reply = await post("/call", line);
     const { good, text } = replyInWords(reply.status, (await reply.text()).trim());
     notice(`${words}: ${text}`, good);
+    return good;
   } catch {
     notice(`${words}: no answer came. Look at the desk before you send it again.`);
+    return false;
+  } finally {
+    show();
   }
-  show();
+}
+
+// Undoes or redoes calls, one after another. It stops where one isn't accepted, such as where another call came first.
+async function goes({ word, calls }) {
+  let version = past.version;
+  for (const { line } of calls) {
+    const isDone = await call(`${word} ${version}`, `${word === "undo" ? "Undo" : "Redo"}: ${worded(names, desk, line)}`);
+    if (!isDone) return;
+    version += 1;
+  }
 }
 
 // Sends commands as one call.
@@ -290,6 +304,7 @@ function setGone(is) {
 
 function gone(text) {
   since ??= new Date().toLocaleTimeString();
+  past = null;
   status(desk ? `${text} Below is the desk as it was at ${since}.` : text, true);
   setGone(true);
 }
@@ -298,23 +313,28 @@ async function take(text) {
   status("Live", false);
   since = null;
   setGone(false);
-  if (text === shownText) return;
+  if (text !== shownText && !drag) await takeDesk(text);
+  if (desk && past?.version !== desk.version) await takeHistory();
+}
+
+async function takeDesk(text) {
   const next = parseDesk(text);
-  if (drag) return;
   const isRenamed = next.named !== namesVersion && await takeNames();
   const rows = desk ? changes(desk.rows, next.rows) : [];
-  if (desk && next.version > desk.version) {
-    seenRows.set(next.version, { from: desk.version, rows });
-  } else if (desk && next.version < desk.version) {
-    seenRows.clear();
-    looks.clear();
-  }
   const rooms = desk && !isRenamed ? changedRooms(desk, next, rows) : null;
-  look = desk ? lookAfter(look, rows) : lookOf(next.rows);
-  looks.set(next.version, look);
+  // Another desk of the same version, or of an earlier one, is another bridge's.
+  if (desk && (next.version < desk.version || (next.version === desk.version && rows.length > 0))) past = null;
   shownText = text;
   desk = next;
   render(rooms, rows.some((row) => /^. (room|member|source|slot) /.test(row)));
+}
+
+// The history, as the bridge tells it. Where it fails, it is asked for with the next desk.
+async function takeHistory() {
+  const reply = await ask("/history");
+  if (!reply.ok) return;
+  past = parseHistory(await reply.text());
+  renderHistory();
 }
 
 // Names, as the page's program keeps them.
@@ -376,6 +396,8 @@ const acts = {
     if (opened !== null) at("detail").scrollIntoView({ block: "nearest" });
   },
   close: () => { opened = null; render(); },
+  walk: (of) => { walked = walked === Number(of) ? null : Number(of); renderHistory(); },
+  go: (of) => { const way = past && wayTo(past, Number(of)); if (way) goes(way); },
   fold: (of) => { folded.set(Number(of), !isFolded(Number(of))); render(); },
   toggle: (of) => callAll(toggled(desk, [Number(of)]), `mute of member ${of}`),
   "mute-others": (of) => callAll(othersMuted(desk, Number(of)), `mute all but member ${of}`),
@@ -427,21 +449,22 @@ function setHere(member) {
 }
 
 // Drawing the desk, and what keys, clicks and drags do.
-function callItem({ model: entry }) {
-  if (entry.foreign) {
-    const rows = entry.rows, boxes = rows.slice(0, MOST).map((row) => el("div", {}, code(row)));
-    return el("li", {}, soft(foreignWords(entry)), ...boxes, rows.length > MOST ? soft(moreWords(rows)) : null);
-  }
-  const kind = entry.undone ? "undone" : entry.number === null ? "refused" : "";
-  const became = entry.undone ? " undone" : entry.undone === null ? " may be undone" : "";
-  return el("li", { class: kind }, code(entry.line), " ", el("code", { class: "said" }, entry.said), became);
+function callItem({ model: { number, operator, text, isUndone, isWalked, isOnWay, way } }) {
+  return el("li", { class: `${isUndone ? "undone" : ""}${isOnWay ? " way" : ""}` },
+    el("button", { type: "button", class: "call", "data-act": "walk", "data-of": number, "data-key": `walk ${number}`,
+      "aria-expanded": String(isWalked) }, code(text)),
+    soft(`${isUndone ? "undone, " : ""}version ${number}, operator ${operator}`),
+    isWalked ? el("div", { class: "row" }, el("span", { class: "soft grow" }, way.text),
+      way.count ? does(way.label, "go", number, `to the desk behind version ${number}`) : "") : "");
 }
 
-function button(id, word, entry, line) {
-  at(id).textContent = named(word, entry);
-  at(id).title = `${named(word, entry)} (${line})`;
-  at(id).disabled = !entry;
-  at(id).onclick = () => call(line, named(word, entry));
+// Undo and Redo name the call that they take. Their line has the version at which that is so.
+function button(id, word, top) {
+  const text = top ? `${word}: ${worded(names, desk, top.line)}` : word, line = past ? `${id} ${past.version}` : "";
+  if (at(id).textContent !== text) at(id).textContent = text;
+  at(id).title = top ? `${text} (${line})` : past ? `there is nothing to ${id}` : "";
+  at(id).disabled = !top;
+  at(id).onclick = () => call(line, text);
 }
 // Fills a choice again, and keeps what was picked.
 function options(form, field, values) {
@@ -526,13 +549,20 @@ function renderDetail() {
   morph(at("detail"), detailPanel(detailOf(member)));
 }
 
-function renderCalls() {
-  past = history(desk.calls, desk.version, looks);
-  button("undo", "Undo", past.undo, lines.undo(desk.version));
-  button("redo", "Redo", past.redo, lines.redo(desk.version));
-  const items = past.entries.map((entry, place) => ({ key: place,
-    model: entry.foreign ? { ...entry, rows: rowsSeen(seenRows, entry) } : entry }));
-  drawList(at("calls"), items.reverse(), callItem);
+function renderHistory() {
+  const last = (calls) => calls?.[calls.length - 1];
+  button("undo", "Undo", last(past?.done));
+  button("redo", "Redo", last(past?.undone));
+  const way = past && walked !== null ? wayTo(past, walked) : null, passed = way?.calls.map((one) => one.number) ?? [];
+  const item = (one, isUndone) => ({ key: one.number, model: { number: one.number, operator: one.operator, isUndone,
+    text: worded(names, desk, one.line), isWalked: one.number === walked && way !== null,
+    isOnWay: passed.includes(one.number), way: one.number === walked && way ? wayOf(way) : null } });
+  const undone = (past?.undone ?? []).map((one) => item(one, true));
+  drawList(at("calls"), [...undone, ...(past?.done ?? []).map((one) => item(one, false)).reverse()], callItem);
+}
+function wayOf(way) {
+  const count = way.calls.length, word = way.word === "undo" ? "Undo" : "Redo";
+  return { text: wayWords(way, count === 0), count, label: count > 1 ? `${word} these ${count}` : word };
 }
 
 function renderForms() {
@@ -552,7 +582,7 @@ function render(changed = null, hasForms = true) {
   renderRooms(changed);
   renderSelected();
   renderDetail();
-  renderCalls();
+  renderHistory();
   if (!changed || hasForms) renderForms();
   const title = `Desk, version ${desk.version}`;
   if (document.title !== title) document.title = title;

@@ -3,9 +3,10 @@
 use crate::bridge_client::BridgeClient;
 use crate::clients::Clients;
 use crate::names_store::NamesStore;
+use crate::query_timer::QueryTimer;
 use crate::server_config::ServerConfig;
 use crate::setup::{router_at, server_config};
-use desk_http::{Addresses, BridgeReply, CallLog, Responder, Router};
+use desk_http::{Addresses, BridgeReply, Query, Responder, Router};
 use mio::net::{TcpListener, TcpStream};
 use mio::{Events, Interest, Poll, Registry, Token};
 use std::alloc::{AllocError, AllocGlobal, Global};
@@ -23,8 +24,6 @@ const LISTENER: Token = Token(0);
 const BRIDGE: Token = Token(1);
 /// The token of the first browser's connection.
 const FIRST_CLIENT: usize = 2;
-/// How many milliseconds are between two requests for the desk at least. All browsers share a reply.
-const SHOW_INTERVAL: u64 = 100;
 /// How many milliseconds a round waits at most.
 const MAX_WAIT: u64 = 25;
 /// How many of the system's events are taken at a time.
@@ -103,12 +102,11 @@ pub(crate) struct Server {
     bridge_address: SocketAddr,
     begun: Instant,
     router: Router,
-    call_log: CallLog,
     store: NamesStore,
     clients: Clients,
     bridge: BridgeClient,
-    /// When the next request for the desk may begin.
-    next_show: u64,
+    desk: QueryTimer,
+    history: QueryTimer,
     /// The buffer of all reads.
     chunk: Vec<u8>,
 }
@@ -133,11 +131,11 @@ impl Server {
             bridge_address: SocketAddr::V4(addresses.bridge),
             begun,
             router,
-            call_log: CallLog::new(alloc),
             store,
             clients: Clients::new(alloc, FIRST_CLIENT),
             bridge: BridgeClient::new(alloc),
-            next_show: 0,
+            desk: QueryTimer::new(Query::Desk),
+            history: QueryTimer::new(Query::History),
             chunk: Vec::new(alloc),
         };
         let served = server.run(rt, address);
@@ -223,17 +221,25 @@ impl Server {
         Ok(())
     }
 
-    /// The next line for the bridge: the oldest connection's call, or else one that asks for the desk.
+    /// The line of a query that some browser asks, if it may be asked now.
+    fn next_query(clients: &mut Clients, timer: &mut QueryTimer, now: u64) -> Option<Vec<u8>> {
+        if !timer.is_due(now) {
+            return None;
+        }
+        let line = clients.next_query(timer.query)?;
+        timer.note_asked(now);
+        Some(line)
+    }
+
+    /// The next line for the bridge: the oldest connection's call, or else a query.
     fn next_line(&mut self, now: u64) -> Option<Vec<u8>> {
         if let Some(line) = self.clients.next_call() {
             return Some(line);
         }
-        if now < self.next_show {
-            return None;
+        if let Some(line) = Self::next_query(&mut self.clients, &mut self.desk, now) {
+            return Some(line);
         }
-        let line = self.clients.next_show()?;
-        self.next_show = now.saturating_add(SHOW_INTERVAL);
-        Some(line)
+        Self::next_query(&mut self.clients, &mut self.history, now)
     }
 
     fn begin_request<R: Net>(&mut self, rt: &R, now: u64) -> io::Result<()> {
@@ -257,11 +263,11 @@ impl Server {
             .complete_queued(self.config, &self.router.site, reply, now);
     }
 
-    /// Records a reply, and responds to those who await it. Where the bridge gave none, those whose lines are queued
-    /// get a response at once, too.
+    /// Responds by a reply to those who await it. Where the bridge gave none, those whose lines are queued get a
+    /// response at once, too.
     fn finish_request(&mut self, line: Vec<u8>, reply: BridgeReply, now: u64) -> io::Result<()> {
         let mut reply = reply;
-        self.record(&line, &mut reply)?;
+        self.note_reply(&line, &mut reply)?;
         self.complete(&line, &reply, now);
         match reply {
             BridgeReply::Text(_) => {}
@@ -271,26 +277,16 @@ impl Server {
         Ok(())
     }
 
-    fn log_call(&mut self, line: &[u8], reply: &[u8]) -> Result<(), AllocError> {
-        let line = Vec::from_slice(self.config.alloc, line)?;
-        let reply = Vec::from_slice(self.config.alloc, reply)?;
-        self.call_log.push(line, reply)
-    }
-
-    /// Logs a call with its reply. To the desk it adds the version of the names and the logged calls.
-    fn record(&mut self, line: &[u8], reply: &mut BridgeReply) -> Result<(), AllocError> {
-        let is_show = line == b"show".as_slice();
-        match reply {
-            BridgeReply::Text(text) if is_show => {
+    /// Adds the version of the names to the desk. After a call the desk and the history are asked for at once.
+    fn note_reply(&mut self, line: &[u8], reply: &mut BridgeReply) -> Result<(), AllocError> {
+        if line == Query::Desk.line() {
+            if let BridgeReply::Text(text) = reply {
                 self.store.names.append_heading(self.config.alloc, text)?;
-                self.call_log.append_to(text)
             }
-            BridgeReply::Text(text) => {
-                self.next_show = 0;
-                self.log_call(line, text)
-            }
-            BridgeReply::Lost if !is_show => self.log_call(line, b"lost\n"),
-            BridgeReply::Busy | BridgeReply::Gone | BridgeReply::Lost => Ok(()),
+        } else if line != Query::History.line() {
+            self.desk.reset();
+            self.history.reset();
         }
+        Ok(())
     }
 }

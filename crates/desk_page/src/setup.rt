@@ -2,7 +2,6 @@
 
 use crate::markup::{HTML_AFTER, HTML_BEFORE};
 use crate::script_lines::LINES;
-use crate::script_past::PAST;
 use crate::script_view::VIEW;
 use crate::server_config::ServerConfig;
 use crate::style::STYLE;
@@ -25,7 +24,6 @@ fn assets() -> Assets {
         html_before: HTML_BEFORE,
         html_after: HTML_AFTER,
         script_lines: LINES,
-        script_past: PAST,
         script_view: VIEW,
         style: STYLE,
     }

@@ -90,8 +90,9 @@ input[type="range"] { width: 8rem; padding: 0; }
 #calls { list-style: none; margin: 0; padding: 0; max-height: 26rem; overflow: auto; }
 #calls li, #collected li { padding: .25rem 0; border-top: 1px solid var(--line); overflow-wrap: anywhere; }
 code { font: .92em ui-monospace, "DejaVu Sans Mono", monospace; }
-.undone code:first-child { text-decoration: line-through; color: var(--soft); }
-.refused .said { color: var(--bad); }
+.undone code { text-decoration: line-through; color: var(--soft); }
+#calls .way { background: var(--odd); }
+button.call { display: block; border: 0; background: none; padding: 0; text-align: left; width: 100%; }
 .hint { color: var(--soft); font-size: .88em; margin: .3rem 0; }
 .keys { display: grid; grid-template-columns: auto 1fr; gap: .1rem .8rem; margin: 0; font-size: .88em; }
 .keys dd { margin: 0; color: var(--soft); }

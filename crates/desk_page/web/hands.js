@@ -1,19 +1,20 @@
 // Drawing the desk, and what keys, clicks and drags do.
-function callItem({ model: entry }) {
-  if (entry.foreign) {
-    const rows = entry.rows, boxes = rows.slice(0, MOST).map((row) => el("div", {}, code(row)));
-    return el("li", {}, soft(foreignWords(entry)), ...boxes, rows.length > MOST ? soft(moreWords(rows)) : null);
-  }
-  const kind = entry.undone ? "undone" : entry.number === null ? "refused" : "";
-  const became = entry.undone ? " undone" : entry.undone === null ? " may be undone" : "";
-  return el("li", { class: kind }, code(entry.line), " ", el("code", { class: "said" }, entry.said), became);
+function callItem({ model: { number, operator, text, isUndone, isWalked, isOnWay, way } }) {
+  return el("li", { class: `${isUndone ? "undone" : ""}${isOnWay ? " way" : ""}` },
+    el("button", { type: "button", class: "call", "data-act": "walk", "data-of": number, "data-key": `walk ${number}`,
+      "aria-expanded": String(isWalked) }, code(text)),
+    soft(`${isUndone ? "undone, " : ""}version ${number}, operator ${operator}`),
+    isWalked ? el("div", { class: "row" }, el("span", { class: "soft grow" }, way.text),
+      way.count ? does(way.label, "go", number, `to the desk behind version ${number}`) : "") : "");
 }
 
-function button(id, word, entry, line) {
-  at(id).textContent = named(word, entry);
-  at(id).title = `${named(word, entry)} (${line})`;
-  at(id).disabled = !entry;
-  at(id).onclick = () => call(line, named(word, entry));
+// Undo and Redo name the call that they take. Their line has the version at which that is so.
+function button(id, word, top) {
+  const text = top ? `${word}: ${worded(names, desk, top.line)}` : word, line = past ? `${id} ${past.version}` : "";
+  if (at(id).textContent !== text) at(id).textContent = text;
+  at(id).title = top ? `${text} (${line})` : past ? `there is nothing to ${id}` : "";
+  at(id).disabled = !top;
+  at(id).onclick = () => call(line, text);
 }
 // Fills a choice again, and keeps what was picked.
 function options(form, field, values) {
@@ -98,13 +99,20 @@ function renderDetail() {
   morph(at("detail"), detailPanel(detailOf(member)));
 }
 
-function renderCalls() {
-  past = history(desk.calls, desk.version, looks);
-  button("undo", "Undo", past.undo, lines.undo(desk.version));
-  button("redo", "Redo", past.redo, lines.redo(desk.version));
-  const items = past.entries.map((entry, place) => ({ key: place,
-    model: entry.foreign ? { ...entry, rows: rowsSeen(seenRows, entry) } : entry }));
-  drawList(at("calls"), items.reverse(), callItem);
+function renderHistory() {
+  const last = (calls) => calls?.[calls.length - 1];
+  button("undo", "Undo", last(past?.done));
+  button("redo", "Redo", last(past?.undone));
+  const way = past && walked !== null ? wayTo(past, walked) : null, passed = way?.calls.map((one) => one.number) ?? [];
+  const item = (one, isUndone) => ({ key: one.number, model: { number: one.number, operator: one.operator, isUndone,
+    text: worded(names, desk, one.line), isWalked: one.number === walked && way !== null,
+    isOnWay: passed.includes(one.number), way: one.number === walked && way ? wayOf(way) : null } });
+  const undone = (past?.undone ?? []).map((one) => item(one, true));
+  drawList(at("calls"), [...undone, ...(past?.done ?? []).map((one) => item(one, false)).reverse()], callItem);
+}
+function wayOf(way) {
+  const count = way.calls.length, word = way.word === "undo" ? "Undo" : "Redo";
+  return { text: wayWords(way, count === 0), count, label: count > 1 ? `${word} these ${count}` : word };
 }
 
 function renderForms() {
@@ -124,7 +132,7 @@ function render(changed = null, hasForms = true) {
   renderRooms(changed);
   renderSelected();
   renderDetail();
-  renderCalls();
+  renderHistory();
   if (!changed || hasForms) renderForms();
   const title = `Desk, version ${desk.version}`;
   if (document.title !== title) document.title = title;

@@ -4,20 +4,14 @@
 // The rates of rooms, in Hz.
 const SPEECH = 8000, MUSIC = 44100;
 
-// The desk as it stands in the text of /desk: the lines of `show`, and behind `end VERSION` the calls of this page.
+// The desk as it stands in the text of /desk: the lines of `show`, and behind `end VERSION` the version of the names.
 function parseDesk(text) {
   const desk = { rooms: [], rates: new Map(), members: [], sources: [], slots: [], subs: new Map(), mutes: new Set(),
-    gains: new Map(), pins: new Map(), floors: new Map(), version: 0, rows: [], calls: [], named: 0 };
-  let behind = false;
+    gains: new Map(), pins: new Map(), floors: new Map(), version: 0, rows: [], named: 0 };
   for (const line of text.split("\n")) {
-    if (behind) {
-      if (line.startsWith("call ")) desk.calls.push({ line: line.slice(5), said: "" });
-      else if (line.startsWith("said ")) desk.calls[desk.calls.length - 1].said = line.slice(5);
-      else if (line.startsWith("names ")) desk.named = Number(line.slice(6));
-    } else if (line.startsWith("end ")) {
-      desk.version = Number(line.slice(4));
-      behind = true;
-    } else if (line !== "") {
+    if (line.startsWith("end ")) desk.version = Number(line.slice(4));
+    else if (line.startsWith("names ")) desk.named = Number(line.slice(6));
+    else if (line !== "") {
       desk.rows.push(line);
       addRow(desk, rowOf(line));
     }
@@ -247,21 +241,6 @@ function nameRefusal(status, text) {
 function noDeskInWords(text) {
   if (text.startsWith("Busy")) return `All seats of the bridge are taken. ${NO_SEAT}`;
   return "The bridge is gone. Trying again.";
-}
-
-// A number for what a desk looks like. Where it differs the rows do. It is a sum, so that the changes alone tell it.
-function lookOf(rows) {
-  let sum = 0;
-  for (const row of rows) {
-    let look = 7;
-    for (let place = 0; place < row.length; place += 1) look = (Math.imul(look, 31) + row.charCodeAt(place)) | 0;
-    sum = (sum + look) | 0;
-  }
-  return sum;
-}
-function lookAfter(look, rows) {
-  const of = (sign) => lookOf(rows.filter((row) => row.startsWith(sign)).map((row) => row.slice(2)));
-  return (look + of("+ ") - of("- ")) | 0;
 }
 
 // The rooms of which something changed between two desks: those of the rows that came or went.

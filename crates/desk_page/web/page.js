@@ -1,10 +1,10 @@
 // Asking the page's program, and what clicks, keys and drags do.
 const token = () => document.querySelector('meta[name="desk-token"]').content;
 const EVERY = 250, PATIENCE = 4000, REST = 400, FEW_ROOMS = 8, FEW_MEMBERS = 4, ROW_HEIGHT = 25;
-const seenRows = new Map(), looks = new Map(), folded = new Map(), picked = new Set(), here = new Map();
+const folded = new Map(), picked = new Set(), here = new Map();
 const widened = new Set(), resting = new Map(), suggestions = new Map();
 let desk = null, shownText = null, drag = null, group = [], timer = null, asking = false, opened = null, past = null;
-let names = {}, namesVersion = -1, since = null, look = 0;
+let names = {}, namesVersion = -1, since = null, walked = null;
 
 function notice(text, good) {
   at("notice").textContent = text;
@@ -25,7 +25,8 @@ async function post(path, body) {
   return ask(path, { method: "POST", headers: { "X-Desk-Token": token() }, body });
 }
 
-// Sends a line once. Whatever comes of it, the desk is shown again; the line is never sent again by itself.
+// Sends a line once, and tells whether it is accepted. Whatever comes of it, the desk is shown again; the line is never
+// sent again by itself.
 async function call(line, words = line) {
   if (document.body.classList.contains("gone")) return;
   if (at("collect").checked && !/^(undo|redo|group) /.test(line)) return collect(line);
@@ -33,10 +34,23 @@ async function call(line, words = line) {
     const reply = await post("/call", line);
     const { good, text } = replyInWords(reply.status, (await reply.text()).trim());
     notice(`${words}: ${text}`, good);
+    return good;
   } catch {
     notice(`${words}: no answer came. Look at the desk before you send it again.`);
+    return false;
+  } finally {
+    show();
   }
-  show();
+}
+
+// Undoes or redoes calls, one after another. It stops where one isn't accepted, such as where another call came first.
+async function goes({ word, calls }) {
+  let version = past.version;
+  for (const { line } of calls) {
+    const isDone = await call(`${word} ${version}`, `${word === "undo" ? "Undo" : "Redo"}: ${worded(names, desk, line)}`);
+    if (!isDone) return;
+    version += 1;
+  }
 }
 
 // Sends commands as one call.
@@ -81,6 +95,7 @@ function setGone(is) {
 
 function gone(text) {
   since ??= new Date().toLocaleTimeString();
+  past = null;
   status(desk ? `${text} Below is the desk as it was at ${since}.` : text, true);
   setGone(true);
 }
@@ -89,23 +104,28 @@ async function take(text) {
   status("Live", false);
   since = null;
   setGone(false);
-  if (text === shownText) return;
+  if (text !== shownText && !drag) await takeDesk(text);
+  if (desk && past?.version !== desk.version) await takeHistory();
+}
+
+async function takeDesk(text) {
   const next = parseDesk(text);
-  if (drag) return;
   const isRenamed = next.named !== namesVersion && await takeNames();
   const rows = desk ? changes(desk.rows, next.rows) : [];
-  if (desk && next.version > desk.version) {
-    seenRows.set(next.version, { from: desk.version, rows });
-  } else if (desk && next.version < desk.version) {
-    seenRows.clear();
-    looks.clear();
-  }
   const rooms = desk && !isRenamed ? changedRooms(desk, next, rows) : null;
-  look = desk ? lookAfter(look, rows) : lookOf(next.rows);
-  looks.set(next.version, look);
+  // Another desk of the same version, or of an earlier one, is another bridge's.
+  if (desk && (next.version < desk.version || (next.version === desk.version && rows.length > 0))) past = null;
   shownText = text;
   desk = next;
   render(rooms, rows.some((row) => /^. (room|member|source|slot) /.test(row)));
+}
+
+// The history, as the bridge tells it. Where it fails, it is asked for with the next desk.
+async function takeHistory() {
+  const reply = await ask("/history");
+  if (!reply.ok) return;
+  past = parseHistory(await reply.text());
+  renderHistory();
 }
 
 // Names, as the page's program keeps them.
@@ -167,6 +187,8 @@ const acts = {
     if (opened !== null) at("detail").scrollIntoView({ block: "nearest" });
   },
   close: () => { opened = null; render(); },
+  walk: (of) => { walked = walked === Number(of) ? null : Number(of); renderHistory(); },
+  go: (of) => { const way = past && wayTo(past, Number(of)); if (way) goes(way); },
   fold: (of) => { folded.set(Number(of), !isFolded(Number(of))); render(); },
   toggle: (of) => callAll(toggled(desk, [Number(of)]), `mute of member ${of}`),
   "mute-others": (of) => callAll(othersMuted(desk, Number(of)), `mute all but member ${of}`),

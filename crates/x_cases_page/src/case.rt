@@ -4,8 +4,8 @@ use crate::admissions::placement_is;
 use crate::connections::reply_is;
 use crate::request::{octets_of, request_of, spoken};
 use desk_http::{
-    Assets, BridgeReply, BridgeRequest, CallLog, ReplyProgress, Responder, Router, Site,
-    loopback_addresses, request_limits,
+    Assets, BridgeReply, BridgeRequest, ReplyProgress, Responder, Router, Site, loopback_addresses,
+    request_limits,
 };
 use http_server::{Config, Connection, Service};
 use std::alloc::{AllocError, Global};
@@ -29,7 +29,6 @@ const ASSETS: Assets = Assets {
     html_before: b"<before ",
     html_after: b" after>",
     script_lines: b"lines ",
-    script_past: b"past ",
     script_view: b"view",
     style: b"style",
 };
@@ -126,28 +125,6 @@ fn feed_all(
         progress = feed(alloc, request, piece)?;
     }
     Some(progress)
-}
-
-/// Adds so many calls: `line 1` with the reply `ok 1`, and so on.
-fn add_calls(alloc: Global, log: &mut CallLog, count: u32) -> Option<()> {
-    for number in 1..=count {
-        let line = format!(in alloc; "line {number}").ok()?.into_bytes();
-        let reply = format!(in alloc; "ok {number}\n").ok()?.into_bytes();
-        log.push(line, reply).ok()?;
-    }
-    Some(())
-}
-
-/// Whether the text of so many calls has so many lines, and begins with this one: `LINES FIRST`.
-fn logs(alloc: Global, count: &str, wanted: &str) -> Option<bool> {
-    let (lines, first) = wanted.split_once(" ")?;
-    let lines: usize = lines.parse().ok()?;
-    let mut log = CallLog::new(alloc);
-    let mut text = Vec::new(alloc);
-    add_calls(alloc, &mut log, count.parse().ok()?)?;
-    log.append_to(&mut text).ok()?;
-    let text = str::from_utf8(&text).ok()?;
-    Some(text.lines().count() == lines && text.lines().next()? == first)
 }
 
 /// Whether a page may start with these addresses: `BRIDGE LISTEN`.
@@ -254,7 +231,6 @@ impl Page {
         match verb {
             "route" => self.routes(7080, text, wanted),
             "route-80" => self.routes(80, text, wanted),
-            "log" => logs(self.alloc, text, wanted),
             "start" => may_start(text, wanted),
             "connection" => reply_is(self.alloc, text, wanted),
             "admit" => placement_is(self.alloc, text, wanted),

@@ -15,7 +15,6 @@
 //! - `admit MS ; COUNT STAGE ACCEPTED ACTIVE ; .. > free`, `refused` or `evict N`: a connection comes where these are,
 //!   each of them `idle`, `sending`, `waiting` or `responding`. It gets a free place, none, or the place of the
 //!   connection with this number, from 0.
-//! - `log COUNT > LINES FIRST`: so many calls are logged. The log's text has so many lines, and this is the first.
 //! - `start BRIDGE LISTEN > yes`, or `no`: the page may start with these addresses.
 //!
 //! A REQUEST is `METHOD PATH FIELD=VALUE ..`, and after ` | ` its body. In all texts `\n` is an LF, and `TEXT*N` is a

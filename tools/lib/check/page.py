@@ -142,13 +142,19 @@ class Page:
         return status, text.strip()
 
     def desk(self):
-        """The lines of `show`, and the calls behind them."""
-        status, _, text = self.ask("GET", "/desk")
-        check(status == 200, f"the desk's status is {status}: {text}")
-        lines = text.splitlines()
-        end = next(at for at, line in enumerate(lines) if line.startswith("end "))
-        check(lines[end + 1].startswith("names "), f"behind the desk stands {lines[end + 1]}")
-        return lines[: end + 1], lines[end + 2 :]
+        """The lines of `show`."""
+        lines = self.lines_of("/desk")
+        check(lines[-1].startswith("names "), f"behind the desk stands {lines[-1]}")
+        return lines[:-1]
+
+    def history(self):
+        """The lines of `history 256`."""
+        return self.lines_of("/history")
+
+    def lines_of(self, path):
+        status, _, text = self.ask("GET", path)
+        check(status == 200, f"the status of {path} is {status}: {text}")
+        return text.splitlines()
 
     def names(self):
         """The version of the names, and their text."""
@@ -163,11 +169,19 @@ class Page:
         return status, text.strip()
 
 
-def shown(operator):
-    """The lines of `show`, as an operator gets them."""
-    lines = operator.shown()
-    check(lines and lines[-1].startswith("end "), f"the bridge answers `show` by {lines}")
+def shown(operator, line="show"):
+    """The lines of `show` or `history`, as an operator gets them."""
+    lines = operator.shown(line)
+    check(lines and lines[-1].startswith("end "), f"the bridge answers `{line}` by {lines}")
     return lines
+
+
+def is_as_told(page, operator, line):
+    """The page has the desk and the history of the bridge, after a line."""
+    check(page.desk() == shown(operator), f"after `{line}` the page shows another desk than the bridge")
+    past = page.history()
+    check(past == shown(operator, "history 256"), f"after `{line}` the page has another history than the bridge: {past}")
+    return past
 
 
 def seated(bridge, port):
@@ -188,18 +202,19 @@ def go_through(page, operator):
     for line in CALLS:
         version += 1
         check(page.call(line) == (200, f"ok {version}"), f"`{line}` is not answered `ok {version}`")
-        check(page.desk()[0] == shown(operator), f"after `{line}` the page shows another desk than the bridge")
-    check("room 3 44100" in page.desk()[0], "the page doesn't show the rate of a music room")
+        is_as_told(page, operator, line)
+    check("room 3 44100" in page.desk(), "the page doesn't show the rate of a music room")
     for line, refusal in REFUSED:
         told = page.call(line)
         check(told == (200, f"no {version} {refusal}"), f"`{line}` is told as {told}")
     for word in "undo", "undo", "undo", "redo":
         version += 1
         check(page.call(f"{word} {version - 1}") == (200, f"ok {version}"), f"`{word}` is refused")
-        check(page.desk()[0] == shown(operator), f"after `{word}` the page shows another desk than the bridge")
-    calls = page.desk()[1]
-    count = 2 * (version + len(REFUSED))
-    check(len(calls) == count and calls[:2] == ["call add-room 1", "said ok 1"], f"the page has not all calls: {calls}")
+        past = is_as_told(page, operator, word)
+    numbers = [line.split()[0] for line in past]
+    accepted = [str(number) for number in range(1, len(CALLS) + 1)]
+    wanted = [*accepted[:-2], "undone", accepted[-1], accepted[-2], "end"]
+    check(numbers == wanted and past[0].endswith(" add-room 1 8000"), f"the page's history is {past}")
     return version
 
 
@@ -208,7 +223,7 @@ def sees_others(page, operator, version):
     told = operator.ask("add-room 7")
     check(told == f"ok {version + 1}", f"the other operator is told {told}")
     end = time.monotonic() + 0.5
-    while f"end {version + 1}" not in page.desk()[0]:
+    while f"end {version + 1}" not in page.desk():
         check(time.monotonic() < end, "the page doesn't see another operator's change within half a second")
         time.sleep(0.05)
     check(
@@ -235,6 +250,8 @@ def refuses(page, operator, version):
         (400, "Reserved", "POST", "/call", b"stop", good),
         (400, "Reserved", "POST", "/call", b"quit", good),
         (400, "Reserved", "POST", "/call", b"show", good),
+        (400, "Reserved", "POST", "/call", b"history 256", good),
+        (405, "NotAllowed", "POST", "/history", b"", good),
         (400, "NoLine", "POST", "/call", b"a" * 4097, good),
         (400, "Reserved", "POST", "/call", b"names 0", good),
         (403, "NoToken", "POST", "/names", b"names 0\n{}", {"Origin": own}),
@@ -342,11 +359,12 @@ def stands_silence(page, bridge, version):
     finally:
         signal_all(bridge, signal.SIGCONT)
     time.sleep(0.5)
-    rows, calls = page.desk()
+    rows, past = page.desk(), page.history()
     check(
         rows.count("room 8") <= 1 and rows[-1] in (f"end {version}", f"end {version + 1}"), "a lost call was sent again"
     )
-    check(calls[-2:] == ["call add-room 8", "said lost"], f"the lost call isn't told: {calls[-2:]}")
+    is_told = any(line.endswith(" add-room 8 8000") for line in past)
+    check(is_told == ("room 8" in rows), f"the history doesn't tell whether a lost call was accepted: {past[-3:]}")
 
 
 def finds_seats(page, bridge, port):
@@ -373,7 +391,7 @@ def find_commands(browser):
 
 def try_functions():
     """The functions of the page that choose a click's line, by themselves."""
-    script = "".join((WEB / part).read_text() for part in ("lines.js", "overview.js", "past.js"))
+    script = "".join((WEB / part).read_text() for part in ("lines.js", "overview.js", "history.js"))
     with tempfile.TemporaryDirectory() as folder:
         path = pathlib.Path(folder) / "lines.js"
         path.write_text(script)
@@ -386,7 +404,8 @@ def try_functions():
 def browse(args, folder, page, operator):
     """Two browsers go through a call."""
     address = f"http://127.0.0.1:{page.port}/"
-    times = drive(args.browser, folder, address, lambda: shown(operator), operator.ask, args.pictures)
+    told = lambda most: shown(operator, f"history {most}")  # noqa: E731
+    times = drive(args.browser, folder, address, lambda: shown(operator), told, operator.ask, args.pictures)
     check(max(times) <= 0.5, f"a change took {max(times):.2f} s to the second browser")
     print(f"a second browser sees a step after {statistics.median(times):.2f} s, and {max(times):.2f} s at most")
 
@@ -437,7 +456,7 @@ def by_model(args, folder):
     page.load()
     keeps_names(page, names)
     address = f"http://127.0.0.1:{page.port}/"
-    drive(args.browser, folder, address, one.shown, one.ask, args.pictures)
+    drive(args.browser, folder, address, one.shown, one.history, one.ask, args.pictures)
     clean(one.ask, one.shown)
 
     def sets(is_gone):

@@ -22,10 +22,7 @@ gain 11 201 128
 pin 1 101
 floor 1 10
 end 17
-call mute 202
-said ok 17
-call mute 202
-said no 17 10 Already
+names 3
 `;
 const desk = page.parseDesk(text);
 const slot = (ssrc) => desk.slots.find((s) => s.ssrc === ssrc);
@@ -40,7 +37,7 @@ same(desk.rooms, [1, 2]);
 same(desk.members[1], { place: 1, member: 11, room: 1, address: "127.0.0.1:6002", codec: "l16", mix: 9002 });
 same(desk.rows.length, 18);
 same([1, 2].map((room) => page.isMusic(desk, room)), [false, false]);
-same(desk.calls, [{ line: "mute 202", said: "ok 17" }, { line: "mute 202", said: "no 17 10 Already" }]);
+same(desk.named, 3);
 
 // A slot shows its subscription, else at index 0 the pin, else the floor holder's least video source.
 same(page.seen(desk, slot(502)), { source: 102, by: "sub", why: "" });
@@ -107,168 +104,8 @@ same(page.replyInWords(413, "").text, "a call is one line of up to 4096 octets")
 same(page.replyInWords(400, "NoLine: a call"), { good: false, text: "NoLine: a call" });
 same(["Busy: all", "Gone: it"].map(page.noDeskInWords).map((words) => words.slice(0, 9)), ["All seats", "The bridg"]);
 
-// Undo and redo name what they take: the last command in force, and the last one that was undone.
-const calls = (...pairs) => pairs.map(([line, said]) => ({ line, said }));
-let past = page.history(calls(["add-room 1", "ok 1"], ["add-room 2", "ok 2"], ["add-room 2", "no 2 1 Exists"]), 2);
-same(page.named("Undo", past.undo), "Undo: add-room 2");
-same(page.named("Redo", past.redo), "Redo");
-past = page.history(calls(["add-room 1", "ok 1"], ["add-room 2", "ok 2"], ["undo 2", "ok 3"]), 3);
-same(page.named("Undo", past.undo), "Undo: add-room 1");
-same(page.named("Redo", past.redo), "Redo: add-room 2");
-same(past.entries[1].undone, true);
-past = page.history(
-  calls(["add-room 1", "ok 1"], ["add-room 2", "ok 2"], ["undo 2", "ok 3"], ["undo 3", "ok 4"], ["redo 4", "ok 5"]), 5);
-same(page.named("Undo", past.undo), "Undo: add-room 1");
-same(page.named("Redo", past.redo), "Redo: add-room 2");
-past = page.history(calls(["add-room 1", "ok 1"], ["undo 1", "ok 2"], ["add-room 3", "ok 3"]), 3);
-same(page.named("Redo", past.redo), "Redo");
-same(past.undo.line, "add-room 3");
-// A music room that is added and undone.
-past = page.history(calls(["add-room 1", "ok 1"], ["add-room 2 44100", "ok 2"]), 2);
-same(page.named("Undo", past.undo), "Undo: add-room 2 44100");
-past = page.history(calls(["add-room 1", "ok 1"], ["add-room 2 44100", "ok 2"], ["undo 2", "ok 3"]), 3);
-same([page.named("Undo", past.undo), page.named("Redo", past.redo)], ["Undo: add-room 1", "Redo: add-room 2 44100"]);
-same(page.lookOf(["room 1"]) !== page.lookOf(["room 1 44100"]), true);
-same(page.changes(["room 1"], ["room 1", "room 2 44100"]), ["+ room 2 44100"]);
-
-// A version of another connection was a command, an undo or a redo. Where that isn't known the buttons name nothing.
-const told = (made, version, looks) => {
-  past = page.history(calls(...made), version, looks);
-  return [page.named("Undo", past.undo), page.named("Redo", past.redo)];
-};
-const inForce = "Undo: the last change in force", wasUndone = "Redo: the last change that was undone";
-const other = (word, version) => `${word}: the change of another connection (version ${version})`;
-const one = ["add-room 1", "ok 1"], two = ["add-room 2", "ok 2"];
-const shown = () =>
-  past.entries.map((e) => (
-    e.foreign ? page.foreignWords(e) : `${e.line}${{ true: " -", false: "", null: " ?" }[e.undone]}`
-  ));
-
-// A call of the page, a version of another connection, and the undo and redo of each. Had it been an undo, nothing were
-// left to undo.
-const made = [one];
-same(told(made, 2), [inForce, wasUndone]);
-same(shown(), ["add-room 1 ?", "version 2 came over another connection"]);
-made.push(["undo 2", "ok 3"]);
-same(told(made, 3), ["Undo: add-room 1", other("Redo", 2)]);
-same(shown(), ["add-room 1", "version 2 came over another connection; undone", "undo 2"]);
-made.push(["undo 3", "ok 4"]);
-same(told(made, 4), ["Undo", "Redo: add-room 1"]);
-same(shown()[0], "add-room 1 -");
-made.push(["redo 4", "ok 5"]);
-same(told(made, 5), ["Undo: add-room 1", other("Redo", 2)]);
-made.push(["redo 5", "ok 6"]);
-same(told(made, 6), [other("Undo", 2), "Redo"]);
-same(shown().slice(0, 2), ["add-room 1", "version 2 came over another connection"]);
-
-// One between two calls of the page: what is in force below the second is not known, until an answer tells it.
-const between = [one, ["add-room 3", "ok 3"]];
-same(told(between, 3), ["Undo: add-room 3", "Redo"]);
-between.push(["undo 3", "ok 4"]);
-same(told(between, 4), [inForce, "Redo: add-room 3"]);
-same(told([...between, ["undo 4", "no 4 15 NothingToUndo"]], 4), ["Undo", "Redo: add-room 3"]);
-same(shown(), ["add-room 1 -", "version 2 came over another connection", "add-room 3 -", "undo 3", "undo 4"]);
-between.push(["undo 4", "ok 5"], ["undo 5", "ok 6"]);
-same(told(between, 6), ["Undo", "Redo: add-room 1"]);
-same(shown().slice(0, 3), ["add-room 1 -", "version 2 came over another connection; undone", "add-room 3 -"]);
-
-// Two: the page's undos use them up.
-const pair = [one, ["undo 3", "ok 4"]];
-same(told(pair, 4), [inForce, wasUndone]);
-pair.push(["undo 4", "ok 5"]);
-same(told(pair, 5), ["Undo: add-room 1", other("Redo", 2)]);
-same(shown()[1], "versions 2 to 3 came over another connection; undone: 2, 3");
-same(told([...pair, ["undo 5", "ok 6"], ["redo 6", "ok 7"], ["redo 7", "ok 8"]], 8),
-  [other("Undo", 2), other("Redo", 3)]);
-
-// What the desk looked like tells more: a command, or else an undo or the command of the same effect.
-const looks = new Map([[0, 0], [1, 1], [2, 2], [3, 3]]);
-same(told([one, two], 3, looks), [other("Undo", 3), "Redo"]);
-same(told([one, two, ["undo 3", "ok 4"]], 4, looks), ["Undo: add-room 2", other("Redo", 3)]);
-looks.set(3, 1);
-same(told([one, two], 3, looks), [inForce, wasUndone]);
-same(told([one, two, ["redo 3", "ok 4"]], 4, looks), ["Undo: add-room 2", "Redo"]);
-same(told([one, two, ["redo 3", "no 3 16 NothingToRedo"]], 3, looks), [other("Undo", 3), "Redo"]);
-same(told([one, two, ["undo 3", "ok 4"]], 4, looks.set(4, 0)), ["Undo", "Redo: add-room 1"]);
-same(told([one, two], 2, new Map([[0, 0], [1, 1], [2, 1]])), ["Undo: add-room 2", "Redo"]);
-same(told([one, ["undo 1", "ok 2"], ["add-room 2", "ok 3"]], 3, new Map([[0, 0], [2, 5]])),
-  ["Undo: add-room 2", "Redo"]);
-same(shown(), ["add-room 1 ?", "undo 1", "add-room 2"]);
-same(page.lookOf(["room 1"]) !== page.lookOf(["room 2"]), true);
-
-// Versions before the page are many, and a call without an answer may be one.
-same(told([["add-room 3", "ok 90"], ["undo 90", "ok 91"]], 91), [inForce, "Redo: add-room 3"]);
-same(shown()[0], "versions 1 to 89 came over another connection, or before this page");
-same(told([one, ["add-room 2", "lost"], ["undo 2", "ok 3"]], 3), ["Undo: add-room 1", "Redo: version 2"]);
-same(shown()[2], "version 2 came over another connection, or from a call without an answer; undone");
-
-past = page.history(calls(["add-room 1", "ok 1"], ["add-room 2", "ok 2"], ["add-room 5", "ok 1"]), 1);
-same(past.entries.map((e) => e.line), ["add-room 5"]);
-past = page.history(calls(["add-room 1", "ok 1"], ["add-room 2", "ok 2"]), 0);
-same([past.undo, past.entries], [null, []]);
-past = page.history([], 0);
-same([past.undo, past.redo, past.entries], [null, null, []]);
-
-// A bridge, the page and another operator who do what a seed says.
-function walk(seed, steps, page_part, looks_part) {
-  let state = seed, rooms = [], version = 0;
-  const chance = (below) => {
-    state = (Math.imul(state, 1103515245) + 12345) & 0x7fffffff;
-    return (state >>> 8) % below;
-  };
-  const stacks = { done: [], undone: [] }, made = [], seen = new Map();
-  const see = () => { if (chance(100) < looks_part) seen.set(version, page.lookOf([...rooms].sort())); };
-  const tell = (own, line, said) => { if (own) made.push({ line, said }); };
-  function command(own) {
-    const room = `${chance(4)}`, before = rooms, has = rooms.includes(room);
-    rooms = has ? rooms.filter((one) => one !== room) : [...rooms, room];
-    version += 1;
-    tell(own, `${has ? "remove" : "add"}-room ${room}`, `ok ${version}`);
-    stacks.done.push({ version, own, before, behind: rooms });
-    stacks.undone = [];
-  }
-  function move(own, word, from, to) {
-    const change = stacks[from].pop();
-    if (!change) return tell(own, `${word} ${version}`, `no ${version} ${word === "undo" ? 15 : 16} Nothing`);
-    rooms = word === "undo" ? change.before : change.behind;
-    stacks[to].push(change);
-    tell(own, `${word} ${version}`, `ok ${version + 1}`);
-    version += 1;
-  }
-  see();
-  for (let step = 0; step < steps; step += 1) {
-    const own = chance(100) < page_part, before = version;
-    const undo = (o) => move(o, "undo", "done", "undone"), redo = (o) => move(o, "redo", "undone", "done");
-    [command, command, undo, redo][chance(4)](own);
-    if (version > before) see();
-    judge(page.history(made, version, seen), stacks, page_part === 100);
-  }
-}
-
-// What the page names and marks is so; and of its own calls alone it knows all.
-function judge(told, stacks, knows) {
-  for (const [change, stack] of [[told.undo, stacks.done], [told.redo, stacks.undone]]) {
-    const top = stack[stack.length - 1];
-    if (change && change.unknown) assert(!knows);
-    else assert.strictEqual(change ? change.number ?? `other ${change.other}` : undefined,
-      top && (top.own ? top.version : `other ${top.version}`));
-  }
-  const isIn = (number) => stacks.done.some((change) => change.version === number);
-  for (const entry of told.entries) {
-    if (entry.foreign) assert(!entry.undone.some(isIn));
-    else if (entry.number !== null && !/^(undo|redo) /.test(entry.line) && entry.undone !== null)
-      assert.strictEqual(entry.undone, !isIn(entry.number));
-  }
-}
-
-const parts = [[100, 0], [100, 100], [90, 0], [60, 0], [90, 100], [60, 100], [40, 60], [5, 50]];
-for (const [page_part, looks_part] of parts) {
-  for (let seed = 1; seed <= 20; seed += 1) walk(seed, 40, page_part, looks_part);
-  tried += 20;
-}
-
 same(page.changes(["room 1", "mute 1"], ["room 1", "room 2"]), ["- mute 1", "+ room 2"]);
-same([13, 20].map((count) => page.moreWords(Array(count))), ["and 1 more row", "and 8 more rows"]);
+same(page.changes(["room 1"], ["room 1", "room 2 44100"]), ["+ room 2 44100"]);
 // Names: an SSRC has its source's name, or else its member's.
 const named = page.parseNames('names 3\n{"member 10":"Bob","source 102":"camera","room 1":"Sales","odd":7}');
 same(named, { version: 3, names: { "member 10": "Bob", "source 102": "camera", "room 1": "Sales" } });
@@ -318,9 +155,42 @@ same(after(text.replace("member 2 12 2", "member 1 12 2").replace("member 1 11 1
 same(after(text.replace("member 2 12 2", "member 2 12 1")).sort(), [1, 2]);
 same(after(text.replace("sub 502 102\n", "")), [1]);
 same(after(text.replace("gain 11 201 128", "gain 11 201 129")), [1]);
-const without = [text.replace("mute 202\n", ""), text.replace("room 2\n", "room 2\nroom 3\n"), ""];
-for (const next of without.map(page.parseDesk)) {
-  same(page.lookAfter(page.lookOf(desk.rows), page.changes(desk.rows, next.rows)), page.lookOf(next.rows));
-}
+
+// The history of the bridge: what an undo takes back is the last call in force, and what a redo does again the last one
+// that was undone.
+const past = page.parseHistory(`1 0 add-room 1 8000
+2 1 group mute 201 / move-member 10 1
+undone
+4 0 unmute 202
+3 15 mute 202
+end 6
+`);
+same(past, { version: 6, done: [{ number: 1, operator: 0, line: "add-room 1 8000" },
+  { number: 2, operator: 1, line: "group mute 201 / move-member 10 1" }],
+  undone: [{ number: 4, operator: 0, line: "unmute 202" }, { number: 3, operator: 15, line: "mute 202" }] });
+same([page.parseHistory("end 0\n"), page.parseHistory("1 0 mute 201\nend 1\n").undone],
+  [{ version: 0, done: [], undone: [] }, []]);
+
+// Undos lead to the desk behind an earlier call, and redos to that behind an undone one.
+const way = (number) => {
+  const found = page.wayTo(past, number);
+  return found && [found.word, found.calls.map((one) => one.number)];
+};
+same([1, 2, 3, 4, 9].map(way), [["undo", [2]], ["undo", []], ["redo", [3]], ["redo", [3, 4]], null]);
+same(page.wayWords(page.wayTo(past, 1), false), "One undo leads to the desk right behind it: 2.");
+same(page.wayWords(page.wayTo(past, 4), false), "2 redos lead to the desk right behind it: 3, 4.");
+same(page.wayWords(page.wayTo(past, 2), true), "An undo takes it back.");
+
+// Calls name what has a name, and keep all of their words.
+const told = (line, names = named.names) => page.worded(names, desk, line).replace(/[\u2068\u2069]/g, "");
+same(["mute 201", "unmute 102", "mute 103", "move-member 10 1", "set-gain 11 201 128", "undo 4"].map((line) => told(line)),
+  ["mute Bob (201)", "unmute camera (102)", "mute 103", "move-member Bob (10) Sales (1)", "set-gain 11 Bob (201) 128",
+    "undo 4"]);
+same(told("group mute 201 / give-floor 1 10"), "group mute Bob (201) / give-floor Sales (1) Bob (10)");
+same(told("add-member 10 1 127.0.0.1:6000 pcmu 201 0 0"),
+  "add-member Bob (10) Sales (1) 127.0.0.1:6000 pcmu 201 0 0");
+same(told("add-slot 201 10 0 0 0"), "add-slot 201 Bob (10) 0 0 0");
+same(told("mute 201", { "source 201": "n".repeat(200) }), `mute ${"n".repeat(24)}\u2026 (201)`);
+same(page.worded({ "member 10": "\u0628" }, desk, "mute 201"), "mute \u2068\u0628\u2069 (201)");
 
 console.log(`${tried} tries of the page's functions, no fault`);

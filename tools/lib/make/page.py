@@ -17,13 +17,9 @@ PARTS = [
         ("HTML_BEFORE", "The page as far as its token.", "page.html", 0),
         ("HTML_AFTER", "The page behind its token.", "page.html", 1),
     ]),
-    ("script_lines.rt", "What the page makes of the desk's text, and the lines that clicks send.", [
-        ("LINES", "The first part of the page's script.", "lines.js overview.js", 0),
+    ("script_lines.rt", "What the page makes of the bridge's texts, and the lines that clicks send.", [
+        ("LINES", "The first part of the page's script.", "lines.js overview.js history.js", 0),
     ]),
-    (
-        "script_past.rt", "What undo and redo would take.",
-        [("PAST", "The second part of the page's script.", "past.js", 0)],
-    ),
     ("script_view.rt", "How the page shows the desk, and what is done at it.", [
         ("VIEW", "The rest of the page's script.", "view.js page.js hands.js", 0),
     ]),

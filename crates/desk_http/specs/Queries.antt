@@ -1,0 +1,14 @@
+-- What the page asks the bridge without changing anything (own).
+use Rattle.std.specs.Prelude.{ℕ, Bool, ◌||◌, List, codes}
+use Rattle.std.specs.Str.{bytes_eq}
+use Rattle.desk_http.specs.declared.query.Query.{Query}
+use Rattle.desk_http.specs.declared.query.Query.TheVariants as queries
+
+-- the line that asks for all rows of the desk, or for the last 256 calls in force and the last 256 that can be redone
+abbrev pub query_line : Query → List ℕ
+query_line queries.Desk = codes "show"
+query_line queries.History = codes "history 256"
+
+-- the line is one of these
+abbrev pub is_query : List ℕ → Bool
+is_query line = bytes_eq line (query_line queries.Desk) || bytes_eq line (query_line queries.History)

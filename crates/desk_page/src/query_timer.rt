@@ -1,0 +1,35 @@
+//! When the bridge may be asked a query.
+
+use desk_http::Query;
+
+/// How many milliseconds are between two requests with the same query at least. All browsers share a reply.
+const INTERVAL: u64 = 100;
+
+/// When the bridge may be asked a query.
+#[derive(Clone, Copy)]
+pub(crate) struct QueryTimer {
+    pub(crate) query: Query,
+    /// The next moment, in milliseconds.
+    next: u64,
+}
+
+impl QueryTimer {
+    /// A query that may be asked at once.
+    pub(crate) fn new(query: Query) -> Self {
+        Self { query, next: 0 }
+    }
+
+    pub(crate) fn is_due(self, now: u64) -> bool {
+        now >= self.next
+    }
+
+    /// Notes that it is asked at this moment.
+    pub(crate) fn note_asked(&mut self, now: u64) {
+        self.next = now.saturating_add(INTERVAL);
+    }
+
+    /// Lets it be asked at once.
+    pub(crate) fn reset(&mut self) {
+        self.next = 0;
+    }
+}
