@@ -179,7 +179,7 @@ def undoes_others(browser, shown, told, ask):
 
 
 def walks(browser, shown, told):
-    """A click on a call of the history says which undos lead to the desk behind it, and a button goes there and back."""
+    """A click on a call of the history says which undos lead to the desk behind it. A button goes there, and back."""
     version = browser.run("version()")
     calls = browser.run("past.done.map((one) => one.number)")
     number, undos = calls[-4], 3
@@ -220,7 +220,7 @@ def adds_music(browser, shown):
     ]:
         version += 1
         browser.run(f"{script}; true")
-        browser.wait(f"version() === {version}")
+        settles(browser, version)
         rows = compare(browser, version, shown(), f"`{script}`")
         if not any(one.startswith(row) for one in rows if one not in before):
             fail(f"after `{script}` the page shows {rows}")

@@ -2,6 +2,7 @@
 desks."""
 
 import json
+import pathlib
 import statistics
 import time
 
@@ -18,19 +19,7 @@ NAMES = {
     "room 1": "<script>document.title = 'no'</script>",
     "source 201": "n" * 200,
 }
-# Numbers that each control's label has to have, unless it stands for the whole page.
-UNNAMED = """[...document.querySelectorAll("main button, main input, main select")].filter((n) => n.offsetParent &&
-  !(n.ariaLabel || n.labels?.length || n.textContent.trim())).map((n) => n.outerHTML)"""
-TWINS = """(() => {
-  const all = [...document.querySelectorAll("#board button, #detail button, #board input, #detail select")]
-    .filter((n) => n.offsetParent).map((n) => n.ariaLabel);
-  return all.filter((one, at) => all.indexOf(one) !== at);
-})()"""
-SMALL = """[...document.querySelectorAll("button, select, input")].filter((n) => n.offsetParent).filter((n) => {
-  const { width, height } = n.getBoundingClientRect(); return height < 24 || width < 16; }).map((n) => n.outerHTML)"""
-LEVELS = (
-    '[...document.querySelectorAll("h1, h2, h3, h4")].filter((n) => n.offsetParent).map((n) => Number(n.tagName[1]))'
-)
+RULES = pathlib.Path(__file__).parent / "check/page_rules.js"
 
 
 def check(holds, text):
@@ -131,26 +120,30 @@ def presses_keys(browser):
 
 
 def acts_on_many(browser):
-    """Members that are selected move as one group, all but one are muted as one, and a room of five asks before it
-    goes."""
+    """By the pointer a member is muted and the mute taken back, and three members move as one change. All but one are
+    muted as one, too."""
     before = version(browser)
-    for member in 10, 11:
+    browser.click('[data-key="toggle 11"]')
+    reaches(browser, before + 1, "a click on Mute")
+    check(last_line(browser) == "mute 202", f"Mute of member 11 sends {last_line(browser)}")
+    browser.click("#undo")
+    reaches(browser, before + 2, "a click on Undo")
+    for member in 10, 11, 12:
         browser.click(f'[data-select="{member}"]')
     browser.run(
         "const many = document.querySelector('[data-choice=\"move-chosen\"]'); offer(many); many.value = '2'; "
         "many.dispatchEvent(new Event('change', { bubbles: true })); true"
     )
-    reaches(browser, before + 1, "a move of two members")
-    check(
-        last_line(browser) == "group move-member 10 2 / move-member 11 2", f"two members move by {last_line(browser)}"
-    )
+    reaches(browser, before + 3, "a move of three members")
+    moves = "group move-member 10 2 / move-member 11 2 / move-member 12 2"
+    check(last_line(browser) == moves, f"three members move by {last_line(browser)}")
     browser.run("document.getElementById('undo').click(), acts.clear(), true")
-    reaches(browser, before + 2, "an undo")
+    reaches(browser, before + 4, "an undo")
     browser.run("acts['mute-others'](11), true")
-    reaches(browser, before + 3, "a mute of all but one")
+    reaches(browser, before + 5, "a mute of all but one")
     check(last_line(browser) == "mute 201", f"all but member 11 are muted by {last_line(browser)}")
     browser.run("document.getElementById('undo').click(), true")
-    reaches(browser, before + 4, "an undo")
+    reaches(browser, before + 6, "an undo")
 
 
 def asks_before(browser, ask):
@@ -169,24 +162,6 @@ def asks_before(browser, ask):
         )
         browser.run(f"document.getElementById('{choice}').click(), true")
         reaches(browser, wanted, "the removal of a room")
-
-
-def shows_stale(browser, go, come):
-    """Once the bridge is gone, the desk is shown as stale and nothing of it can be pressed. `go` and `come` take the
-    bridge away and back."""
-    before = version(browser)
-    go()
-    browser.wait("document.body.classList.contains('gone') && document.getElementById('main').inert")
-    told = browser.run("document.getElementById('status').textContent")
-    check(
-        told.startswith("The bridge is gone.") and "as it was at" in told,
-        f"once the bridge is gone the page says {told}",
-    )
-    browser.click('[data-key="open 10"]')
-    browser.run("document.getElementById('undo').click(), true")
-    come()
-    browser.wait("!document.body.classList.contains('gone')")
-    check(version(browser) == before, "a click on a stale desk has changed it")
 
 
 def names_things(one, other):
@@ -220,13 +195,20 @@ def names_things(one, other):
 
 
 def is_for_everyone(browser):
-    """Controls have names that tell their objects, headings go in order, and targets have 24 pixels."""
-    browser.run("if (opened !== 11) acts.open(11); true")
-    for script, what in (UNNAMED, "have no name"), (TWINS, "share a name"), (SMALL, "are under 24 pixels"):
-        found = browser.run(script)
-        check(not found, f"controls {what}: {found}")
-    levels = browser.run(LEVELS)
-    check(levels[0] == 1 and all(b - a <= 1 for a, b in zip(levels, levels[1:])), f"the headings' levels are {levels}")
+    """No rule of the list finds a fault in the page, light or dark, wide or narrow, and what Tab reaches is marked."""
+    browser.run("if (opened !== 11) acts.open(11); picked.add(11); render(); true")
+    browser.run("acts.walk(past.done[0].number), true")
+    rules = RULES.read_text()
+    for width, dark in (1280, False), (1280, True), (400, False), (400, True):
+        browser.shows(width, 900, dark)
+        faults = browser.run(rules)
+        check(not faults, f"at {width} pixels, dark: {dark}, the page has these faults: {faults}")
+    browser.shows(1280, 900)
+    for _ in range(12):
+        browser.press("Tab", 9)
+        outline = browser.run("getComputedStyle(document.activeElement).outlineStyle")
+        check(outline != "none", f"what Tab reaches isn't marked: {browser.run('document.activeElement.outerHTML')}")
+    browser.run("acts.clear(), document.activeElement.blur(), true")
 
 
 def costs(browser, ask, ssrc):

@@ -1,8 +1,8 @@
 -- A line is handed over at most once.
 use Rattle.std.proofs.Common.{◌≡◌, ℕ, ◌≤◌, Bool, true, false, List, [], ◌∷◌, ◌++◌, length, refl, sym, subst, arith}
 use Rattle.desk_http.specs.PendingLines.{Event, queues, takes, takes_query, takes_call, takes_names, reading}
-use Rattle.desk_http.specs.PendingLines.{queued, dispatched, lines_dispatched, listed, line_if, after_take_if, has_query}
-use Rattle.desk_http.specs.PendingLines.{has_call, has_names_line}
+use Rattle.desk_http.specs.PendingLines.{queued, dispatched, lines_dispatched, listed, line_if, after_take_if}
+use Rattle.desk_http.specs.PendingLines.{has_query, has_call, has_names_line}
 
 -- once it was handed over, nothing more is
 pub lines-dispatched : (events : List Event) → lines_dispatched events dispatched ≡ []

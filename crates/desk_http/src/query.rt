@@ -8,8 +8,8 @@ ghost use Rattle.desk_http.specs.Queries.{query_line, is_query};
 pub enum Query {
     /// All rows of the desk.
     Desk,
-    /// The last 256 calls in force, and the last 256 that can be redone. Such a reply is shorter than the 4 MiB that the
-    /// bridge keeps for an operator.
+    /// The last 256 calls in force, and the last 256 that can be redone. That is less than the 4 MiB that the bridge
+    /// keeps for an operator.
     History,
 }
 

@@ -41,6 +41,11 @@ pub(crate) const HTML_AFTER: &[u8] = br##"">
   </section>
   <aside>
     <section id="detail" aria-labelledby="detail-title" hidden></section>
+    <section aria-labelledby="calls-title">
+      <h2 id="calls-title">History</h2>
+      <p id="no-calls" class="hint">Nothing was changed yet.</p>
+      <ol id="calls"></ol>
+    </section>
     <section aria-labelledby="add-title">
       <h2 id="add-title">Add</h2>
       <form id="add-room" class="add" aria-label="Add a room">
@@ -50,7 +55,7 @@ pub(crate) const HTML_AFTER: &[u8] = br##"">
         <button>Add room</button></form>
       <form id="add-member" class="add" aria-label="Add a member">
         <label>Member <input name="member" inputmode="numeric" required></label>
-        <label>Room <select name="room"></select></label>
+        <label>Room <select name="room" aria-label="Room of the member"></select></label>
         <label class="whole">Address <input name="address" placeholder="127.0.0.1:6000" required></label>
         <label class="wide">Codec <select name="codec"><option value="">as the room</option>
           <option>pcmu</option><option>l16</option></select></label>
@@ -58,12 +63,12 @@ pub(crate) const HTML_AFTER: &[u8] = br##"">
         <button>Add member</button></form>
       <form id="add-source" class="add" aria-label="Add a source">
         <label>Source SSRC <input name="ssrc" inputmode="numeric" required></label>
-        <label>Member <select name="member"></select></label>
+        <label>Member <select name="member" aria-label="Member of the source"></select></label>
         <label>Kind <select name="kind"><option>audio</option><option>video</option></select></label>
         <button>Add source</button></form>
       <form id="add-slot" class="add" aria-label="Add a slot">
         <label>Slot SSRC <input name="ssrc" inputmode="numeric" required></label>
-        <label>Member <select name="member"></select></label>
+        <label>Member <select name="member" aria-label="Member of the slot"></select></label>
         <label>Index <input name="index" inputmode="numeric" value="0" required></label>
         <button>Add slot</button></form>
     </section>
@@ -73,14 +78,16 @@ pub(crate) const HTML_AFTER: &[u8] = br##"">
         <input id="line" autocomplete="off" spellcheck="false" maxlength="4096"></label>
         <button>Send</button></form>
       <p class="hint">A button shows its line when you point at it or come to it by Tab.</p>
-      <p><label><input id="collect" type="checkbox"> Collect clicks into a group</label></p>
+      <p><label class="tick"><input id="collect" type="checkbox"> Collect clicks into a group</label></p>
       <ol id="collected" hidden></ol>
       <p id="group-buttons" hidden><button id="send-group" type="button">Send the group</button>
         <button id="drop-group" type="button">Drop it</button></p>
     </section>
-    <section aria-labelledby="calls-title">
-      <h2 id="calls-title">History</h2>
-      <ol id="calls" reversed></ol>
+    <section aria-labelledby="keep-title">
+      <h2 id="keep-title">Desk as a file</h2>
+      <button type="button" data-act="save">Save the desk</button>
+      <button type="button" data-act="restore">Restore</button>
+      <input id="file" type="file" aria-label="A saved desk" hidden>
     </section>
     <section aria-labelledby="keys-title">
       <h2 id="keys-title">Keys</h2>

@@ -1,5 +1,5 @@
 //! What the page makes of the bridge's texts, and the lines that clicks send.
-//! `tools/bridge make page` writes this file from web/lines.js, web/overview.js, web/history.js.
+//! `tools/bridge make page` writes this file from web/lines.js, web/overview.js, web/kept.js, web/history.js.
 
 /// The first part of the page's script.
 pub(crate) const LINES: &[u8] = br##""use strict";
@@ -386,6 +386,55 @@ function goesAlong(desk, room) {
   return counts.map(([what, count]) => `${count} ${what}${count === 1 ? "" : "s"}`).join(", ");
 }
 
+// The desk as a file: groups that make all its rows again, as `tools/bridge keep` prints them. No function touches the
+// page.
+
+// A stream begins anew at its FIRST_SEQ, which is moved on, or a receiver might take new packets for old ones.
+const FURTHER = 1000, MOST_OCTETS = 4096;
+// The command that makes a row of each kind, and the first word of the row that the command has too.
+const MAKING = { room: ["add-room", 1], member: ["add-member", 2], source: ["add-source", 1], slot: ["add-slot", 1],
+  sub: ["subscribe", 1], mute: ["mute", 1], gain: ["set-gain", 1], pin: ["pin", 1], floor: ["give-floor", 1] };
+
+function commandOf(row) {
+  const words = row.split(" "), [verb, first] = MAKING[words[0]], place = words.length - 2;
+  if (["member", "slot"].includes(words[0])) words[place] = String((Number(words[place]) + FURTHER) % 65536);
+  return [verb, ...words.slice(first)].join(" ");
+}
+
+// As few groups as these commands take, in their order.
+function groupsOf(commands) {
+  const groups = [];
+  let count = MOST_PARTS;
+  for (const command of commands) {
+    const last = groups.length - 1;
+    if (count === MOST_PARTS || groups[last].length + " / ".length + command.length > MOST_OCTETS) {
+      groups.push(`group ${command}`);
+      count = 1;
+    } else {
+      groups[last] += ` / ${command}`;
+      count += 1;
+    }
+  }
+  return groups;
+}
+
+// The last line tells how much there is: without it the file was cut.
+function endOf(groups) {
+  return `# end: ${groups.length} groups of ${groups.flatMap((group) => group.split(" / ")).length} commands`;
+}
+function keptText(desk) {
+  const groups = groupsOf(desk.rows.map(commandOf));
+  const head = `# the desk of version ${desk.version}: FIRST_SEQ of each stream is ${FURTHER} further on, as streams `;
+  return `${[`${head}begin anew`, ...groups, endOf(groups)].join("\n")}\n`;
+}
+
+// The groups of such a text, or null where it isn't whole.
+function groupsIn(text) {
+  const lines = text.split("\n").filter((line) => line !== ""), groups = lines.filter((line) => !line.startsWith("#"));
+  const areGroups = groups.every((group) => group.startsWith("group ") && group.length <= MOST_OCTETS);
+  return areGroups && lines[lines.length - 1] === endOf(groups) ? groups : null;
+}
+
 // The history of calls, as the bridge tells it. No function touches the page.
 
 // The calls in force and those that can be redone, in the order of the text: each with its number, its operator and its
@@ -447,6 +496,6 @@ if (typeof module !== "undefined") {
     memberLine, roomLine, overview, parseNames, renamed, labelled, sourceName, cut, grouped, toggled, othersMuted,
     movedAll, goesAlong, changedRooms, nameRefusal, parseDesk, isMusic, roomsFor, codecOf, seen, videosFor, heard,
     lines, dropped, free, suggested, inWords, replyInWords, noDeskInWords, parseHistory, worded, wayTo, wayWords,
-    changes };
+    changes, keptText, groupsIn };
 }
 "##;

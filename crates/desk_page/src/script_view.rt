@@ -108,7 +108,7 @@ function drawList(node, items, draw) {
 function titled(name, kind, number) {
   return name ? [bdi(name), soft(` ${kind} ${number}`)] : [`${kind} ${number}`];
 }
-const spoken = (name, kind, number) => (name ? `${name}, ${kind} ${number}` : `${kind} ${number}`);
+const spoken = (name, kind, number) => (name ? `${name} ${kind} ${number}` : `${kind} ${number}`);
 
 // A member's line of the overview.
 function memberRow({ model, room }) {
@@ -120,8 +120,8 @@ function memberRow({ model, room }) {
   const seenWords = model.sees.map((s) => (s.source === null ? "nothing" : s.label)).join(", ");
   return el("div", { class: `member${odd ? " odd" : ""}${isOpen ? " open" : ""}`, role: "listitem", draggable: "true",
     "data-member": member, "data-room-of": room, "data-key": `member ${member}` },
-    el("input", { type: "checkbox", tabindex: -1, "data-select": member, checked: isChosen,
-      "aria-label": `Select ${who}` }),
+    el("label", { class: "pick" }, el("input", { type: "checkbox", tabindex: -1, "data-select": member,
+      checked: isChosen, "aria-label": `Select ${who}` })),
     el("button", { type: "button", class: "who", tabindex: isHere ? 0 : -1, "data-act": "open", "data-of": member,
       "data-key": `open ${member}`, "aria-expanded": String(isOpen), "aria-label": `Open ${who}` },
       ...titled(name, "member", member)),
@@ -207,9 +207,23 @@ function detailPanel(model) {
     model.hears ? chooses("Set gain of", `for ${who}`, `gain-of ${member}`) : "");
 }
 
+// A call of the history, and below the one that is clicked what leads to it.
+function callItem({ model: { number, operator, text, isUndone, isWalked, isOnWay, way } }) {
+  return el("li", { class: `${isUndone ? "undone" : ""}${isOnWay ? " way" : ""}` },
+    el("button", { type: "button", class: "call", "data-act": "walk", "data-of": number, "data-key": `walk ${number}`,
+      "aria-label": `${text} version ${number}`, "aria-expanded": String(isWalked) }, code(text)),
+    soft(`${isUndone ? "undone, " : ""}version ${number}, operator ${operator}`),
+    isWalked ? el("div", { class: "row" }, el("span", { class: "soft grow" }, way.text),
+      way.count ? does(way.label, "go", number, `to the desk behind version ${number}`) : "") : "");
+}
+function wayOf(way) {
+  const count = way.calls.length, word = way.word === "undo" ? "Undo" : "Redo";
+  return { text: wayWords(way, count === 0), count, label: count > 1 ? `${word} these ${count}` : word };
+}
+
 // Asking the page's program, and what clicks, keys and drags do.
 const token = () => document.querySelector('meta[name="desk-token"]').content;
-const EVERY = 250, PATIENCE = 4000, REST = 400, FEW_ROOMS = 8, FEW_MEMBERS = 4, ROW_HEIGHT = 25;
+const EVERY = 250, TRIES = 3, PATIENCE = 4000, REST = 400, FEW_ROOMS = 8, FEW_MEMBERS = 4, ROW_HEIGHT = 25;
 const folded = new Map(), picked = new Set(), here = new Map();
 const widened = new Set(), resting = new Map(), suggestions = new Map();
 let desk = null, shownText = null, drag = null, group = [], timer = null, asking = false, opened = null, past = null;
@@ -230,23 +244,35 @@ async function ask(path, options) {
   return fetch(path, { ...options, cache: "no-store", signal: AbortSignal.timeout(PATIENCE) });
 }
 
+// Asks without changing anything. A connection that has to make way for others is tried again.
+async function get(path) {
+  for (let turn = 1; ; turn += 1) {
+    try {
+      return await ask(path);
+    } catch (error) {
+      if (turn === TRIES || !(error instanceof TypeError)) throw error;
+      await new Promise((resolve) => { setTimeout(resolve, EVERY); });
+    }
+  }
+}
+
 async function post(path, body) {
   return ask(path, { method: "POST", headers: { "X-Desk-Token": token() }, body });
 }
 
-// Sends a line once, and tells whether it is accepted. Whatever comes of it, the desk is shown again; the line is never
-// sent again by itself.
+// Sends a line once. The version as which it is accepted, or 0. Whatever comes of it, the desk is shown again; the line
+// is never sent again by itself.
 async function call(line, words = line) {
-  if (document.body.classList.contains("gone")) return;
+  if (document.body.classList.contains("gone")) return 0;
   if (at("collect").checked && !/^(undo|redo|group) /.test(line)) return collect(line);
   try {
     const reply = await post("/call", line);
-    const { good, text } = replyInWords(reply.status, (await reply.text()).trim());
+    const said = (await reply.text()).trim(), { good, text } = replyInWords(reply.status, said);
     notice(`${words}: ${text}`, good);
-    return good;
+    return good ? Number(said.split(" ")[1]) : 0;
   } catch {
     notice(`${words}: no answer came. Look at the desk before you send it again.`);
-    return false;
+    return 0;
   } finally {
     show();
   }
@@ -254,12 +280,40 @@ async function call(line, words = line) {
 
 // Undoes or redoes calls, one after another. It stops where one isn't accepted, such as where another call came first.
 async function goes({ word, calls }) {
+  const name = word === "undo" ? "Undo" : "Redo";
   let version = past.version;
   for (const { line } of calls) {
-    const isDone = await call(`${word} ${version}`, `${word === "undo" ? "Undo" : "Redo"}: ${worded(names, desk, line)}`);
-    if (!isDone) return;
-    version += 1;
+    if (version) version = await call(`${word} ${version}`, `${name}: ${worded(names, desk, line)}`);
   }
+}
+
+// Hands the desk to the browser as a file.
+function save() {
+  const href = URL.createObjectURL(new Blob([keptText(desk)], { type: "text/plain" }));
+  el("a", { href, download: "desk.txt" }).click();
+  setTimeout(() => URL.revokeObjectURL(href), PATIENCE);
+  notice(`The desk is saved. ${RESTORED}`, true);
+}
+
+// Makes a desk again from such a file: all of it or nothing.
+const RESTORED = "Where it is restored streams begin anew, with FIRST_SEQ 1,000 further on.";
+async function restore(text) {
+  const groups = groupsIn(text), what = "Restore";
+  if (!groups) return notice(`${what}: that is no saved desk, or part of it is missing. Nothing was sent.`);
+  if (desk.rows.length > 0) return notice(`${what}: the desk has rooms. Remove them first. Nothing was sent.`);
+  const versions = [];
+  for (const line of groups) {
+    const version = await call(line, `${what}, group ${versions.length + 1} of ${groups.length}`);
+    if (!version) return takesBack(versions);
+    versions.push(version);
+  }
+  return notice(`${what}: ${groups.length} groups were accepted. ${RESTORED}`, true);
+}
+async function takesBack(versions) {
+  const why = at("notice").textContent;
+  let version = versions[versions.length - 1] ?? null;
+  for (let left = versions.length; left > 0 && version; left -= 1) version = await call(`undo ${version}`);
+  notice(version === 0 ? `${why} What was restored before stays.` : `${why} Nothing stays.`);
 }
 
 // Sends commands as one call.
@@ -270,7 +324,7 @@ function callAll(parts, what) {
   return notice(`${what}: nothing to do.`);
 }
 
-function collect(line) { group.push(line); showGroup(); }
+function collect(line) { group.push(line); showGroup(); return 0; }
 
 function showGroup() {
   at("collected").replaceChildren(...group.map((line) => el("li", {}, code(line))));
@@ -283,7 +337,7 @@ async function show() {
   asking = true;
   clearTimeout(timer);
   try {
-    const reply = await ask("/desk");
+    const reply = await get("/desk");
     const text = await reply.text();
     if (reply.ok) await take(text);
     else gone(noDeskInWords(text));
@@ -331,7 +385,7 @@ async function takeDesk(text) {
 
 // The history, as the bridge tells it. Where it fails, it is asked for with the next desk.
 async function takeHistory() {
-  const reply = await ask("/history");
+  const reply = await get("/history");
   if (!reply.ok) return;
   past = parseHistory(await reply.text());
   renderHistory();
@@ -339,7 +393,7 @@ async function takeHistory() {
 
 // Names, as the page's program keeps them.
 async function takeNames() {
-  const reply = await ask("/names");
+  const reply = await get("/names");
   document.body.classList.toggle("nameless", reply.status === 404);
   if (!reply.ok) return false;
   const told = parseNames(await reply.text());
@@ -404,6 +458,8 @@ const acts = {
   "mute-chosen": () => callAll(pickedVoices(false).map((s) => lines.mute(s.ssrc)), "mute the selected members"),
   "unmute-chosen": () => callAll(pickedVoices(true).map((s) => lines.unmute(s.ssrc)), "unmute the selected members"),
   clear: () => { picked.clear(); render(); },
+  save,
+  restore: () => at("file").click(),
   name: async (of) => {
     const [kind, number] = of.split(" ");
     const text = `All browsers show it. It has ${LONGEST_NAME} characters at most; an empty name takes it away.`;
@@ -449,15 +505,6 @@ function setHere(member) {
 }
 
 // Drawing the desk, and what keys, clicks and drags do.
-function callItem({ model: { number, operator, text, isUndone, isWalked, isOnWay, way } }) {
-  return el("li", { class: `${isUndone ? "undone" : ""}${isOnWay ? " way" : ""}` },
-    el("button", { type: "button", class: "call", "data-act": "walk", "data-of": number, "data-key": `walk ${number}`,
-      "aria-expanded": String(isWalked) }, code(text)),
-    soft(`${isUndone ? "undone, " : ""}version ${number}, operator ${operator}`),
-    isWalked ? el("div", { class: "row" }, el("span", { class: "soft grow" }, way.text),
-      way.count ? does(way.label, "go", number, `to the desk behind version ${number}`) : "") : "");
-}
-
 // Undo and Redo name the call that they take. Their line has the version at which that is so.
 function button(id, word, top) {
   const text = top ? `${word}: ${worded(names, desk, top.line)}` : word, line = past ? `${id} ${past.version}` : "";
@@ -558,13 +605,9 @@ function renderHistory() {
     text: worded(names, desk, one.line), isWalked: one.number === walked && way !== null,
     isOnWay: passed.includes(one.number), way: one.number === walked && way ? wayOf(way) : null } });
   const undone = (past?.undone ?? []).map((one) => item(one, true));
+  at("no-calls").hidden = !past || past.done.length + past.undone.length > 0;
   drawList(at("calls"), [...undone, ...(past?.done ?? []).map((one) => item(one, false)).reverse()], callItem);
 }
-function wayOf(way) {
-  const count = way.calls.length, word = way.word === "undo" ? "Undo" : "Redo";
-  return { text: wayWords(way, count === 0), count, label: count > 1 ? `${word} these ${count}` : word };
-}
-
 function renderForms() {
   const rooms = desk.rooms.map(roomOption);
   const people = desk.members.map(({ member }) => [member, labelled(nameOf(names, "member", member), member)]);
@@ -724,6 +767,11 @@ at("line-form").addEventListener("submit", (event) => {
   event.preventDefault();
   call(at("line").value.trim());
   at("line").value = "";
+});
+at("file").addEventListener("change", async ({ target }) => {
+  const [file] = target.files;
+  if (file) await restore(await file.text());
+  target.value = "";
 });
 at("search").addEventListener("input", () => render());
 at("sort").addEventListener("change", () => render());

@@ -38,8 +38,8 @@ main { display: grid; grid-template-columns: minmax(0, 1fr) 23rem; gap: 1rem; pa
 #board { display: grid; gap: .5rem; }
 .room, aside > section { background: var(--card); border: 1px solid var(--line); border-radius: .5rem; }
 aside > section { padding: .75rem; }
-aside { display: grid; grid-template-columns: minmax(0, 1fr); gap: .7rem; align-content: start; }
-#detail { position: sticky; top: 3.6rem; z-index: 1; max-height: calc(100vh - 4.2rem); overflow: auto; }
+aside { display: grid; grid-template-columns: minmax(0, 1fr); gap: .7rem; align-content: start; overflow: auto;
+  position: sticky; top: 3.4rem; max-height: calc(100vh - 4.6rem); }
 .room.over, .room.over .head, .slot.over { background: var(--drop); outline: 2px dashed var(--accent); }
 .head { display: flex; flex-wrap: wrap; gap: .2rem .5rem; align-items: center;
   padding: .15rem .5rem; min-height: 32px; }
@@ -53,6 +53,8 @@ aside { display: grid; grid-template-columns: minmax(0, 1fr); gap: .7rem; align-
 .member.open { background: var(--drop); }
 .member.odd, .head.odd { background: var(--odd); }
 input[type="checkbox"] { width: 16px; height: 24px; margin: 0 4px; cursor: pointer; vertical-align: middle; }
+.pick { width: 24px; height: 24px; cursor: pointer; }
+.tick { display: inline-flex; align-items: center; min-height: 24px; cursor: pointer; }
 .who { border: 0; background: none; text-align: left; padding: 0 .2rem; height: 24px; font-weight: 600;
   cursor: pointer; }
 .who bdi, .head bdi { unicode-bidi: isolate; }
@@ -87,7 +89,7 @@ button.fold { width: 24px; padding: 0; border: 0; background: none; }
 .add .whole { flex-basis: 100%; }
 .add input, .add select { width: 100%; color: var(--ink); }
 input[type="range"] { width: 8rem; padding: 0; }
-#calls { list-style: none; margin: 0; padding: 0; max-height: 26rem; overflow: auto; }
+#calls { list-style: none; margin: 0; padding: 0; max-height: 15rem; overflow: auto; }
 #calls li, #collected li { padding: .25rem 0; border-top: 1px solid var(--line); overflow-wrap: anywhere; }
 code { font: .92em ui-monospace, "DejaVu Sans Mono", monospace; }
 .undone code { text-decoration: line-through; color: var(--soft); }
@@ -102,6 +104,7 @@ dialog input { width: 100%; }
 dialog p, dialog h2 { overflow-wrap: anywhere; }
 @media (max-width: 60rem) {
   main { grid-template-columns: minmax(0, 1fr); }
+  aside { position: static; max-height: none; overflow: visible; }
 }
 @media (max-width: 40rem) {
   main, header { padding: .5rem; }

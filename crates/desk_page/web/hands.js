@@ -1,13 +1,4 @@
 // Drawing the desk, and what keys, clicks and drags do.
-function callItem({ model: { number, operator, text, isUndone, isWalked, isOnWay, way } }) {
-  return el("li", { class: `${isUndone ? "undone" : ""}${isOnWay ? " way" : ""}` },
-    el("button", { type: "button", class: "call", "data-act": "walk", "data-of": number, "data-key": `walk ${number}`,
-      "aria-expanded": String(isWalked) }, code(text)),
-    soft(`${isUndone ? "undone, " : ""}version ${number}, operator ${operator}`),
-    isWalked ? el("div", { class: "row" }, el("span", { class: "soft grow" }, way.text),
-      way.count ? does(way.label, "go", number, `to the desk behind version ${number}`) : "") : "");
-}
-
 // Undo and Redo name the call that they take. Their line has the version at which that is so.
 function button(id, word, top) {
   const text = top ? `${word}: ${worded(names, desk, top.line)}` : word, line = past ? `${id} ${past.version}` : "";
@@ -108,13 +99,9 @@ function renderHistory() {
     text: worded(names, desk, one.line), isWalked: one.number === walked && way !== null,
     isOnWay: passed.includes(one.number), way: one.number === walked && way ? wayOf(way) : null } });
   const undone = (past?.undone ?? []).map((one) => item(one, true));
+  at("no-calls").hidden = !past || past.done.length + past.undone.length > 0;
   drawList(at("calls"), [...undone, ...(past?.done ?? []).map((one) => item(one, false)).reverse()], callItem);
 }
-function wayOf(way) {
-  const count = way.calls.length, word = way.word === "undo" ? "Undo" : "Redo";
-  return { text: wayWords(way, count === 0), count, label: count > 1 ? `${word} these ${count}` : word };
-}
-
 function renderForms() {
   const rooms = desk.rooms.map(roomOption);
   const people = desk.members.map(({ member }) => [member, labelled(nameOf(names, "member", member), member)]);
@@ -274,6 +261,11 @@ at("line-form").addEventListener("submit", (event) => {
   event.preventDefault();
   call(at("line").value.trim());
   at("line").value = "";
+});
+at("file").addEventListener("change", async ({ target }) => {
+  const [file] = target.files;
+  if (file) await restore(await file.text());
+  target.value = "";
 });
 at("search").addEventListener("input", () => render());
 at("sort").addEventListener("change", () => render());

@@ -104,7 +104,7 @@ function drawList(node, items, draw) {
 function titled(name, kind, number) {
   return name ? [bdi(name), soft(` ${kind} ${number}`)] : [`${kind} ${number}`];
 }
-const spoken = (name, kind, number) => (name ? `${name}, ${kind} ${number}` : `${kind} ${number}`);
+const spoken = (name, kind, number) => (name ? `${name} ${kind} ${number}` : `${kind} ${number}`);
 
 // A member's line of the overview.
 function memberRow({ model, room }) {
@@ -116,8 +116,8 @@ function memberRow({ model, room }) {
   const seenWords = model.sees.map((s) => (s.source === null ? "nothing" : s.label)).join(", ");
   return el("div", { class: `member${odd ? " odd" : ""}${isOpen ? " open" : ""}`, role: "listitem", draggable: "true",
     "data-member": member, "data-room-of": room, "data-key": `member ${member}` },
-    el("input", { type: "checkbox", tabindex: -1, "data-select": member, checked: isChosen,
-      "aria-label": `Select ${who}` }),
+    el("label", { class: "pick" }, el("input", { type: "checkbox", tabindex: -1, "data-select": member,
+      checked: isChosen, "aria-label": `Select ${who}` })),
     el("button", { type: "button", class: "who", tabindex: isHere ? 0 : -1, "data-act": "open", "data-of": member,
       "data-key": `open ${member}`, "aria-expanded": String(isOpen), "aria-label": `Open ${who}` },
       ...titled(name, "member", member)),
@@ -201,4 +201,18 @@ function detailPanel(model) {
     ...part("Sees", model.slots.map(slotRow), "it has no slot"),
     ...part("Hears", model.gains.map((g) => gainRow(member, who, g)), "all at their own level"),
     model.hears ? chooses("Set gain of", `for ${who}`, `gain-of ${member}`) : "");
+}
+
+// A call of the history, and below the one that is clicked what leads to it.
+function callItem({ model: { number, operator, text, isUndone, isWalked, isOnWay, way } }) {
+  return el("li", { class: `${isUndone ? "undone" : ""}${isOnWay ? " way" : ""}` },
+    el("button", { type: "button", class: "call", "data-act": "walk", "data-of": number, "data-key": `walk ${number}`,
+      "aria-label": `${text} version ${number}`, "aria-expanded": String(isWalked) }, code(text)),
+    soft(`${isUndone ? "undone, " : ""}version ${number}, operator ${operator}`),
+    isWalked ? el("div", { class: "row" }, el("span", { class: "soft grow" }, way.text),
+      way.count ? does(way.label, "go", number, `to the desk behind version ${number}`) : "") : "");
+}
+function wayOf(way) {
+  const count = way.calls.length, word = way.word === "undo" ? "Undo" : "Redo";
+  return { text: wayWords(way, count === 0), count, label: count > 1 ? `${word} these ${count}` : word };
 }

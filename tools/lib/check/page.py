@@ -13,6 +13,7 @@ plain desk of the models.
 
 import concurrent.futures
 import contextlib
+import dataclasses
 import http.client
 import os
 import pathlib
@@ -26,10 +27,12 @@ import tempfile
 import time
 
 from lib.driving import drive, opened
-from lib.handling import handle, names_things, shows_stale, stays_small
+from lib.handling import handle, names_things, stays_small
+from lib.lasting import finds_another, keeps_the_desk, shows_stale
 from lib.make.page import WEB
 from lib.serving import Operator, free_port, settings
 from lib import standin
+from lib.models.desk import Log
 from lib.shared import CRATES, add_program_or_build, fail, found_program, try_command
 
 NEEDS = "a program, node and chromium, two minutes"
@@ -180,7 +183,8 @@ def is_as_told(page, operator, line):
     """The page has the desk and the history of the bridge, after a line."""
     check(page.desk() == shown(operator), f"after `{line}` the page shows another desk than the bridge")
     past = page.history()
-    check(past == shown(operator, "history 256"), f"after `{line}` the page has another history than the bridge: {past}")
+    is_same = past == shown(operator, "history 256")
+    check(is_same, f"after `{line}` the page has another history than the bridge: {past}")
     return past
 
 
@@ -391,7 +395,7 @@ def find_commands(browser):
 
 def try_functions():
     """The functions of the page that choose a click's line, by themselves."""
-    script = "".join((WEB / part).read_text() for part in ("lines.js", "overview.js", "history.js"))
+    script = "".join((WEB / part).read_text() for part in ("lines.js", "overview.js", "kept.js", "history.js"))
     with tempfile.TemporaryDirectory() as folder:
         path = pathlib.Path(folder) / "lines.js"
         path.write_text(script)
@@ -413,7 +417,7 @@ def browse(args, folder, page, operator):
 # What is tried by hand begins with this desk.
 DESK = [
     *("add-room 1", "add-room 2"),
-    *(f"add-member {it} 1 10.8.0.{it}:6000 pcmu {9000 + it} 0 0" for it in (10, 11)),
+    *(f"add-member {it} 1 10.8.0.{it}:6000 pcmu {9000 + it} 0 0" for it in (10, 11, 12)),
     *(
         "add-source 201 10 audio",
         "add-source 202 11 audio",
@@ -424,19 +428,39 @@ DESK = [
 ]
 
 
-def try_by_hand(args, folder, address, ask, go, come):
-    """Two browsers try what operators do by hand. `go` and `come` take the bridge away and back."""
+@dataclasses.dataclass
+class Bridge:
+    """What browsers are compared with, and what befalls them: another operator's call, the lines of `show` and of
+    `history N`, and how the bridge goes, comes back, and is replaced by one with another desk."""
+
+    ask: object
+    shown: object
+    told: object
+    go: object
+    come: object
+    other: object
+
+
+def try_by_hand(args, folder, address, bridge):
+    """Two browsers try what operators do by hand."""
+    ask = bridge.ask
     for line in DESK:
         check(ask(line).startswith("ok "), f"`{line}` is refused")
     one, two = opened(args.browser, folder, address), opened(args.browser, folder, address)
     try:
         handle(one, two, ask)
         names_things(one, two)
-        shows_stale(one, go, come)
+        keeps_the_desk(one, folder, ask, bridge.shown, bridge.told)
+        shows_stale(one, bridge.go, bridge.come)
+        finds_another(one, bridge.other, bridge.shown, bridge.told)
         stays_small(one, [standing(*size) for size in ((1, 2), (1, 64), (64, 16))])
     finally:
         one.close()
         two.close()
+
+
+# The desk of a bridge that comes in place of another one.
+OTHER = ["add-room 7", "add-member 70 7 10.8.1.70:6000 pcmu 9070 0 0", "add-source 270 70 audio", "mute 270"]
 
 
 def standing(rooms, size):
@@ -462,7 +486,16 @@ def by_model(args, folder):
     def sets(is_gone):
         one.is_gone = is_gone
 
-    try_by_hand(args, folder, address, one.ask, lambda: sets(True), lambda: sets(False))
+    def other():
+        sets(True)
+        time.sleep(1)
+        one.log = Log()
+        sets(False)
+        for line in OTHER:
+            check(one.ask(line).startswith("ok "), f"`{line}` is refused")
+
+    go, come = lambda: sets(True), lambda: sets(False)
+    try_by_hand(args, folder, address, Bridge(one.ask, one.shown, one.history, go, come, other))
     print("a session at the page over a plain desk, no fault")
 
 
@@ -483,6 +516,34 @@ def refuses_bad_names(args, folder):
         program.wait(timeout=600) == 4 and bad.read_text() == '{"member 10":',
         "a file without names isn't refused, or not kept",
     )
+
+
+def tried(args, folder, page, programs, words, port):
+    """Browsers at the page of a bridge that runs. Where the bridge is replaced, it is the last of the programs."""
+    it = [seated(programs[-1], port)]
+
+    def ask(line):
+        return it[0].ask(line)
+
+    def told(most):
+        return shown(it[0], f"history {most}")
+
+    def other():
+        it[0].tell("stop")
+        programs[-1].wait(timeout=30)
+        programs.append(started("confbridge", args.binary, words, args.seconds, folder))
+        it[0] = seated(programs[-1], port)
+        for line in OTHER:
+            check(ask(line).startswith("ok "), f"`{line}` is refused")
+
+    def signals(number):
+        return lambda: signal_all(programs[-1], number)
+
+    browse(args, folder, page, it[0])
+    clean(ask, lambda: shown(it[0]))
+    bridge = Bridge(ask, lambda: shown(it[0]), told, signals(signal.SIGSTOP), signals(signal.SIGCONT), other)
+    try_by_hand(args, folder, f"http://127.0.0.1:{page.port}/", bridge)
+    it[0].tell("quit")
 
 
 def session(args, folder):
@@ -511,14 +572,7 @@ def session(args, folder):
         programs.append(started("confbridge", args.binary, words, args.seconds, folder))
         finds_seats(page, programs[-1], tcp)
         if not args.http_only:
-            operator = seated(programs[-1], tcp)
-            browse(args, folder, page, operator)
-            clean(operator.ask, lambda: shown(operator))
-            stop = [
-                lambda number=number: signal_all(programs[-1], number) for number in (signal.SIGSTOP, signal.SIGCONT)
-            ]
-            try_by_hand(args, folder, f"http://127.0.0.1:{page.port}/", operator.ask, *stop)
-            operator.tell("quit")
+            tried(args, folder, page, programs, words, tcp)
         check(page.call("add-room 9")[1].startswith("ok "), "the page doesn't find the bridge that came back")
     finally:
         # `rt try` ends the program that it runs once it is asked to end, and leaves it behind where it is killed.

@@ -183,7 +183,8 @@ same(page.wayWords(page.wayTo(past, 2), true), "An undo takes it back.");
 
 // Calls name what has a name, and keep all of their words.
 const told = (line, names = named.names) => page.worded(names, desk, line).replace(/[\u2068\u2069]/g, "");
-same(["mute 201", "unmute 102", "mute 103", "move-member 10 1", "set-gain 11 201 128", "undo 4"].map((line) => told(line)),
+const untold = ["mute 201", "unmute 102", "mute 103", "move-member 10 1", "set-gain 11 201 128", "undo 4"];
+same(untold.map((line) => told(line)),
   ["mute Bob (201)", "unmute camera (102)", "mute 103", "move-member Bob (10) Sales (1)", "set-gain 11 Bob (201) 128",
     "undo 4"]);
 same(told("group mute 201 / give-floor 1 10"), "group mute Bob (201) / give-floor Sales (1) Bob (10)");
@@ -192,5 +193,18 @@ same(told("add-member 10 1 127.0.0.1:6000 pcmu 201 0 0"),
 same(told("add-slot 201 10 0 0 0"), "add-slot 201 Bob (10) 0 0 0");
 same(told("mute 201", { "source 201": "n".repeat(200) }), `mute ${"n".repeat(24)}\u2026 (201)`);
 same(page.worded({ "member 10": "\u0628" }, desk, "mute 201"), "mute \u2068\u0628\u2069 (201)");
+
+// A saved desk makes its rows again, as `tools/bridge keep` does.
+const kept = page.keptText(desk).trimEnd().split("\n");
+same([kept.length, kept[0].startsWith("# the desk of version 17: FIRST_SEQ"), kept[2]],
+  [3, true, "# end: 1 groups of 18 commands"]);
+same(kept[1].split(" / ").filter((part) => /add-member 11|add-slot 501|sub|gain|floor/.test(part)),
+  ["add-member 11 1 127.0.0.1:6002 l16 9002 994 0", "add-slot 501 11 0 999 1000", "subscribe 502 102",
+    "set-gain 11 201 128", "give-floor 1 10"]);
+same(page.groupsIn(page.keptText(desk)), [kept[1]]);
+same([kept[1], kept.slice(0, 2).join("\n"), "", "# end: 0 groups of 0 commands\nadd-room 1"].map(page.groupsIn),
+  [null, null, null, null]);
+const large = page.parseDesk(Array.from({ length: 130 }, (_, room) => `room ${room}`).join("\n"));
+same(page.groupsIn(page.keptText(large)).map((group) => group.split(" / ").length), [64, 64, 2]);
 
 console.log(`${tried} tries of the page's functions, no fault`);

@@ -1,0 +1,108 @@
+"""What lasts at the page: a desk that is saved and restored, and a bridge that is gone or comes back with another
+desk."""
+
+import pathlib
+import time
+
+from lib.driving import compare, settles
+from lib.shared import fail
+
+
+def check(holds, text):
+    if not holds:
+        fail(text)
+
+
+def without_numbers(rows):
+    """Rows without the places of members and the FIRST_SEQ of streams, which a restored desk has of its own."""
+    words = [row.split(" ") for row in rows]
+    return [one[:1] + one[2:-2] + one[-1:] if one[0] == "member" else one[:-2] + one[-1:] if one[0] == "slot" else one
+            for one in words]  # fmt: skip
+
+
+def downloaded(browser, folder):
+    """The text of the desk that the page saves."""
+    folder = pathlib.Path(folder) / f"saved{time.monotonic_ns()}"
+    folder.mkdir()
+    browser.ask("Browser.setDownloadBehavior", behavior="allow", downloadPath=str(folder))
+    browser.click('[data-act="save"]')
+    path = folder / "desk.txt"
+    for _ in range(100):
+        if path.exists() and path.read_text().endswith("commands\n"):
+            return path
+        time.sleep(0.1)
+    return fail("the page saves no desk")
+
+
+def gives(browser, path):
+    """Picks a file to restore."""
+    node = browser.ask("Runtime.evaluate", expression="document.getElementById('file')")["result"]["objectId"]
+    browser.ask("DOM.setFileInputFiles", files=[str(path)], objectId=node)
+
+
+def is_told(browser, text):
+    browser.wait(f"document.getElementById('notice').textContent.includes({text!r})")
+
+
+def keeps_the_desk(browser, folder, ask, shown, told):
+    """A saved desk is restored once the desk is empty, each group as one change, and nothing of it stays where one is
+    refused."""
+    before = browser.run("desk.rows")
+    path = downloaded(browser, folder)
+    gives(browser, path)
+    is_told(browser, "the desk has rooms")
+    version = browser.run("desk.version")
+    rooms = [row.split()[1] for row in before if row.startswith("room ")]
+    ask("group " + " / ".join(f"remove-room {room}" for room in rooms))
+    settles(browser, version + 1)
+    for text in "group add-room 1\n", path.read_text().replace("group", "grouped", 1), "":
+        bad = path.with_name("bad.txt")
+        bad.write_text(text)
+        gives(browser, bad)
+        is_told(browser, "that is no saved desk")
+        browser.run("notice(''), true")
+    bad.write_text("group add-room 1\ngroup add-room 2 / add-room 2\n# end: 2 groups of 3 commands\n")
+    gives(browser, bad)
+    is_told(browser, "Nothing stays")
+    settles(browser, version + 3)
+    compare(browser, version + 3, shown(), "a desk of which a group is refused")
+    gives(browser, path)
+    is_told(browser, "groups were accepted")
+    groups = sum(line.startswith("group ") for line in path.read_text().splitlines())
+    settles(browser, version + 3 + groups)
+    compare(browser, version + 3 + groups, shown(), "a restored desk")
+    rows = browser.run("desk.rows")
+    check(without_numbers(rows) == without_numbers(before), f"the restored desk is {rows}, not {before}")
+    check(rows != before, "a restored stream begins at the number that it had")
+    check(len(told(groups)) == groups + 1, "a restored group isn't one change")
+
+
+def shows_stale(browser, go, come):
+    """Once the bridge is gone, the desk is shown as stale and nothing of it can be pressed. `go` and `come` take the
+    bridge away and back."""
+    before = browser.run("desk.version")
+    go()
+    browser.wait("document.body.classList.contains('gone') && document.getElementById('main').inert")
+    told = browser.run("document.getElementById('status').textContent")
+    check(
+        told.startswith("The bridge is gone.") and "as it was at" in told,
+        f"once the bridge is gone the page says {told}",
+    )
+    browser.click('[data-key="open 10"]')
+    browser.run("document.getElementById('undo').click(), true")
+    browser.press("z", 90, modifiers=2)
+    come()
+    browser.wait("!document.body.classList.contains('gone')")
+    check(browser.run("desk.version") == before, "a click on a stale desk has changed it")
+
+
+def finds_another(browser, other, shown, told):
+    """A bridge that comes back with another desk is shown as it is now. `other` ends the bridge, and starts one with
+    another desk and history."""
+    other()
+    lines = shown()
+    settles(browser, int(lines[-1].split()[1]))
+    browser.wait(f"desk.rows.length === {len(lines) - 1}")
+    compare(browser, int(lines[-1].split()[1]), lines, "a bridge with another desk")
+    last = told(1)[0].split(" ", 2)[2]
+    browser.wait(f"buttons()[0] === {'Undo: ' + last!r}")
