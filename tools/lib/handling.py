@@ -31,17 +31,32 @@ def version(browser):
     return browser.run("desk.version")
 
 
-def reaches(browser, number, what):
-    """The page is at a version, and stays there."""
+def reaches(browser, number, what, more=0):
+    """The page is at a version, or so many later, and stays there. The version."""
     browser.wait(f"desk.version >= {number}")
     time.sleep(REST + 0.4)
-    check(version(browser) == number, f"{what} takes more than one call: {version(browser)} in place of {number}")
+    browser.wait("touched.size === 0 && !asking")
+    reached = version(browser)
+    check(number <= reached <= number + more, f"{what} takes more than one call: {reached} in place of {number}")
+    return reached
 
 
 def last_line(browser):
     """The last call in force, as the bridge tells it."""
     browser.wait("past?.version === desk.version")
     return browser.run("past.done[past.done.length - 1].line")
+
+
+def rests(moves):
+    """Does moves one after another. How often a slider may have rested between them: where this machine took too long
+    for a move."""
+    count, moment = 0, time.monotonic()
+    for move in moves:
+        move()
+        now = time.monotonic()
+        count += now - moment >= REST / 2
+        moment = now
+    return count
 
 
 def slides(browser, other):
@@ -53,22 +68,19 @@ def slides(browser, other):
     x, y, width, height = browser.place(slider)
     y += height / 2
     browser.mouse("mousePressed", x + width / 4, y)
-    for part in range(5, 13):
-        browser.mouse("mouseMoved", x + width * part / 16, y)
-        time.sleep(0.03)
-    browser.mouse("mouseMoved", x + width * 3 / 4, y + 60)
+    points = [(x + width * part / 16, y) for part in range(5, 13)] + [(x + width * 3 / 4, y + 60)]
+    more = rests([lambda at=at: browser.mouse("mouseMoved", *at) for at in points])
     browser.mouse("mouseReleased", x + width * 3 / 4, y + 60)
-    reaches(browser, before + 1, "a slider that is dragged")
+    reached = reaches(browser, before + 1, "a slider that is dragged", more)
     check(last_line(browser).startswith("set-gain 10 202 "), f"a dragged slider sends {last_line(browser)}")
     check(
         browser.run("desk.rows.filter((row) => row.startsWith('member '))") == rooms, "a dragged slider moves a member"
     )
     browser.run(f"document.querySelector({json.dumps(slider)}).focus(), true")
-    for _ in range(5):
-        browser.press("ArrowLeft", 37)
-    reaches(browser, before + 2, "a slider that five keys move")
-    browser.wait(f"document.activeElement.dataset.key === 'gain 10 202'")
-    other.wait(f"desk.version === {before + 2}")
+    more = rests([lambda: browser.press("ArrowLeft", 37)] * 5)
+    reached = reaches(browser, reached + 1, "a slider that five keys move", more)
+    browser.wait("document.activeElement.dataset.key === 'gain 10 202'")
+    other.wait(f"desk.version === {reached}")
 
 
 def keeps_what_is_typed(browser, ask):
@@ -123,9 +135,9 @@ def acts_on_many(browser):
     """By the pointer a member is muted and the mute taken back, and three members move as one change. All but one are
     muted as one, too."""
     before = version(browser)
-    browser.click('[data-key="toggle 11"]')
+    browser.click('[data-key="toggle 10"]')
     reaches(browser, before + 1, "a click on Mute")
-    check(last_line(browser) == "mute 202", f"Mute of member 11 sends {last_line(browser)}")
+    check(last_line(browser) == "mute 201", f"Mute of member 10 sends {last_line(browser)}")
     browser.click("#undo")
     reaches(browser, before + 2, "a click on Undo")
     for member in 10, 11, 12:

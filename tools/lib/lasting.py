@@ -4,7 +4,7 @@ desk."""
 import pathlib
 import time
 
-from lib.driving import compare, settles
+from lib.driving import settles
 from lib.shared import fail
 
 
@@ -40,6 +40,12 @@ def gives(browser, path):
     browser.ask("DOM.setFileInputFiles", files=[str(path)], objectId=node)
 
 
+def is_as_shown(browser, shown, what):
+    """The page has the rows of the bridge's `show`."""
+    rows, wanted = browser.run("desk.rows"), shown()[:-1]
+    check(rows == wanted, f"the page has {rows} of {what}, the bridge {wanted}")
+
+
 def is_told(browser, text):
     browser.wait(f"document.getElementById('notice').textContent.includes({text!r})")
 
@@ -65,12 +71,12 @@ def keeps_the_desk(browser, folder, ask, shown, told):
     gives(browser, bad)
     is_told(browser, "Nothing stays")
     settles(browser, version + 3)
-    compare(browser, version + 3, shown(), "a desk of which a group is refused")
+    is_as_shown(browser, shown, "a desk of which a group is refused")
     gives(browser, path)
     is_told(browser, "groups were accepted")
     groups = sum(line.startswith("group ") for line in path.read_text().splitlines())
     settles(browser, version + 3 + groups)
-    compare(browser, version + 3 + groups, shown(), "a restored desk")
+    is_as_shown(browser, shown, "a restored desk")
     rows = browser.run("desk.rows")
     check(without_numbers(rows) == without_numbers(before), f"the restored desk is {rows}, not {before}")
     check(rows != before, "a restored stream begins at the number that it had")
@@ -103,6 +109,6 @@ def finds_another(browser, other, shown, told):
     lines = shown()
     settles(browser, int(lines[-1].split()[1]))
     browser.wait(f"desk.rows.length === {len(lines) - 1}")
-    compare(browser, int(lines[-1].split()[1]), lines, "a bridge with another desk")
+    is_as_shown(browser, shown, "a bridge with another desk")
     last = told(1)[0].split(" ", 2)[2]
     browser.wait(f"buttons()[0] === {'Undo: ' + last!r}")
