@@ -259,7 +259,7 @@ def opened(command, folder, address):
     return browser
 
 
-def drive(command, folder, address, shown, told, ask, pictures=None):
+def drive(command, folder, address, shown, told, ask):
     """Goes through a session. `shown` tells what the bridge's `show` says, `told` what its `history N` says, and `ask`
     what it answers to another operator. How long each change took to the second browser."""
     one, two = opened(command, folder, address), opened(command, folder, address)
@@ -281,7 +281,7 @@ def drive(command, folder, address, shown, told, ask, pictures=None):
                 names_what_goes(browser, told)
         look(one, version)
         adds_music(one, shown)
-        look_at_sizes(one, pictures)
+        look_at_sizes(one)
         undoes_music(one, shown)
         by_keys(one, shown)
         undoes_others(one, shown, told, ask)
@@ -313,14 +313,9 @@ def look(browser, version):
         fail("a refused line has changed the desk")
 
 
-def look_at_sizes(browser, folder):
-    """The page, wide and narrow, light and dark: it fits the window, and its text stands out. With a folder, pictures
-    of it."""
-    if folder:
-        folder.mkdir(parents=True, exist_ok=True)
-    for name, width, dark in [
-        ("desk", 1280, False), ("desk_dark", 1280, True), ("desk_narrow", 400, False), ("desk_narrow_dark", 400, True)
-    ]:
+def look_at_sizes(browser):
+    """The page, wide and narrow, light and dark: it fits the window, and its text stands out."""
+    for width, dark in (1280, False), (1280, True), (400, False), (400, True):
         browser.shows(width, 900, dark)
         time.sleep(0.3)
         if browser.run("document.documentElement.scrollWidth > window.innerWidth"):
@@ -328,8 +323,6 @@ def look_at_sizes(browser, folder):
         text, ground = (browser.run(f"getComputedStyle(document.body).{what}") for what in ("color", "backgroundColor"))
         if contrast(text, ground) < 7:
             fail(f"at {width} pixels, dark: {dark}, the text is {text} on {ground}")
-        if folder:
-            browser.picture(folder / f"{name}.png")
     browser.shows(1280, 900)
 
 

@@ -24,7 +24,7 @@ h3 { font-size: .95rem; margin: 0; }
 #rooms-title { margin: 0 0 .3rem; }
 #status { margin: 0; color: var(--good); }
 #status.bad { color: var(--bad); font-weight: 600; }
-.gone main { opacity: .5; }
+.gone main, .gone .history-buttons { opacity: .5; }
 .nameless [data-act="name"] { display: none; }
 .finding { display: flex; flex-wrap: wrap; gap: .3rem .7rem; align-items: center; font-size: .9em; color: var(--soft); }
 .finding input, .finding select { color: var(--ink); }
@@ -79,6 +79,7 @@ button.fold { width: 24px; padding: 0; border: 0; background: none; }
 .count { white-space: nowrap; flex: 1 0 auto; }
 #detail h3 { margin: .6rem 0 .2rem; color: var(--soft); font-size: .88em; }
 #detail .row { display: flex; flex-wrap: wrap; gap: .3rem; align-items: center; padding: .15rem 0; }
+#detail > .soft { margin-right: .5rem; }
 #detail .row > .what { overflow-wrap: anywhere; }
 .slot { border: 1px dashed var(--line); border-radius: .4rem; padding: .2rem .4rem; margin: .15rem 0; }
 .add { display: flex; flex-wrap: wrap; gap: .4rem; align-items: end; padding-bottom: .6rem; margin-bottom: .6rem;

@@ -31,6 +31,7 @@ from lib.handling import handle, names_things, stays_small
 from lib.lasting import finds_another, keeps_the_desk, shows_stale
 from lib.make.page import WEB
 from lib.serving import Operator, free_port, settings
+from lib.showing import take_pictures
 from lib import standin
 from lib.models.desk import Log
 from lib.shared import CRATES, add_program_or_build, fail, found_program, try_command
@@ -70,7 +71,9 @@ def options(parser):
     parser.add_argument("--browser", default="chromium", metavar="COMMAND", help="the browser (%(default)s)")
     parser.add_argument("--http-only", action="store_true", help="try neither the page's functions nor a browser")
     parser.add_argument("--model", action="store_true", help="serve the page over a plain desk, without a program")
-    parser.add_argument("--pictures", type=pathlib.Path, metavar="FOLDER", help="where pictures of the page go")
+    parser.add_argument(
+        "--pictures", type=pathlib.Path, metavar="FOLDER", help="only take pictures of the page for documents"
+    )
 
 
 def check(holds, text):
@@ -409,7 +412,7 @@ def browse(args, folder, page, operator):
     """Two browsers go through a call."""
     address = f"http://127.0.0.1:{page.port}/"
     told = lambda most: shown(operator, f"history {most}")  # noqa: E731
-    times = drive(args.browser, folder, address, lambda: shown(operator), told, operator.ask, args.pictures)
+    times = drive(args.browser, folder, address, lambda: shown(operator), told, operator.ask)
     check(max(times) <= 0.5, f"a change took {max(times):.2f} s to the second browser")
     print(f"a second browser sees a step after {statistics.median(times):.2f} s, and {max(times):.2f} s at most")
 
@@ -480,7 +483,7 @@ def by_model(args, folder):
     page.load()
     keeps_names(page, names)
     address = f"http://127.0.0.1:{page.port}/"
-    drive(args.browser, folder, address, one.shown, one.history, one.ask, args.pictures)
+    drive(args.browser, folder, address, one.shown, one.history, one.ask)
     clean(one.ask, one.shown)
 
     def sets(is_gone):
@@ -587,7 +590,9 @@ def run(args):
         find_commands(args.browser)
         try_functions()
     with tempfile.TemporaryDirectory(ignore_cleanup_errors=True) as folder:
-        if args.model:
+        if args.pictures:
+            take_pictures(args.browser, folder, args.pictures)
+        elif args.model:
             by_model(args, folder)
         else:
             refuses_bad_names(args, folder)
