@@ -176,8 +176,9 @@ def asks_before(browser, ask):
         reaches(browser, wanted, "the removal of a room")
 
 
-def names_things(one, other):
-    """Names are shown to all, as text; two browsers that name at once lose nothing."""
+def names_things(one, other, path):
+    """Names are shown to all, as text; two browsers that name at once lose nothing. A name that can't be written to the
+    file at a path is told as such."""
     for what, name in NAMES.items():
         kind, number = what.split()
         one.run(f"rename('{kind}', {number}, {json.dumps(name)}), true")
@@ -204,6 +205,14 @@ def names_things(one, other):
     other.wait("!('source 201' in names) && names['room 1'] === 'Sales'")
     check("Sales" in other.run("document.querySelector('#room-1').textContent"), "a room's name isn't shown")
     check(other.run("sourceName(names, desk, 201)") == "Alice", "a source without a name hasn't its member's")
+    away = path.parent.with_name("out")
+    path.parent.rename(away)
+    one.run("rename('room', 2, 'Lobby'), true")
+    one.wait("document.getElementById('notice').textContent.includes(\"the file of names can't be written\")")
+    away.rename(path.parent)
+    check("room 2" not in json.loads(path.read_text()), "a name that wasn't kept is in the file")
+    one.run("rename('room', 2, 'Lobby'), true")
+    other.wait("names['room 2'] === 'Lobby'")
 
 
 def is_for_everyone(browser):

@@ -359,6 +359,7 @@ function setGone(is) {
 function gone(text) {
   since ??= new Date().toLocaleTimeString();
   past = null;
+  if (desk) renderHistory();
   status(desk ? `${text} Below is the desk as it was at ${since}.` : text, true);
   setGone(true);
 }

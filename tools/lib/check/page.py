@@ -54,6 +54,8 @@ CALLS = [
     "add-room 3 44100",
     "add-member 12 3 127.0.0.1:6004 l16 9003 0 0",
 ]
+# How many browsers ask at once.
+MANY = 32
 # Calls that the bridge refuses, with the number and the name of each refusal.
 REFUSED = [
     ("mute 999", "4 NoSource"),
@@ -117,9 +119,8 @@ def signal_all(program, number):
 class Page:
     """What a browser does."""
 
-    def __init__(self, port):
-        self.port = port
-        self.token = ""
+    def __init__(self, port, bridge=None):
+        self.port, self.bridge, self.token = port, bridge, ""
 
     def ask(self, method, path, body=None, fields=None):
         """The status, the fields and the body of a response."""
@@ -317,6 +318,12 @@ def keeps_names(page, path):
     away.rename(path.parent)
     check(told == (200, f"no {first + 1} Unsaved"), f"names that can't be written are told as {told}")
     check(page.names() == (first + 1, text) and path.read_text() == text, "names that were refused have changed some")
+    # What is written to /dev/full finds a disk without space.
+    path.with_name(f"{path.name}.new").symlink_to("/dev/full")
+    told = page.rename(head + longest)
+    path.with_name(f"{path.name}.new").unlink()
+    check(told == (200, f"no {first + 1} Unsaved"), f"names for which the disk has no space are told as {told}")
+    check(page.names() == (first + 1, text) and path.read_text() == text, "a full disk has changed some names")
     check(page.rename(head + longest) == (200, f"ok {first + 2}"), "a name of 800 octets is refused")
     check(page.rename(f"names {first + 2}\n{{}}") == (200, f"ok {first + 3}"), "no names are refused")
 
@@ -347,6 +354,24 @@ def takes_others(page, operator, version):
     check(page.ask("GET", "/")[0] == 200, "32 connections that have sent one octet keep others out")
     for one in slow:
         one.close()
+
+
+def serves_many(page, operator):
+    """32 browsers that ask at once all get the desk and the history. One whose connection has to make way for another
+    tries again, as the page's script does."""
+    wanted = shown(operator), shown(operator, "history 256")
+
+    def asks(_):
+        for turn in range(30):
+            try:
+                return page.desk(), page.history()
+            except (OSError, http.client.HTTPException):
+                time.sleep(0.05 * turn)
+        return None
+
+    with concurrent.futures.ThreadPoolExecutor(MANY) as pool:
+        for told in pool.map(asks, range(3 * MANY)):
+            check(told == wanted, f"one of {MANY} browsers at once is told {told}")
 
 
 def stands_silence(page, bridge, version):
@@ -434,7 +459,7 @@ DESK = [
 @dataclasses.dataclass
 class Bridge:
     """What browsers are compared with, and what befalls them: another operator's call, the lines of `show` and of
-    `history N`, and how the bridge goes, comes back, and is replaced by one with another desk."""
+    `history N`, how the bridge goes, comes back, and is replaced by one with another desk, and the file of names."""
 
     ask: object
     shown: object
@@ -442,6 +467,7 @@ class Bridge:
     go: object
     come: object
     other: object
+    names: pathlib.Path
 
 
 def try_by_hand(args, folder, address, bridge):
@@ -452,7 +478,7 @@ def try_by_hand(args, folder, address, bridge):
     one, two = opened(args.browser, folder, address), opened(args.browser, folder, address)
     try:
         handle(one, two, ask)
-        names_things(one, two)
+        names_things(one, two, bridge.names)
         keeps_the_desk(one, folder, ask, bridge.shown, bridge.told)
         shows_stale(one, bridge.go, bridge.come)
         finds_another(one, bridge.other, bridge.shown, bridge.told)
@@ -472,6 +498,16 @@ def standing(rooms, size):
     one = standin.Standin()
     standin.fill(one, rooms, size)
     return standin.serve(one).server_port, one.ask, 201_000
+
+
+class Told:
+    """What an operator is told of a plain desk."""
+
+    def __init__(self, one):
+        self.one = one
+
+    def shown(self, line="show"):
+        return self.one.shown() if line == "show" else self.one.history()
 
 
 def by_model(args, folder):
@@ -498,7 +534,8 @@ def by_model(args, folder):
             check(one.ask(line).startswith("ok "), f"`{line}` is refused")
 
     go, come = lambda: sets(True), lambda: sets(False)
-    try_by_hand(args, folder, address, Bridge(one.ask, one.shown, one.history, go, come, other))
+    serves_many(page, Told(one))
+    try_by_hand(args, folder, address, Bridge(one.ask, one.shown, one.history, go, come, other, names))
     print("a session at the page over a plain desk, no fault")
 
 
@@ -521,8 +558,9 @@ def refuses_bad_names(args, folder):
     )
 
 
-def tried(args, folder, page, programs, words, port):
+def tried(args, folder, page, programs, words, names):
     """Browsers at the page of a bridge that runs. Where the bridge is replaced, it is the last of the programs."""
+    port = page.bridge
     it = [seated(programs[-1], port)]
 
     def ask(line):
@@ -544,7 +582,7 @@ def tried(args, folder, page, programs, words, port):
 
     browse(args, folder, page, it[0])
     clean(ask, lambda: shown(it[0]))
-    bridge = Bridge(ask, lambda: shown(it[0]), told, signals(signal.SIGSTOP), signals(signal.SIGCONT), other)
+    bridge = Bridge(ask, lambda: shown(it[0]), told, signals(signal.SIGSTOP), signals(signal.SIGCONT), other, names)
     try_by_hand(args, folder, f"http://127.0.0.1:{page.port}/", bridge)
     it[0].tell("quit")
 
@@ -560,13 +598,14 @@ def session(args, folder):
         started("desk_page", args.page, addresses, args.seconds, folder),
     ]
     try:
-        page, operator = Page(port), seated(programs[0], tcp)
+        page, operator = Page(port, tcp), seated(programs[0], tcp)
         connected(programs[1], port).close()
         page.load()
         keeps_names(page, names)
         version = sees_others(page, operator, go_through(page, operator))
         refuses(page, operator, version)
         takes_others(page, operator, version)
+        serves_many(page, operator)
         stands_silence(page, programs[0], version)
         operator.tell("stop")
         programs[0].wait(timeout=30)
@@ -575,7 +614,7 @@ def session(args, folder):
         programs.append(started("confbridge", args.binary, words, args.seconds, folder))
         finds_seats(page, programs[-1], tcp)
         if not args.http_only:
-            tried(args, folder, page, programs, words, tcp)
+            tried(args, folder, page, programs, words, names)
         check(page.call("add-room 9")[1].startswith("ok "), "the page doesn't find the bridge that came back")
     finally:
         # `rt try` ends the program that it runs once it is asked to end, and leaves it behind where it is killed.
