@@ -153,8 +153,11 @@ class Folder:
             differs(where, wanted, out + err)
 
     def renew(self, where):
-        """Ends the bridge that runs, and starts another one as it was started."""
+        """Ends the bridge that runs, and starts another one as it was started, once the ports are free."""
         self.end()
+        end = time.monotonic() + PATIENCE
+        while not are_free() and time.monotonic() < end:
+            time.sleep(0.05)
         self.run(where, self.start)
 
     def end(self):
