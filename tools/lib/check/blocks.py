@@ -235,6 +235,9 @@ class Reader:
         elif language in HOMES:
             check_quoted(where, language, text)
             self.compared += 1
+        elif language == "text" and text.startswith("rt: must-fail "):
+            check_refused(where, text)
+            self.compared += 1
         elif language == "text" and self.commands:
             self.take_text(where, text)
 
