@@ -41,6 +41,14 @@ pub(crate) struct CallerWaker {
     pub(crate) from: Address,
 }
 
+impl CallerWaker {
+    /// Tells that the connection is refused.
+    pub(crate) fn note_refused<R: Wait>(&self, rt: &R, why: WhyFailed) {
+        let from = self.from;
+        self.front.teller.tell(rt, Event::Refused { from, why });
+    }
+}
+
 impl Wake for CallerWaker {
     fn wake(&self) {
         // If a wake fails, the next round comes at most 20 ms later.
@@ -48,8 +56,6 @@ impl Wake for CallerWaker {
     }
 
     fn note_busy<R: Wait>(&self, rt: &R) {
-        let from = self.from;
-        let why = WhyFailed::Busy;
-        self.front.teller.tell(rt, Event::Refused { from, why });
+        self.note_refused(rt, WhyFailed::Busy);
     }
 }

@@ -1,8 +1,9 @@
 //! The operators of a bridge, each connection on a thread of its own, at one shared desk.
 //!
 //! Begin with [`Operators::new`]. Where a seat is free ([`Operators::has_seat`]), [`Operators::enter`] a connection,
-//! make a [`Caller`] of its [`SocketLine`], and run [`Operators::talk`] in a thread; else [`turn_away`] the caller. The
-//! first good line takes a seat. `operator_lines::answer` over an [`AtDesk`] answers a line, and its contract says how.
+//! and open its [`CallerSocket`]. In a thread make a [`Caller`] of it as a line, and run [`Operators::talk`]. Else
+//! [`turn_away`] the caller. The first good line takes a seat. `operator_lines::answer` over an [`AtDesk`] answers a
+//! line, and its contract says how.
 //!
 //! A connection is a [`CallerLine`]: contracts see all that was done on it, and a test may script one. `talk` repeats
 //! [`Operators::greet`] until the connection has a seat, and then [`Operators::serve`]: one round each. Their contracts
@@ -13,7 +14,7 @@
 //! let operators = Operators::new(&rt, alloc, desk, seats);
 //! if operators.has_seat(&rt) {
 //!     let number = operators.enter(&rt)?;
-//!     let line = SocketLine::open(&rt, alloc, stream)?;
+//!     let line = CallerSocket::open(&rt, alloc, stream)?.into_line();
 //!     let mut caller = Caller::new(alloc, number, line)?;
 //!     operators.talk(&rt, alloc, &mut caller, &front); // in a thread of its own
 //! } else {
@@ -54,7 +55,7 @@ pub use self::line::CallerLine;
 pub use self::line_log::LineLog;
 pub use self::operators::Operators;
 pub use self::printing::print_answer;
-pub use self::socket_line::{SocketLine, turn_away};
+pub use self::socket_line::{CallerSocket, SocketLine, turn_away};
 pub use self::steps::Seating;
 pub use self::talking::Came;
 pub use self::wake::Wake;

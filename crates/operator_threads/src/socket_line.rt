@@ -19,20 +19,27 @@ use udp_wire::Moments;
 /// How many of the system's events are taken at a time.
 const EVENTS: usize = 4;
 
-/// The socket of an operator's connection as a line, with a poll and a clock of its own.
+/// The socket of an operator's connection, with a poll and a clock of its own. Nothing was done on it yet, so it may go
+/// to another thread: the prover doesn't find that a [`SocketLine`] may.
 #[derive(Drop)]
-pub struct SocketLine<R: Clock + Drop> {
+pub struct CallerSocket<R: Clock + Drop> {
     rt: R,
     poll: Poll,
     events: Events,
     stream: TcpStream,
     moments: Moments,
+}
+
+/// The socket of an operator's connection as a line.
+#[derive(Drop)]
+pub struct SocketLine<R: Clock + Drop> {
+    socket: CallerSocket<R>,
     /// What was done on it, in proofs alone.
     log: LineLog,
 }
 
-impl<R: Net + Clock + Copy + Drop> SocketLine<R> {
-    /// The line of a connection that was accepted. An `Err` is the system's or out of memory, and closes the
+impl<R: Net + Clock + Copy + Drop> CallerSocket<R> {
+    /// The socket of a connection that was accepted. An `Err` is the system's or out of memory, and closes the
     /// connection.
     pub fn open(rt: &R, alloc: Global, mut stream: TcpStream) -> io::Result<Self> {
         let poll = Poll::new(rt)?;
@@ -47,8 +54,17 @@ impl<R: Net + Clock + Copy + Drop> SocketLine<R> {
             events,
             stream,
             moments: Moments::begin(rt)?,
-            log: LineLog::new(),
         })
+    }
+}
+
+impl<R: Clock + Drop> CallerSocket<R> {
+    /// The socket as a line.
+    pub fn into_line(self) -> SocketLine<R> {
+        SocketLine {
+            socket: self,
+            log: LineLog::new(),
+        }
     }
 }
 
@@ -58,7 +74,7 @@ impl<R: Clock + Drop> SocketLine<R> {
         ensures few { octet_count result ≤ length chunk.new.items }
         ensures log { self.new.log ≡ self.old.log }
     {
-        let came = meaning(&self.stream.read(chunk));
+        let came = meaning(&self.socket.stream.read(chunk));
         came.at_most(chunk.len())
     }
 
@@ -67,7 +83,7 @@ impl<R: Clock + Drop> SocketLine<R> {
         ensures few { octet_count result ≤ length octets.now }
         ensures log { self.new.log ≡ self.old.log }
     {
-        let came = meaning(&self.stream.write(octets));
+        let came = meaning(&self.socket.stream.write(octets));
         came.at_most(octets.len())
     }
 }
@@ -78,15 +94,17 @@ impl<R: Clock + Drop> CallerLine for SocketLine<R> {
     ghost acts = { λ line. act_list line.log };
 
     fn wait(&mut self, longest: u64) -> io::Result<bool> {
-        self.poll
-            .poll(&mut self.events, Some(Duration::from_millis(longest)))?;
-        let any = !self.events.is_empty();
+        let longest_wait = Some(Duration::from_millis(longest));
+        self.socket
+            .poll
+            .poll(&mut self.socket.events, longest_wait)?;
+        let any = !self.socket.events.is_empty();
         self.log.note_wait(longest, any);
         Ok(any)
     }
 
     fn now(&mut self) -> io::Result<u64> {
-        let now = self.moments.now(&self.rt)?;
+        let now = self.socket.moments.now(&self.socket.rt)?;
         self.log.note_look(now);
         Ok(now)
     }
