@@ -147,8 +147,11 @@ fn told_of<'a, H: DeskBrand, R: Wait>(
     ensures rows { IfSome result.0 (λ f.
         f.version ≡ f.no → f.count ≡ count_of kind (desk_now (after_log H.start seat.new.seen))) }
 {
-    match desk.call(rt, alloc, seat, call) {
-        Ok(Answer::Accepted { no, notice }) => match read(reader, notice, kind) {
+    let Ok(answer) = desk.call(rt, alloc, seat, call) else {
+        return (None, reader);
+    };
+    match answer {
+        Answer::Accepted { no, notice } => match read(reader, notice, kind) {
             (Some(entry), reader) => {
                 let found = Found {
                     no,
@@ -159,7 +162,7 @@ fn told_of<'a, H: DeskBrand, R: Wait>(
             }
             (None, reader) => (None, reader),
         },
-        Ok(Answer::Refused { .. }) | Err(_) => (None, reader),
+        Answer::Refused { .. } => (None, reader),
     }
 }
 
