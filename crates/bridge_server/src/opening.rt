@@ -43,6 +43,8 @@ use udp_wire::{FrontFault, ReportTimer};
 use versions::LaneReader;
 
 /// Runs a bridge until an operator stops it.
+// The log has all its cells from the start: a cell's place is its call's number, and no call may be refused because its
+// log is out of memory.
 pub(crate) fn open<R>(
     rt: &R,
     alloc: Global,

@@ -14,6 +14,7 @@ ghost use Rattle.desk_http.specs.Admission.{
 /// How many connections are served at a time.
 const MAX_CLIENTS: usize = 32;
 /// How many milliseconds a connection has to send its whole request, where all places are taken.
+// A browser sends a whole request at once, head and body, so one limit bounds both.
 const REQUEST_TIMEOUT: u64 = 500;
 /// How many milliseconds a response may stall, where all places are taken.
 const STALL_TIMEOUT: u64 = 1_000;

@@ -31,6 +31,8 @@ use std::alloc::{AllocError, Global};
 const LONGEST_NAME: usize = 800;
 
 /// All names, and their version.
+// A change gives all names and the version that its browser saw, as an undo does. So two browsers lose no name, and the
+// contract says the whole of it.
 #[derive(Drop)]
 pub struct Names {
     /// The text of a JSON object, whose values are the names.

@@ -65,6 +65,9 @@ impl Service for Router {
 }
 
 /// Responds to a request with the bridge's reply to its line, and to a request with another line with an error.
+// The server of the kit calls a service and encodes its response in one step, and gives out neither the request nor the
+// encoder. So only a connection that reads the request once more can respond later, and no reply reaches another
+// request. A browser gets the desk in the bridge's own text, since JSON would need a definition of its own.
 #[derive(Clone, Copy)]
 pub struct Responder<'a> {
     /// How browsers name the page, and its token.

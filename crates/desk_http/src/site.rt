@@ -42,6 +42,8 @@ fn has_port_80(name: &[u8]) -> bool
 }
 
 /// Whether a host is this name, from which port 80 may be left out.
+// A host without a port means port 80 (RFC 9110 section 4.2.1). If the page took any port, each program that listens on
+// the machine could be a page of its origin.
 fn is_named(name: &[u8], host: &[u8]) -> bool
     ensures { result ≡ is_named name.now host.now }
 {

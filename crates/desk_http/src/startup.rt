@@ -32,6 +32,8 @@ pub fn loopback_addresses(bridge: SocketAddrV4, listen: SocketAddrV4) -> Option<
 }
 
 /// The limits of a request. A body of one octet more than a change of names is still read, so that the page refuses it.
+// The server keeps a body until it is whole, so only its own limit bounds the memory. A longer one gets 413 before the
+// page routes it.
 pub fn request_limits() -> Config
     ensures body { result.max_body_len ≡ longest_change + 1 }
     ensures head { result.limits.max_head_len ≡ 16384 }

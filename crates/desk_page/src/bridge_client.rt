@@ -79,6 +79,7 @@ fn connect_to<N: Net>(
 }
 
 /// A client of the bridge. It connects where a line has no connection, and has one request at a time.
+// Replies have no numbers: only their order joins them to lines, so the next line waits for the reply to this one.
 #[derive(Drop)]
 pub(crate) struct BridgeClient {
     stream: Option<TcpStream>,

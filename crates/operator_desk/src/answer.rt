@@ -17,6 +17,8 @@ pub enum Answer {
 }
 
 /// Why a call is refused.
+// No desk with one operator can answer `LogTaken`. So it is no `Refusal`, and no crate above has to treat a case that
+// can't come.
 #[derive(Clone, Copy, Debug, PartialEq, Eq)]
 pub enum Why {
     /// A desk with one operator refuses it too, for this reason.

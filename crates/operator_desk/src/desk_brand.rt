@@ -25,6 +25,8 @@ pub trait DeskBrand: Ledger {
 }
 
 /// The names of a new desk, which it uses up: no two desks have the same.
+// Whoever opens a desk hands these in, and picks the brand. So a notice, a seat or a share of another desk has another
+// type, or fails a condition.
 #[derive(Drop)]
 pub struct DeskNames {
     /// The ledger of its calls. It has a part for each operator.

@@ -239,6 +239,9 @@ impl<'a, H: DeskBrand> DeskInner<'a, H> {
     }
 
     /// Writes a prepared call into the log, publishes what it does, and carries it out. `None` if the desk has ended.
+    // A call's cell is written once, before its version is published. Where that fails neither yes nor no is true, so
+    // this call and all later ones have no answer. Where the cell is found written, the list stays staged for good:
+    // such a desk never publishes again.
     fn write<R: Wait>(
         &mut self,
         rt: &R,

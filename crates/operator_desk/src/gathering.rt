@@ -17,6 +17,8 @@ use versions::Notice;
 
 /// A copy of the log and the notice that it led to, if all seats are among these, none of them has seen more, and
 /// nothing else was written.
+// `LogTaken` comes with a token of a cell that no seat has seen. Without it, a body that answers `LogTaken` whenever
+// all seats are back would be proved.
 pub fn judged<'a, H: DeskBrand>(
     held: &DeskInner<'a, H>,
     alloc: Global,
@@ -62,6 +64,8 @@ fn foreign<'s, 'a, H: DeskBrand>(
 }
 
 /// The least operator whose seat is missing.
+// Seats aren't counted. With one of each operator there are at least as many as operators, and shares never have more
+// parts than the ledger.
 fn missing<'a, H: DeskBrand>(seats: &Vec<Seat<'a, H>>, count: u32) -> Option<u32>
     ensures some { IfSome result (λ op. IsFault H.cells count seats.now.items (GatherFault.SeatMissing op) None) }
     ensures none { IfNone result (AreAllIn count seats.now.items) }

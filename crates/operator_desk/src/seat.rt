@@ -18,6 +18,8 @@ use std::sync::ledger::Share;
 ///
 /// Contracts see its operator, the log that it has seen, how many of its calls were accepted, and an entry behind
 /// that log if it met one.
+// What a seat has seen shows which calls are its own. The share adds the sum: once all shares are merged, their amount
+// is the length of the log, so together the seats made all of its calls.
 #[derive(Drop)]
 pub struct Seat<'a, H: DeskBrand> {
     pub(crate) op: u32,
@@ -53,6 +55,8 @@ impl<'a, H: DeskBrand> Model for Seat<'a, H> {
 
 impl<'a, H: DeskBrand> Seat<'a, H> {
     /// A seat that has seen nothing, with capacity for tokens of the whole log.
+    // Tokens have no bytes, so their memory is taken at once. A call that is refused on out of memory has still shown
+    // the seat the whole log.
     pub(crate) fn new(
         alloc: Global,
         log: &'a Log,

@@ -136,6 +136,8 @@ impl<'a, H: DeskBrand> SharedDesk<'a, H> {
     ///
     /// A seat of another desk has no answer, and stays as it was. Nor has any call from the first one on that could not
     /// be published: to its seat an entry stands behind the log.
+    // A clause can name a desk by its types alone, so the desk asks whether the seat is its own. A wrong answer would
+    // be worse than none.
     pub fn call<R: Wait>(
         &self,
         rt: &R,
@@ -164,6 +166,7 @@ impl<'a, H: DeskBrand> SharedDesk<'a, H> {
     }
 
     /// The version, and a copy of its rows.
+    // The rows have to be read without the lock. Readers that look often enter by a `LaneReader` instead.
     pub fn rows<R: Wait>(&self, rt: &R, alloc: Global) -> Result<(u64, Rows), AllocError>
         ensures copy { IfOk result (λ r. IsCopy H.start r.0 r.1) }
         ensures good { IfOk result (λ r. good r.1 ≡ true) }

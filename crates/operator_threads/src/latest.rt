@@ -9,6 +9,8 @@ use std::marker::{Model, PhantomData};
 use versions::Notice;
 
 /// The latest notice that is known of a hall's desk. Contracts see that notice.
+// It has a lock of its own. The desk's is held while a call is judged and published, and a publish waits for readers,
+// of which the front is one: media would wait for an operator's call.
 #[derive(Drop)]
 pub(crate) struct Latest<H: DeskBrand> {
     notice: Notice,

@@ -6,6 +6,7 @@ ghost use Rattle.operator_threads.specs.Readiness.{after_events, longest_wait, n
 use crate::talking::Came;
 
 /// How many milliseconds a round waits at most. So each connection sees a `stop` within a second.
+// Nothing wakes all polls at once, so each connection looks by itself whether the bridge stops.
 const LONGEST_WAIT: u64 = 50;
 
 /// What a socket may do, as the system last reported.

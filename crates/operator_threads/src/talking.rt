@@ -15,6 +15,7 @@ use std::io::ErrorKind;
 /// How many nanoseconds a connection without a seat may be silent.
 const LONGEST_SILENCE: u64 = 30_000_000_000;
 /// How many nanoseconds a connection that ends has to take what waits for it, anew with each octet that it takes.
+// A seat has to come back from an operator who reads nothing, and a bridge has to end.
 const ENDING_TIME: u64 = 5_000_000_000;
 /// How many nanoseconds it has when the bridge is stopped.
 const STOPPING_TIME: u64 = 1_000_000_000;

@@ -103,6 +103,8 @@ impl Opened {
 /// What a publisher tells of a version: a reader that learnt it enters that version or a later one.
 ///
 /// Contracts see the publisher's name and the lists of edits that lead to the version.
+// The lists stand in proofs alone, so that a notice is copied and learnt without memory, and without a step that others
+// see.
 #[derive(Drop)]
 pub struct Notice {
     version: u64,

@@ -71,6 +71,8 @@ impl Publisher {
     }
 
     /// Keeps a list of edits for `publish`. It takes no memory, and never hands the list back.
+    // The list isn't added to the book or appended yet. The book takes nothing back, so a list that is refused later
+    // would stand there for good.
     pub fn stage(&mut self, edits: Edits<Edit>) -> Result<(), Edits<Edit>>
         requires none { self.old.staged ≡ None }
         requires fit { all_fit fits after (after_lists self.old.start self.old.lists) edits ≡ true }
@@ -96,6 +98,10 @@ impl Publisher {
     ///
     /// `None` if the publisher has ended: it adds no list, and the staged one is gone. It ends here where a copy of the
     /// rows has an owner too many or the edition finds no memory, which the calls before it have seen to.
+    // The clauses of `left_right` say nothing of capacity, and those of `Arc` nothing of who else is an owner. A call
+    // that tried again would hold the desk's lock for good, where a bridge can end and say so. It never comes to that:
+    // `start` publishes two editions that change nothing, so the log has capacity for two and never holds more. Before
+    // a copy is written, what is shown is published once more, so that both sides own the other copy.
     pub fn publish<R: Wait>(&mut self, rt: &R) -> Option<u64>
         requires staged { IsSome self.old.staged }
         requires below { length self.old.lists < 2 ^ 64 - 1 }

@@ -74,6 +74,9 @@ impl LaneReader {
     }
 
     /// Enters the version that was published last. The reader comes back if its publisher has ended.
+    // The rule of `left_right` speaks of what a reader saw itself, and a notice comes from elsewhere. So the number of
+    // lists is compared, and the reader comes back where too few are shown. That never happens while the publisher is
+    // there.
     pub fn enter(self) -> Result<Entered, LaneReader>
         ensures same { IfOk result (λ e. (e.publisher ≡ self.publisher) × (e.start ≡ self.start)) }
         ensures later { IfOk result (λ e. IsPrefix self.lists e.lists) }

@@ -24,6 +24,8 @@ pub(crate) type Lead = Writer<Edition, Edition, Option<Sight<Rows, Notice>>, Fol
 
 /// Shows editions, with two copies of the rows: that of the edition that is shown, and that of the one before. It isn't
 /// `Drop`: end it by `end`.
+// A struct of its own. The prover searches once whether a type may go to another thread, and gives up in silence at ten
+// million steps: in one struct with the publisher, a further field that names the rows may be one too many.
 pub struct Showing {
     pub(crate) writer: Writer<Edition, Edition, Option<Sight<Rows, Notice>>, Follows>,
     pub(crate) shown: Arc<Listed<Rows>>,
