@@ -3,7 +3,6 @@
 A body that always gives up for lack of memory meets any contract. So each public function of the libraries that takes
 an allocator has to run once where memory is ample: from a test, from a program of cases, or from the program itself on
 its stored input. Each such function has a line with what runs it, or NOWHERE; the status is 1 where one has nothing.
-Those of a crate that nothing uses yet read "not yet".
 
 Calls are found in the text, by names: `Type::name(..)`, `module::name(..)`, `name(..)`, and `x.name(..)` where the type
 of x is told nearby or one type alone has such a method. A trait's method that is called calls that of each type. What
@@ -23,14 +22,6 @@ PROGRAMS = {
 }  # fmt: skip
 # How the names of crates begin that have no function of a library.
 NO_LIBRARY = ("worked_", "x_tests_", "x_bench_")
-
-# What nothing runs yet where the prover sees it.
-NOT_YET = {
-    "call_history::CallLists::new",
-    "event_lines::Causes::new",
-    "event_lines::EventQueue::new",
-    "event_lines::LineBudget::new",
-}
 
 FN = re.compile(r"(?P<vis>pub(?:\(crate\))? |)(?:const )?fn (?P<name>\w+)\s*(?:<[^(]*>)?\(")
 IMPL = re.compile(
@@ -225,7 +216,7 @@ class Sources:
 def run(_args):
     sources = Sources()
     run_by = sources.run_by()
-    missing = [f for f in sources.allocating() if f not in run_by and str(f) not in NOT_YET]
+    missing = [f for f in sources.allocating() if f not in run_by]
     for f in sources.allocating():
-        print(f"{f}: {run_by.get(f, 'not yet' if str(f) in NOT_YET else 'NOWHERE')}")
+        print(f"{f}: {run_by.get(f, 'NOWHERE')}")
     return 1 if missing else 0
