@@ -40,8 +40,12 @@ pub fn call_and_close<'a, H: DeskBrand, N: PublisherName, P: Pace, S: Sink, R: T
     ensures { IfSome result (λ ends. SendByVersions H.start (calls_of seat.new.seen) (sent_by S.taken ends.items)) }
 {
     let mut bridge = bridge;
-    match desk.call(rt, alloc, seat, call) {
-        Ok(Answer::Accepted { no: _, notice }) => {
+    let Ok(answer) = desk.call(rt, alloc, seat, call) else {
+        bridge.close(rt);
+        return None;
+    };
+    match answer {
+        Answer::Accepted { no: _, notice } => {
             tell(&mut bridge, 0, notice.again(), moment);
             tell(&mut bridge, 1, notice.again(), moment);
             let ends = bridge.close(rt);
@@ -53,7 +57,7 @@ pub fn call_and_close<'a, H: DeskBrand, N: PublisherName, P: Pace, S: Sink, R: T
                 None
             }
         }
-        Ok(Answer::Refused { .. }) | Err(_) => {
+        Answer::Refused { .. } => {
             bridge.close(rt);
             None
         }
