@@ -6,6 +6,7 @@ use front_settings::{SettingsFault, faulty_part};
 use lane_wire::{SendCounts, SendFault};
 use std::alloc::AllocGlobal;
 use std::fmt;
+use std::io::Eprint;
 use std::rt::Runtime;
 use std::sync::Wait;
 use std::time::Clock;
@@ -54,7 +55,7 @@ pub fn tell_causes<R: Runtime + Wait>(rt: &R, teller: &Teller) {
 }
 
 /// Says what happens while a bridge runs, until it has ended: the body of a thread of its own.
-pub fn write_lines<R: Runtime + Wait + Clock>(rt: &R, lines: &mut EventLines) {
+pub fn write_lines<R: Eprint + Wait + Clock>(rt: &R, lines: &mut EventLines) {
     for _ in rt.forever() {
         let Some(event) = lines.next(rt) else {
             return;
