@@ -4,48 +4,64 @@ what they show. Compares the clauses and definitions that these pages and PROMIS
 A block of commands is run at the top of a clone, which is a folder of its own with links to the tree. The blocks of
 text after it have to appear on standard output or standard error: as the whole of it, or in DEBUGGING as lines one
 after the other. A bridge that a block starts runs on for the blocks after it; for `restore` it starts anew, without a
-row. A block of Rattle (`rust`) has to stand in a source, each paragraph of definitions (`antt`) in a specification, and
-an edit (`edit`) among the wrong bodies. What `./confbridge` says while it builds has to stand in that script. Blocks
-that nobody can run here are listed in this tool with their reasons, and named.
+row. Some blocks are run with other programs in the place of those that they name (tools/lib/substitutes.py): packages
+are installed into a folder, sound goes into a file, and what is built is not built again. Blocks that can't be run
+here are listed in this tool with their reasons, and named.
+
+A block of Rattle (`rust`) has to stand in a source, each paragraph of definitions (`antt`) in a specification, and an
+edit (`edit`) among the wrong bodies. What `./confbridge` says while it builds has to stand in that script.
 """
 
 import contextlib
 import functools
-import os
-import pathlib
 import re
 import shlex
-import signal
+import shutil
 import socket
-import subprocess
-import sys
 import tempfile
-import time
 
-from lib.shared import CRATES, ROOT, crates, fail
+from lib.clone_folder import Folder, are_free, differs
+from lib.shared import CRATES, ROOT, crates, fail, found_program
 
-NEEDS = "`rt`; ten seconds, and a minute or two where ./confbridge has to build one"
+NEEDS = "`rt`; half a minute, and a minute or two where ./confbridge has to build one"
 
-# The moment at which a bridge that listens began.
-MOMENT = re.compile(r"(?<=, ticks) from [0-9]+$", re.M)
 
-# Blocks that are not run, by how they begin, and why.
-NOT_RUN = {
-    "rt ci": "an hour; its last line is compared with the crates and edits that are there",
-    "(cd crates/desk_page && rt run": "ten minutes of proofs; `check page` tries the page",
-    "tools/bridge member 6000": "someone who listens, GStreamer",
-    "gst-launch-1.0": "a song, GStreamer, ffmpeg",
-    "cd crates/confbridge && rt run --cpu": "proofs, and root",
-    "tcpdump": "root",
-    "sudo": "root, packages",
-    "examples/fleet/dispatch.py": "Kamailio; `check fleet` runs it",
-    "podman-compose": "containers, both programs built",
-    "podman build": "containers, both programs built",
+def never():
+    return False
+
+
+def has(*programs):
+    """A question whether the machine has these programs."""
+    return lambda: all(shutil.which(one) for one in programs)
+
+
+def is_built(crate):
+    """A question whether `rt ci` or `rt run` has built a program from these sources."""
+    return lambda: found_program(None, crate) is not None
+
+
+def may_capture():
+    """Whether there is a tcpdump, and leave to capture."""
+    with contextlib.suppress(OSError), socket.socket(socket.AF_PACKET, socket.SOCK_RAW):
+        return shutil.which("tcpdump") is not None
+    return False
+
+
+# Blocks that are not run anywhere or everywhere, by how they begin: what they take, and whether it is here.
+TAKES = {
+    "rt ci": ("all proofs; its last line is compared with the crates and edits that are there", never),
+    "(cd crates/desk_page && rt run": ("the page's program, which `rt ci` builds", is_built("desk_page")),
+    "cd crates/confbridge && rt run --cpu": ("the program, which `rt ci` builds", is_built("confbridge")),
+    "tools/bridge member 6000": ("GStreamer", has("gst-launch-1.0")),
+    "tools/bridge member 6004": ("GStreamer and ffmpeg", has("gst-launch-1.0", "ffmpeg")),
+    "tcpdump": ("tcpdump, and leave to capture", may_capture),
+    "sudo apt": ("packages that the check doesn't install", never),
+    "examples/fleet/dispatch.py": ("Kamailio, and a fleet; `check fleet` runs both", never),
+    "podman-compose": ("containers, and both programs in them", never),
+    "podman build": ("containers, and both programs in them", never),
 }
-# Blocks that end with another status than 0.
-STATUSES = {"tools/bridge explain lacking.pcap\n": 1}
-# How many seconds a command may take: a build without proofs on a busy machine.
-PATIENCE = 1800
+# What stands in blocks that take the bridge of an earlier one.
+ASK_A_BRIDGE = ("127.0.0.1 7000", "127.0.0.1:7000", "tools/bridge member")
 
 
 def options(_parser):
@@ -72,100 +88,7 @@ def blocks(path):
 
 def reason(commands):
     """Why a block is not run, if there is a reason."""
-    return next((why for begin, why in NOT_RUN.items() if commands.startswith(begin)), None)
-
-
-def is_free(kind, port):
-    with socket.socket(type=kind) as one, contextlib.suppress(OSError):
-        if kind == socket.SOCK_STREAM:
-            one.setsockopt(socket.SOL_SOCKET, socket.SO_REUSEADDR, 1)
-        one.bind(("127.0.0.1", port))
-        return True
-    return False
-
-
-def are_free():
-    """Whether a bridge can have the ports of examples/serve.toml."""
-    return is_free(socket.SOCK_STREAM, 7000) and is_free(socket.SOCK_DGRAM, 5004)
-
-
-def differs(where, wanted, got):
-    fail(f"{where}: it shows\n{wanted}and what appears is\n{got}")
-
-
-class Folder:
-    """The top of a clone as blocks see it, and the bridges that run there."""
-
-    def __init__(self, path):
-        self.path, self.bridges, self.said = pathlib.Path(path), [], ("", "")
-        self.start, self.toolchain = None, toolchain()
-        for name in "README.md", "confbridge", "crates", "crates.txt", "docs", "examples", "tools":
-            (self.path / name).symlink_to(ROOT / name)
-        if not self.has("nc"):
-            self.write_nc()
-
-    def has(self, command):
-        return subprocess.run(
-            ["sh", "-c", f"command -v {command}"], stdout=subprocess.DEVNULL, check=False
-        ).returncode == 0
-
-    def write_nc(self):
-        """A netcat, where the machine has none."""
-        program = self.path / "bin" / "nc"
-        program.parent.mkdir()
-        program.write_text(
-            f"#!{sys.executable}\nimport socket, sys\none = socket.create_connection((sys.argv[1], int(sys.argv[2])))\n"
-            "one.sendall(sys.stdin.buffer.read())\none.shutdown(socket.SHUT_WR)\n"
-            "while octets := one.recv(65536):\n    sys.stdout.buffer.write(octets)\n"
-        )
-        program.chmod(0o755)
-
-    def started(self, commands):
-        """Commands that have begun, and the files with what they say."""
-        out, err = self.path / "said.out", self.path / "said.err"
-        environment = os.environ | {"PATH": f"{self.path / 'bin'}:{os.environ['PATH']}", "RATTLE": self.toolchain}
-        with out.open("w") as one, err.open("w") as other:
-            how = {"cwd": self.path, "stdin": subprocess.DEVNULL, "stdout": one, "stderr": other, "env": environment}
-            run = subprocess.Popen(["sh", "-ec", commands], start_new_session=True, **how)
-        return run, lambda: (out.read_text(), err.read_text())
-
-    def run(self, where, commands):
-        """Runs a block to its end, or until a bridge listens."""
-        run, said = self.started(commands)
-        end, is_bridge = time.monotonic() + PATIENCE, " serve " in commands
-        while run.poll() is None and not (is_bridge and "listening" in said()[1]) and time.monotonic() < end:
-            time.sleep(0.05)
-        self.said = said()
-        if is_bridge and run.poll() is None:
-            self.bridges.append(run)
-            self.start = commands
-        elif run.returncode != STATUSES.get(commands, 0):
-            fail(f"{where}: it ends with status {run.returncode}\n{''.join(self.said)}")
-
-    def shows(self, where, wanted, is_whole):
-        """Whether a block of text is what the last commands said, or a part of it."""
-        out, err = self.said
-        # What the start of a bridge says of its building is no part of what the bridge says.
-        own = "".join(line for line in err.splitlines(keepends=True) if not line.startswith("./confbridge: "))
-        # A bridge starts at another moment each time.
-        own, wanted = (MOMENT.sub(" from N", text) for text in (own, wanted))
-        if is_whole and wanted not in (out, own) or not is_whole and wanted not in f"\n{out}":
-            differs(where, wanted, out + err)
-
-    def renew(self, where):
-        """Ends the bridge that runs, and starts another one as it was started, once the ports are free."""
-        self.end()
-        end = time.monotonic() + PATIENCE
-        while not are_free() and time.monotonic() < end:
-            time.sleep(0.05)
-        self.run(where, self.start)
-
-    def end(self):
-        for one in self.bridges:
-            with contextlib.suppress(ProcessLookupError):
-                os.killpg(one.pid, signal.SIGTERM)
-            one.wait()
-        self.bridges = []
+    return next((why for begin, (why, is_here) in TAKES.items() if commands.startswith(begin) and not is_here()), None)
 
 
 def check_said(where, text):
@@ -193,12 +116,6 @@ def check_count(where, text):
     wanted = f"{len(crates()) + len(list(CRATES.glob('*/must-fail/*.edit')))} passed, 0 failed\n"
     if text != wanted:
         differs(where, text, wanted)
-
-
-def toolchain():
-    """The folder of the toolchain."""
-    page = subprocess.run(["rt", "doc"], stdout=subprocess.PIPE, check=True).stdout.decode().strip()
-    return str(pathlib.Path(page).parent)
 
 
 # Where a quotation has to stand, by the language of its block.
@@ -245,6 +162,8 @@ class Reader:
         self.commands, self.why = text, reason(text)
         if " serve " in text and not self.why and not (are_free() and not self.folder.bridges):
             self.why = "the ports 5004 and 7000, of which one is taken"
+        if any(one in text for one in ASK_A_BRIDGE) and not self.why and not self.folder.bridges:
+            self.why = "the bridge of an earlier block, which isn't run"
         if self.why:
             self.left_out.append(f"{where}: {shlex.quote(text.splitlines()[0])} takes {self.why}")
         else:

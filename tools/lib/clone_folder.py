@@ -1,0 +1,148 @@
+"""A folder that is the top of a clone to command blocks of documents, and what runs there."""
+
+import array
+import contextlib
+import os
+import pathlib
+import re
+import signal
+import socket
+import subprocess
+import time
+import urllib.request
+
+from lib.gateway_call.callers import level, write_tone
+from lib.shared import ROOT, fail
+from lib.substitutes import write_all
+
+# The moment at which a bridge that listens began.
+MOMENT = re.compile(r"(?<=, ticks) from [0-9]+$", re.M)
+# Blocks that end with another status than 0.
+STATUSES = {"tools/bridge explain lacking.pcap\n": 1}
+# How many seconds a command may take: a build without proofs on a busy machine.
+PATIENCE = 1800
+# What a block says once it serves, by a part of its commands.
+SERVES = {" serve ": "confbridge: listening", "crates/desk_page": "desk_page: http://"}
+
+
+def is_free(kind, port):
+    with socket.socket(type=kind) as one, contextlib.suppress(OSError):
+        if kind == socket.SOCK_STREAM:
+            one.setsockopt(socket.SOL_SOCKET, socket.SO_REUSEADDR, 1)
+        one.bind(("127.0.0.1", port))
+        return True
+    return False
+
+
+def are_free():
+    """Whether a bridge can have the ports of examples/serve.toml."""
+    return is_free(socket.SOCK_STREAM, 7000) and is_free(socket.SOCK_DGRAM, 5004)
+
+
+def differs(where, wanted, got):
+    fail(f"{where}: it shows\n{wanted}and what appears is\n{got}")
+
+
+def toolchain():
+    """The folder of the toolchain."""
+    page = subprocess.run(["rt", "doc"], stdout=subprocess.PIPE, check=True).stdout.decode().strip()
+    return str(pathlib.Path(page).parent)
+
+
+def samples(path):
+    """The whole samples of a file."""
+    octets = path.read_bytes()
+    return array.array("h", octets[: len(octets) // 2 * 2])
+
+
+def end_of(run):
+    """Ends commands, and what they left running."""
+    with contextlib.suppress(ProcessLookupError):
+        os.killpg(run.pid, signal.SIGTERM)
+    run.wait()
+
+
+class Folder:
+    """The top of a clone as blocks see it, and the bridges that run there."""
+
+    def __init__(self, path):
+        self.path, self.bridges, self.said = pathlib.Path(path), [], ("", "")
+        self.start, self.toolchain = None, toolchain()
+        for name in "README.md", "confbridge", "crates", "crates.txt", "docs", "examples", "tools":
+            (self.path / name).symlink_to(ROOT / name)
+        write_all(self.path)
+        # A song of two members, of one tone.
+        write_tone(self.path / "song.wav", 1000, 44100, 10)
+
+    def started(self, commands):
+        """Commands that have begun, and the files with what they say."""
+        out, err = self.path / "said.out", self.path / "said.err"
+        environment = os.environ | {"PATH": f"{self.path / 'bin'}:{os.environ['PATH']}", "RATTLE": self.toolchain}
+        with out.open("w") as one, err.open("w") as other:
+            how = {"cwd": self.path, "stdin": subprocess.DEVNULL, "stdout": one, "stderr": other, "env": environment}
+            run = subprocess.Popen(["sh", "-ec", commands], start_new_session=True, **how)
+        return run, lambda: (out.read_text(), err.read_text())
+
+    def run(self, where, commands):
+        """Runs a block to its end, or until it serves."""
+        # The seat of an operator is free a moment after the connection ended.
+        time.sleep(0.1)
+        (self.path / "heard").unlink(missing_ok=True)
+        run, said = self.started(commands)
+        begins = next((text for part, text in SERVES.items() if part in commands), None)
+        end = time.monotonic() + PATIENCE
+        while run.poll() is None and not (begins and begins in said()[1]) and time.monotonic() < end:
+            time.sleep(0.05)
+        self.said = said()
+        serves = begins and run.poll() is None
+        if not serves and run.returncode != STATUSES.get(commands, 0):
+            end_of(run)
+            fail(f"{where}: it ends with status {run.returncode}\n{''.join(self.said)}")
+        self.look(where, commands)
+        if serves and " serve " in commands:
+            self.bridges.append(run)
+            self.start = commands
+        else:
+            end_of(run)
+
+    def look(self, where, commands):
+        """Looks at what a block leads to that isn't printed."""
+        if (self.path / "heard").exists():
+            self.listen(where, 44100 if "44100" in commands else 8000)
+        if "crates/desk_page" in commands:
+            with urllib.request.urlopen("http://127.0.0.1:7080/", timeout=60) as page:
+                if b"<title>" not in page.read():
+                    fail(f"{where}: the page isn't there")
+        if commands.startswith("tcpdump") and not (self.path / "call.pcap").stat().st_size:
+            fail(f"{where}: it captures nothing")
+
+    def listen(self, where, rate):
+        """Whether the other member's tone of 1000 Hz was heard, and the own one of 440 Hz wasn't."""
+        sound, piece = samples(self.path / "heard"), rate // 4
+        pieces = [sound[at : at + piece] for at in range(0, len(sound) - piece, piece)]
+        other, own = (max((level(one, hertz, rate) for one in pieces[4:]), default=0) for hertz in (1000, 440))
+        if other < 0.05 or own > other / 10:
+            fail(f"{where}: the other's tone is heard at {other:.3f}, the own one at {own:.3f}")
+
+    def shows(self, where, wanted, is_whole):
+        """Whether a block of text is what the last commands said, or a part of it."""
+        out, err = self.said
+        # What the start of a bridge says of its building is no part of what the bridge says.
+        own = "".join(line for line in err.splitlines(keepends=True) if not line.startswith("./confbridge: "))
+        # A bridge starts at another moment each time.
+        own, wanted = (MOMENT.sub(" from N", text) for text in (own, wanted))
+        if is_whole and wanted not in (out, own) or not is_whole and wanted not in f"\n{out}":
+            differs(where, wanted, out + err)
+
+    def renew(self, where):
+        """Ends the bridge that runs, and starts another one as it was started, once the ports are free."""
+        self.end()
+        end = time.monotonic() + PATIENCE
+        while not are_free() and time.monotonic() < end:
+            time.sleep(0.05)
+        self.run(where, self.start)
+
+    def end(self):
+        for one in self.bridges:
+            end_of(one)
+        self.bridges = []
