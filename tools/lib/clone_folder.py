@@ -2,6 +2,7 @@
 
 import array
 import contextlib
+import json
 import os
 import pathlib
 import re
@@ -15,14 +16,18 @@ from lib.gateway_call.callers import level, write_tone
 from lib.shared import ROOT, fail
 from lib.substitutes import write_all
 
-# The moment at which a bridge that listens began.
-MOMENT = re.compile(r"(?<=, ticks) from [0-9]+$", re.M)
+# What differs each time: the moment at which a bridge that listens began, and the SSRC of a mix that an agent chose.
+ANY = re.compile(r'(?<=, ticks from )[0-9]+$|(?<="mix": )[0-9]+', re.M)
 # Blocks that end with another status than 0.
 STATUSES = {"tools/bridge explain lacking.pcap\n": 1}
 # How many seconds a command may take: a build without proofs on a busy machine.
 PATIENCE = 1800
-# What a block says once it serves, by a part of its commands.
-SERVES = {" serve ": "confbridge: listening", "crates/desk_page": "desk_page: http://"}
+# What a block says once it serves, by a part of its commands, and whether it runs on for the blocks after it.
+SERVES = {
+    "fleet/fleet.py &": ("fleet: the agent", True),
+    " serve ": ("confbridge: listening", True),
+    "crates/desk_page": ("desk_page: http://", False),
+}
 
 
 def is_free(kind, port):
@@ -89,17 +94,18 @@ class Folder:
         time.sleep(0.1)
         (self.path / "heard").unlink(missing_ok=True)
         run, said = self.started(commands)
-        begins = next((text for part, text in SERVES.items() if part in commands), None)
+        begins, runs_on = next((how for part, how in SERVES.items() if part in commands), (None, False))
         end = time.monotonic() + PATIENCE
-        while run.poll() is None and not (begins and begins in said()[1]) and time.monotonic() < end:
+        while time.monotonic() < end and not (begins in "".join(said()) if begins else run.poll() is not None):
+            if run.poll():
+                break
             time.sleep(0.05)
         self.said = said()
-        serves = begins and run.poll() is None
-        if not serves and run.returncode != STATUSES.get(commands, 0):
+        if run.poll() != STATUSES.get(commands, 0) and not (begins and begins in "".join(self.said)):
             end_of(run)
             fail(f"{where}: it ends with status {run.returncode}\n{''.join(self.said)}")
         self.look(where, commands)
-        if serves and " serve " in commands:
+        if runs_on:
             self.bridges.append(run)
             self.start = commands
         else:
@@ -113,8 +119,20 @@ class Folder:
             with urllib.request.urlopen("http://127.0.0.1:7080/", timeout=60) as page:
                 if b"<title>" not in page.read():
                     fail(f"{where}: the page isn't there")
+        if "fleet/fleet.py" in commands:
+            self.wait_for_bridges(where)
         if commands.startswith("tcpdump") and not (self.path / "call.pcap").stat().st_size:
             fail(f"{where}: it captures nothing")
+
+    def wait_for_bridges(self, where):
+        """Waits until the agent of a fleet knows its two bridges."""
+        end = time.monotonic() + 60
+        while time.monotonic() < end:
+            with urllib.request.urlopen("http://127.0.0.1:8095/", timeout=60) as fleet:
+                if len(json.load(fleet)["bridges"]) == 2:
+                    return
+            time.sleep(0.1)
+        fail(f"{where}: the agent doesn't know two bridges")
 
     def listen(self, where, rate):
         """Whether the other member's tone of 1000 Hz was heard, and the own one of 440 Hz wasn't."""
@@ -129,9 +147,8 @@ class Folder:
         out, err = self.said
         # What the start of a bridge says of its building is no part of what the bridge says.
         own = "".join(line for line in err.splitlines(keepends=True) if not line.startswith("./confbridge: "))
-        # A bridge starts at another moment each time.
-        own, wanted = (MOMENT.sub(" from N", text) for text in (own, wanted))
-        if is_whole and wanted not in (out, own) or not is_whole and wanted not in f"\n{out}":
+        out, own, wanted = (ANY.sub("N", text).rstrip("\n") for text in (out, own, wanted))
+        if is_whole and wanted not in (out, own) or not is_whole and wanted not in f"\n{out}\n{own}":
             differs(where, wanted, out + err)
 
     def renew(self, where):

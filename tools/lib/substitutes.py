@@ -1,9 +1,9 @@
 """Programs in the place of those that command blocks of documents name, in a folder that comes first on the path.
 
 `nc` is a netcat, where the machine has none. `sudo` runs a command with the folders /etc and /usr/local of the system
-in a folder of the check, and `systemctl enable` says what its units lack there. `rt run` runs the program that is
-built. `gst-launch-1.0` and `tcpdump` are the machine's own and end by themselves; where the first should play on a
-sound card, it writes samples into the file `heard`.
+in a folder of the check, and `systemctl enable` says what its units lack there. `apt` installs nothing, and starts an
+etcd, as Debian does. `rt run` runs the program that is built. `gst-launch-1.0` and `tcpdump` are the machine's own and
+end by themselves; where the first should play on a sound card, it writes samples into the file `heard`.
 """
 
 import pathlib
@@ -12,7 +12,7 @@ import shutil
 import sys
 
 # How many seconds programs run that would go on until someone stops them.
-SOUND_SECONDS, CAPTURE_SECONDS = 6, 1
+SOUND_SECONDS, CAPTURE_SECONDS = 5, 1
 
 NC = """#!{python}
 import socket, sys
@@ -37,6 +37,15 @@ import sys
 sys.path.insert(0, "{tools}")
 from lib.substitutes import enable
 enable("{system}", sys.argv[1:])
+"""
+
+APT = """#!/bin/sh
+case " $* " in
+*' etcd-server '*)
+    etcd --data-dir {etcd} > {etcd}.log 2>&1 &
+    exec curl -s --retry 30 --retry-delay 1 --retry-connrefused http://127.0.0.1:2379/health > /dev/null
+    ;;
+esac
 """
 
 RT = """#!/bin/sh
@@ -70,7 +79,7 @@ def write_all(folder):
     system = folder / "system"
     for name in "bin", "system/etc/systemd/system", "system/usr/local/bin", "system/usr/local/lib":
         (folder / name).mkdir(parents=True)
-    texts = {"sudo": SUDO, "systemctl": SYSTEMCTL, "rt": RT}
+    texts = {"sudo": SUDO, "systemctl": SYSTEMCTL, "apt": APT, "rt": RT}
     ending = {"gst-launch-1.0": (GSTREAMER, SOUND_SECONDS), "tcpdump": (TCPDUMP, CAPTURE_SECONDS)}
     if not shutil.which("nc"):
         texts["nc"] = NC
@@ -79,6 +88,7 @@ def write_all(folder):
         "tools": pathlib.Path(__file__).parents[1],
         "system": system,
         "heard": folder / "heard",
+        "etcd": folder / "etcd",
         "rt": shutil.which("rt"),
     }
     for name, text in texts.items():

@@ -2,11 +2,11 @@
 what they show. Compares the clauses and definitions that these pages and PROMISES quote with the sources.
 
 A block of commands is run at the top of a clone, which is a folder of its own with links to the tree. The blocks of
-text after it have to appear on standard output or standard error: as the whole of it, or in DEBUGGING as lines one
-after the other. A bridge that a block starts runs on for the blocks after it; for `restore` it starts anew, without a
-row. Some blocks are run with other programs in the place of those that they name (tools/lib/substitutes.py): packages
-are installed into a folder, sound goes into a file, and what is built is not built again. Blocks that can't be run
-here are listed in this tool with their reasons, and named.
+text after it have to appear on standard output or standard error: as the whole of it, or in DEBUGGING and the examples
+as lines one after the other. A bridge that a block starts runs on for the blocks after it; for `restore` it starts
+anew, without a row. Some blocks are run with other programs in the place of those that they name
+(tools/lib/substitutes.py): units are installed into a folder, sound goes into a file, and what is built is not built
+again. Blocks that can't be run here are listed in this tool with their reasons, and named.
 
 A block of Rattle (`rust`) has to stand in a source, each paragraph of definitions (`antt`) in a specification, and an
 edit (`edit`) among the wrong bodies. What `./confbridge` says while it builds has to stand in that script.
@@ -15,12 +15,11 @@ edit (`edit`) among the wrong bodies. What `./confbridge` says while it builds h
 import contextlib
 import functools
 import re
-import shlex
 import shutil
 import socket
 import tempfile
 
-from lib.clone_folder import Folder, are_free, differs
+from lib.clone_folder import Folder, are_free, differs, is_free
 from lib.shared import CRATES, ROOT, crates, fail, found_program
 
 NEEDS = "`rt`; half a minute, and a minute or two where ./confbridge has to build one"
@@ -47,7 +46,13 @@ def may_capture():
     return False
 
 
-# Blocks that are not run anywhere or everywhere, by how they begin: what they take, and whether it is here.
+def may_have_etcd():
+    """Whether there are etcd and curl, and no other etcd runs."""
+    return has("etcd", "curl")() and is_free(socket.SOCK_STREAM, 2379)
+
+
+# Blocks that are not run, or not everywhere, by how they begin (the first that fits): what they take, and whether that
+# is here.
 TAKES = {
     "rt ci": ("all proofs; its last line is compared with the crates and edits that are there", never),
     "(cd crates/desk_page && rt run": ("the page's program, which `rt ci` builds", is_built("desk_page")),
@@ -55,13 +60,14 @@ TAKES = {
     "tools/bridge member 6000": ("GStreamer", has("gst-launch-1.0")),
     "tools/bridge member 6004": ("GStreamer and ffmpeg", has("gst-launch-1.0", "ffmpeg")),
     "tcpdump": ("tcpdump, and leave to capture", may_capture),
+    "sudo apt install etcd-server": ("etcd and curl, and etcd's port", may_have_etcd),
     "sudo apt": ("packages that the check doesn't install", never),
     "examples/fleet/dispatch.py": ("Kamailio, and a fleet; `check fleet` runs both", never),
     "podman-compose": ("containers, and both programs in them", never),
     "podman build": ("containers, and both programs in them", never),
 }
 # What stands in blocks that take the bridge of an earlier one.
-ASK_A_BRIDGE = ("127.0.0.1 7000", "127.0.0.1:7000", "tools/bridge member")
+ASK_A_BRIDGE = ("127.0.0.1 7000", "127.0.0.1:7000", "127.0.0.1:8095/", "tools/bridge member")
 
 
 def options(_parser):
@@ -88,7 +94,8 @@ def blocks(path):
 
 def reason(commands):
     """Why a block is not run, if there is a reason."""
-    return next((why for begin, (why, is_here) in TAKES.items() if commands.startswith(begin) and not is_here()), None)
+    why, is_here = next((how for begin, how in TAKES.items() if commands.startswith(begin)), (None, None))
+    return why if why and not is_here() else None
 
 
 def check_said(where, text):
@@ -143,7 +150,7 @@ class Reader:
     """Goes through the blocks of a document."""
 
     def __init__(self, folder, path):
-        self.folder, self.is_whole = folder, path.name != "DEBUGGING.md"
+        self.folder, self.is_whole = folder, path.name != "DEBUGGING.md" and "examples" not in path.parts
         self.commands, self.why, self.compared, self.left_out = None, None, 0, []
 
     def take(self, where, language, text):
@@ -165,7 +172,7 @@ class Reader:
         if any(one in text for one in ASK_A_BRIDGE) and not self.why and not self.folder.bridges:
             self.why = "the bridge of an earlier block, which isn't run"
         if self.why:
-            self.left_out.append(f"{where}: {shlex.quote(text.splitlines()[0])} takes {self.why}")
+            self.left_out.append(f"{where}: `{text.splitlines()[0]}` takes {self.why}")
         else:
             self.run_commands(where, text)
             self.compared += 1
@@ -189,7 +196,7 @@ class Reader:
 
 def run(_args):
     compared, left_out = 0, []
-    with tempfile.TemporaryDirectory() as path:
+    with tempfile.TemporaryDirectory(ignore_cleanup_errors=True) as path:
         folder = Folder(path)
         try:
             for document in documents():
