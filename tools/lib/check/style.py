@@ -3,7 +3,8 @@
 Documents are README.md, CONTRIBUTING.md, docs/ and the pages of examples/. The status is 1 where one has a median
 sentence of over 16 words, a sentence of over 38, a line over 120 columns, or a link that leads nowhere. Code, tables,
 headings and lists of names are no sentences, and a piece of code within a sentence counts as one word. Tables and code
-may be wider. How many lines a document has doesn't matter.
+may be wider. How many lines a document has doesn't matter. The status is 1 as well where a measured figure of README
+stands in another document, too: one has it, and the other links there.
 
 Of sources the status is 1 where a function of crates/*/src has over 30 lines or over five parameters beside `self`,
 `rt` and `alloc`, or a file over 300 lines (of the page its web files count, not what is made of them), and where a name
@@ -155,6 +156,24 @@ def check_documents():
         good = good and not faults
         print("".join(f"  {fault}\n" for fault in faults), end="")
     return good
+
+
+# A measured figure. Milliseconds, seconds and octets are limits as well, which are said where a reader needs them.
+FIGURE = re.compile(r"(?<![\w.,])([0-9]+(?:[.,][0-9]+)*) (ns|us|minutes|kB|MB|GB|percent)\b")
+
+
+def figures(path):
+    return {" ".join(found) for found in FIGURE.findall(without_fences(path.read_text()))}
+
+
+def check_figures():
+    """Prints which measured figures of README another document has, too. Whether none does."""
+    readme, *others = documents()
+    doubled = [(one, path) for path in others for one in sorted(figures(readme) & figures(path))]
+    print(f"{len(doubled)} figures of README in other documents")
+    for figure, path in doubled:
+        print(f"       {figure}: {path.relative_to(ROOT)}")
+    return not doubled
 
 
 # Sources
@@ -357,7 +376,7 @@ def check_order():
 
 
 def run(args):
-    good = [args.sources or check_documents()]
+    good = [args.sources or check_documents(), args.sources or check_figures()]
     if not args.docs:
         print()
         good += [check_sources(), check_lines(), check_names(), check_examples(), check_made(), check_edits()]
