@@ -39,9 +39,10 @@ def is_free(kind, port):
     return False
 
 
-def are_free():
-    """Whether a bridge can have the ports of examples/serve.toml."""
-    return is_free(socket.SOCK_STREAM, 7000) and is_free(socket.SOCK_DGRAM, 5004)
+def are_free(udp=(5004,), tcp=(7000,)):
+    """Whether programs can have these ports: by themselves those of examples/serve.toml."""
+    kinds = (socket.SOCK_DGRAM, udp), (socket.SOCK_STREAM, tcp)
+    return all(is_free(kind, port) for kind, ports in kinds for port in ports)
 
 
 def differs(where, wanted, got):
@@ -94,21 +95,23 @@ class Folder:
         time.sleep(0.1)
         (self.path / "heard").unlink(missing_ok=True)
         run, said = self.started(commands)
+        self.bridges.append(run)
         begins, runs_on = next((how for part, how in SERVES.items() if part in commands), (None, False))
-        end = time.monotonic() + PATIENCE
-        while time.monotonic() < end and not (begins in "".join(said()) if begins else run.poll() is not None):
-            if run.poll():
-                break
+        end, is_good = time.monotonic() + PATIENCE, False
+        while not is_good and time.monotonic() < end:
             time.sleep(0.05)
-        self.said = said()
-        if run.poll() != STATUSES.get(commands, 0) and not (begins and begins in "".join(self.said)):
-            end_of(run)
+            status, self.said = run.poll(), said()
+            is_good = begins in "".join(self.said) if begins else status == STATUSES.get(commands, 0)
+            # A shell that ends may leave programs that serve.
+            if status or status == 0 and not commands.endswith("&\n"):
+                break
+        if not is_good:
             fail(f"{where}: it ends with status {run.returncode}\n{''.join(self.said)}")
         self.look(where, commands)
         if runs_on:
-            self.bridges.append(run)
             self.start = commands
         else:
+            self.bridges.remove(run)
             end_of(run)
 
     def look(self, where, commands):

@@ -17,50 +17,72 @@ import functools
 import re
 import shutil
 import socket
+import subprocess
 import tempfile
 
-from lib.clone_folder import Folder, are_free, differs, is_free
+from lib.clone_folder import Folder, are_free, differs
 from lib.shared import CRATES, ROOT, crates, fail, found_program
 
 NEEDS = "`rt`; half a minute, and a minute or two where ./confbridge has to build one"
+
+
+def has(*programs):
+    """Whether the machine has these programs."""
+    return all(shutil.which(one) for one in programs)
+
+
+def is_built(crate):
+    """Whether `rt ci` or `rt run` has built a program from these sources."""
+    return found_program(None, crate) is not None
+
+
+def may_capture():
+    """Whether there is a tcpdump, and leave to capture."""
+    with contextlib.suppress(OSError), socket.socket(socket.AF_PACKET, socket.SOCK_RAW):
+        return has("tcpdump")
+    return False
+
+
+def plays(*elements):
+    """Whether there is a GStreamer that has these elements."""
+    inspect = ["gst-inspect-1.0", "--exists"]
+    return has("gst-launch-1.0", inspect[0]) and all(
+        subprocess.run([*inspect, one], check=False).returncode == 0 for one in elements
+    )
+
+
+def may_speak():
+    ports = 6000, 6002, 6100, 6102, 6200
+    return plays("mulawenc", "rtppcmupay", "rtppcmudepay", "rtpjitterbuffer") and are_free(udp=ports, tcp=())
+
+
+def may_sing():
+    ports = 6004, 6006, 6104, 6106, 6204
+    return has("ffmpeg") and plays("rtpL16pay", "rtpL16depay", "rtpjitterbuffer") and are_free(udp=ports, tcp=())
+
+
+def may_have_page():
+    return is_built("desk_page") and are_free(udp=(), tcp=(7080,))
+
+
+def may_have_fleet():
+    return has("etcd", "curl") and are_free(udp=(5006,), tcp=(7001, 2379, 2380, 8095))
 
 
 def never():
     return False
 
 
-def has(*programs):
-    """A question whether the machine has these programs."""
-    return lambda: all(shutil.which(one) for one in programs)
-
-
-def is_built(crate):
-    """A question whether `rt ci` or `rt run` has built a program from these sources."""
-    return lambda: found_program(None, crate) is not None
-
-
-def may_capture():
-    """Whether there is a tcpdump, and leave to capture."""
-    with contextlib.suppress(OSError), socket.socket(socket.AF_PACKET, socket.SOCK_RAW):
-        return shutil.which("tcpdump") is not None
-    return False
-
-
-def may_have_etcd():
-    """Whether there are etcd and curl, and no other etcd runs."""
-    return has("etcd", "curl")() and is_free(socket.SOCK_STREAM, 2379)
-
-
 # Blocks that are not run, or not everywhere, by how they begin (the first that fits): what they take, and whether that
 # is here.
 TAKES = {
     "rt ci": ("all proofs; its last line is compared with the crates and edits that are there", never),
-    "(cd crates/desk_page && rt run": ("the page's program, which `rt ci` builds", is_built("desk_page")),
-    "cd crates/confbridge && rt run --cpu": ("the program, which `rt ci` builds", is_built("confbridge")),
-    "tools/bridge member 6000": ("GStreamer", has("gst-launch-1.0")),
-    "tools/bridge member 6004": ("GStreamer and ffmpeg", has("gst-launch-1.0", "ffmpeg")),
+    "(cd crates/desk_page && rt run": ("the page's program, which `rt ci` builds, and its port", may_have_page),
+    "cd crates/confbridge && rt run --cpu": ("the program, which `rt ci` builds", lambda: is_built("confbridge")),
+    "tools/bridge member 6000": ("GStreamer, and the members' ports", may_speak),
+    "tools/bridge member 6004": ("GStreamer, ffmpeg, and the members' ports", may_sing),
     "tcpdump": ("tcpdump, and leave to capture", may_capture),
-    "sudo apt install etcd-server": ("etcd and curl, and etcd's port", may_have_etcd),
+    "sudo apt install etcd-server": ("etcd, curl, and the ports of a fleet", may_have_fleet),
     "sudo apt": ("packages that the check doesn't install", never),
     "examples/fleet/dispatch.py": ("Kamailio, and a fleet; `check fleet` runs both", never),
     "podman-compose": ("containers, and both programs in them", never),
