@@ -46,6 +46,7 @@ mod talking;
 mod text;
 
 use crate::lines::carry_out;
+use crate::running::{Start, run};
 use crate::stage::Stage;
 use std::{env, io, thread};
 
@@ -74,8 +75,8 @@ fn main(rt: HostRuntime) -> io::Result<()> {
         tried = tried.saturating_add(1);
         let is_well = match line.strip_prefix("bridge ") {
             Some(rest) => match stage.begins(&rt, rest) {
-                Some(start) => {
-                    let run = move || start.run(&rt);
+                Some(Start { front, left }) => {
+                    let run = move || run(&rt, front, &left);
                     thread::spawn(&rt, run).is_ok()
                 }
                 None => false,

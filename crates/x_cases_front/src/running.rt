@@ -23,25 +23,19 @@ pub struct Running {
 pub struct Start {
     /// The bridge's sockets and settings.
     pub front: Front,
-    /// What the bridge tells, which nobody reads.
-    pub teller: Teller,
     /// Where to note how it ended.
     pub left: Left,
 }
 
-impl Start {
-    /// Runs the bridge until it ends, and notes how: the body of its thread.
-    pub fn run<R>(self, rt: &R)
-    where
-        R: Threads + Clock + Wait + Net + Alloc<A = Global> + Copy + Send + Sync + Drop + 'static,
-    {
-        let Start {
-            front,
-            teller,
-            left,
-        } = self;
-        left.note(rt, front.run(rt, &teller).ok());
-    }
+/// Runs a bridge until it ends, and notes how: the body of its thread. Nobody reads what the bridge tells.
+pub fn run<R>(rt: &R, front: Front, left: &Left)
+where
+    R: Threads + Clock + Wait + Net + Alloc<A = Global> + Copy + Send + Sync + Drop + 'static,
+{
+    let Ok(teller) = Teller::new(rt.alloc()) else {
+        return;
+    };
+    left.note(rt, front.run(rt, &teller).ok());
 }
 
 /// Opens the sockets of a bridge with so many seats and lanes and these further settings, on ports of the system's
@@ -70,12 +64,6 @@ impl Running {
         let front = bound(rt, seats, lanes, more)?;
         let listening = front.listening().ok()?;
         let (left, noted) = Left::new(rt.alloc())?;
-        let teller = Teller::new(rt.alloc()).ok()?;
-        let start = Start {
-            front,
-            teller,
-            left: noted,
-        };
-        Some((Self { listening, left }, start))
+        Some((Self { listening, left }, Start { front, left: noted }))
     }
 }

@@ -93,7 +93,7 @@ class Fan:
         )
         words = self.bridge.stderr.readline().split()
         self.udp, tcp = (
-            (host, int(port)) for host, _, port in (word.partition(":") for word in words if word[:1].isdigit())
+            (host, int(port)) for host, _, port in (word.strip(",").partition(":") for word in words if ":" in word[:-1])
         )
         self.operator, self.seq, self.ts = Operator(socket.create_connection(tcp, timeout=PATIENCE)), 0, 0
         self.ask(
