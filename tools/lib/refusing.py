@@ -93,10 +93,11 @@ def is_asleep(bridge, thread):
 
 
 def is_started(bridge, lanes):
-    """Whether a bridge without operators has its front and all its lanes, and each waits whenever one looks."""
+    """Whether a bridge without operators has its front, the writer of its lines and all its lanes, and each waits
+    whenever one looks."""
     try:
         for _ in range(5):
-            if len(threads(bridge)) != lanes + 1 or not all(is_asleep(bridge, it) for it in threads(bridge)):
+            if len(threads(bridge)) != lanes + 2 or not all(is_asleep(bridge, it) for it in threads(bridge)):
                 return False
             time.sleep(0.001)
     except OSError:
@@ -105,6 +106,8 @@ def is_started(bridge, lanes):
 
 
 def own_threads(bridge, lanes):
-    """The threads of a bridge without operators, by name: the front, with which the program began, and the lanes."""
+    """The threads of a bridge without operators, by name: the front, with which the program began, the writer of lines,
+    which starts before the lanes, and these."""
     until(lambda: is_started(bridge, lanes), "the bridge doesn't start a thread for each lane")
-    return {"front": bridge.pid} | {f"lane {at}": it for at, it in enumerate(sorted(threads(bridge) - {bridge.pid}))}
+    writer, *lanes = sorted(threads(bridge) - {bridge.pid})
+    return {"front": bridge.pid, "writer": writer} | {f"lane {at}": it for at, it in enumerate(lanes)}
