@@ -1,2 +1,3 @@
 pub mod HistoryText
+pub mod NewsText
 pub mod inner

@@ -47,7 +47,7 @@ fn append_both<A: Allocator>(
 }
 
 /// Appends the line of an accepted call.
-fn append_made<A: Allocator>(
+pub(crate) fn append_made<A: Allocator>(
     made: &AcceptedCall<'_>,
     out: &mut Vec<u8, A>,
 ) -> Result<(), AllocError>
@@ -96,7 +96,7 @@ fn append_lists<A: Allocator>(
 }
 
 /// Appends the last line.
-fn append_end<A: Allocator>(version: u64, out: &mut Vec<u8, A>) -> Result<(), AllocError>
+pub(crate) fn append_end<A: Allocator>(version: u64, out: &mut Vec<u8, A>) -> Result<(), AllocError>
     ensures { Grows (buffer_of out.old) (buffer_of out.new) (end_line version) result }
 {
     append_last(b"end ", version, out)?;
