@@ -1,4 +1,5 @@
 pub mod Cut
+pub mod DeskAsk
 pub mod Fed
 pub mod Foreign
 pub mod Openings

@@ -12,12 +12,13 @@ use Rattle.script_text.specs.Numbers.{decimal_of}
 use Rattle.script_text.specs.Calls.{spoken_call, spoken_words}
 use Rattle.script_text.specs.Requests.{is_printable}
 use Rattle.script_text.specs.Text.{fault_text}
+use Rattle.operator_lines.specs.DeskAsk.{DeskAsk, calls, watches}
 use Rattle.operator_lines.specs.declared.asking.LineAsk.{LineAsk}
 use Rattle.operator_lines.specs.declared.asking.LineAsk.TheVariants as variants
 use Rattle.operator_lines.specs.declared.asking.Verb.{Verb}
-use Rattle.operator_lines.specs.declared.asking.Verb.TheVariants.{Show, Quit, Stop}
+use Rattle.operator_lines.specs.declared.asking.Verb.TheVariants.{Show, Watch, Quit, Stop}
 use Rattle.operator_lines.specs.declared.line_desk.View.{View}
-use Rattle.operator_lines.specs.declared.line_desk.View.TheVariants.{Rows, History}
+use Rattle.operator_lines.specs.declared.line_desk.View.TheVariants.{Rows, History, Stats}
 use Rattle.operator_lines.specs.declared.answering.Next.{Next}
 use Rattle.operator_lines.specs.declared.answering.Next.TheVariants as next
 
@@ -45,6 +46,8 @@ abbrev pub alone_of : List ℕ → Option Verb
 alone_of word =
     if bytes_eq word (codes "show") then Some (Show Rows)
     else if bytes_eq word (codes "history") then Some (Show (History every_call))
+    else if bytes_eq word (codes "stats") then Some (Show Stats)
+    else if bytes_eq word (codes "watch") then Some Watch
     else if bytes_eq word (codes "quit") then Some Quit
     else if bytes_eq word (codes "stop") then Some Stop
     else None
@@ -73,6 +76,8 @@ asked_most (Err fault) = Err fault
 abbrev pub behind_of : Verb → List ℕ → Result AskOf (ℕ × Fault)
 behind_of (Show (History most)) text = asked_most (most_in text (cut_of 32 text))
 behind_of (Show Rows) text = Err (2, ExtraWord)
+behind_of (Show Stats) text = Err (2, ExtraWord)
+behind_of Watch text = Err (2, ExtraWord)
 behind_of Quit text = Err (2, ExtraWord)
 behind_of Stop text = Err (2, ExtraWord)
 
@@ -127,18 +132,17 @@ after_fault BadAddress = next.Stay
 after_fault BadHex = next.Stay
 after_fault BadFrame = next.Stay
 
--- how a desk may reply: the desk before and after a call, the call, and the text that is told
+-- how a desk may reply: the desk before and after, what it is asked, and the text that is told
 abbrev pub Replying : Type 0 → Type 1
-Replying D = D → D → CallOf → List ℕ → Type 0
+Replying D = D → D → DeskAsk → List ℕ → Type 0
 
 -- what a desk may show: what is asked of it, and the text that is told
 abbrev pub Showing : Type 0 → Type 1
 Showing D = D → View → List ℕ → Type 0
 
--- a call is answered, and its text is appended
-abbrev pub AppendsReply : {D : Type 0} → Replying D → D → D → CallOf → List ℕ → List ℕ → Type 0
-AppendsReply replies old new call before after =
-    (text : List ℕ) × (after ≡ before ++ text) × replies old new call text
+-- what a desk is asked is answered, and the text is appended
+abbrev pub AppendsReply : {D : Type 0} → Replying D → D → D → DeskAsk → List ℕ → List ℕ → Type 0
+AppendsReply replies old new ask before after = (text : List ℕ) × (after ≡ before ++ text) × replies old new ask text
 
 -- this is shown, and its text is appended
 abbrev pub AppendsShown : {D : Type 0} → Showing D → D → View → List ℕ → List ℕ → Type 0
@@ -150,9 +154,11 @@ abbrev pub AnswersAsk :
 AnswersAsk replies shows old (Err fault) new text becomes =
     (new ≡ old) × (text ≡ fault_line fault.0 fault.1) × (becomes ≡ after_fault fault.1)
 AnswersAsk replies shows old (Ok (spoken call)) new text becomes =
-    replies old new call text × (becomes ≡ next.Stay)
+    replies old new (calls call) text × (becomes ≡ next.Stay)
 AnswersAsk replies shows old (Ok (alone (Show view))) new text becomes =
     (new ≡ old) × shows old view text × (becomes ≡ next.Stay)
+AnswersAsk replies shows old (Ok (alone Watch)) new text becomes =
+    replies old new watches text × (becomes ≡ next.Stay)
 AnswersAsk replies shows old (Ok (alone Quit)) new text becomes = (new ≡ old) × (text ≡ []) × (becomes ≡ next.Quit)
 AnswersAsk replies shows old (Ok (alone Stop)) new text becomes = (new ≡ old) × (text ≡ []) × (becomes ≡ next.Stop)
 

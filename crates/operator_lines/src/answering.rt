@@ -69,17 +69,21 @@ pub fn print_too_long<A: Allocator + Copy>(alloc: A, out: &mut Vec<u8, A>) -> Re
 /// Carries out a line that is no call, and appends the answer. An `Err` appends nothing.
 fn answer_verb<D: LineDesk>(
     alloc: Global,
-    desk: &D,
+    desk: &mut D,
     verb: Verb,
     out: &mut Vec<u8>,
 ) -> Result<Next, AllocError>
     ensures answer { IfOk result (λ next.
-        AppendsAnswer D.replies D.shows desk.now (Ok (alone verb)) desk.now out.old.items out.new.items next) }
+        AppendsAnswer D.replies D.shows desk.old (Ok (alone verb)) desk.new out.old.items out.new.items next) }
     ensures err { OnErr result (out.new.items ≡ out.old.items) }
 {
     match verb {
         Verb::Show(view) => {
             desk.show(alloc, view, out)?;
+            Ok(Next::Stay)
+        }
+        Verb::Watch => {
+            desk.watch(alloc, out)?;
             Ok(Next::Stay)
         }
         Verb::Quit => Ok(Next::Quit),

@@ -34,6 +34,8 @@ pub(crate) enum LineAsk<A: Allocator + Copy = Global> {
 pub(crate) enum Verb {
     /// This, to be shown.
     Show(View),
+    /// A watch.
+    Watch,
     /// The end of the connection.
     Quit,
     /// The end of the bridge.
@@ -62,6 +64,10 @@ fn alone(word: &[u8]) -> Option<Verb>
         Some(Verb::Show(View::Rows))
     } else if word == b"history".as_slice() {
         Some(Verb::Show(View::History { most: u64::MAX }))
+    } else if word == b"stats".as_slice() {
+        Some(Verb::Show(View::Stats))
+    } else if word == b"watch".as_slice() {
+        Some(Verb::Watch)
     } else if word == b"quit".as_slice() {
         Some(Verb::Quit)
     } else if word == b"stop".as_slice() {
@@ -81,10 +87,12 @@ fn behind(verb: Verb, text: &[u8]) -> Result<Verb, ParseFault>
             Ok(most) => Ok(Verb::Show(View::History { most })),
             Err(why) => Err(why),
         },
-        Verb::Show(View::Rows) | Verb::Quit | Verb::Stop => Err(ParseFault::Line {
-            word: 2,
-            fault: Fault::ExtraWord,
-        }),
+        Verb::Show(View::Rows | View::Stats) | Verb::Watch | Verb::Quit | Verb::Stop => {
+            Err(ParseFault::Line {
+                word: 2,
+                fault: Fault::ExtraWord,
+            })
+        }
     }
 }
 

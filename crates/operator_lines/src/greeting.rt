@@ -16,7 +16,7 @@ pub enum Opening {
     Foreign,
     /// A faulty line: it is answered, and this happens to the connection.
     Faulty(Next),
-    /// A call, `show`, `history`, `quit` or `stop`: it takes a seat, and is answered there.
+    /// A call, `show`, `history`, `stats`, `watch`, `quit` or `stop`: it takes a seat, and is answered there.
     Good,
 }
 
