@@ -83,8 +83,20 @@ IsOurs seat log = IsPrefix seat.seen log × (numbers seat.op log ≡ numbers sea
 abbrev pub IsEnded : Desk → SeatOf → SeatOf → CallOf → Type 0
 IsEnded start old new call = (version : ℕ) × IsRefused start old new call version reasons.LogTaken
 
--- why a call has no answer: its seat is as it was, and not of a desk with some legal log; or the desk has ended
+-- the seat is as it was, and not of a desk with some legal log
+abbrev pub IsForeign : Desk → (old new : SeatOf) → Type 0
+IsForeign start old new = (new ≡ old) × ((log : List EntryOf) × IsLegal start log × ¬ IsOurs old log)
+
+-- the seat has seen a legal log that goes on from what it had seen, and has no other calls of its operator than those
+-- that the seat had made
+pub record HasCaughtUp (start : Desk) (old new : SeatOf) : Type 0 where
+  pub op : new.op ≡ old.op
+  pub legal : IsLegal start new.seen
+  pub begins : IsPrefix old.seen new.seen
+  pub own : numbers old.op new.seen ≡ numbers old.op old.seen
+  pub count : new.count ≡ old.count
+
+-- why a call has no answer: its seat is not of this desk, or the desk has ended
 abbrev pub IsUnanswered : Desk → SeatOf → SeatOf → CallOf → CallFault → Type 0
-IsUnanswered start old new call SeatForeign =
-    (new ≡ old) × ((log : List EntryOf) × IsLegal start log × ¬ IsOurs old log)
+IsUnanswered start old new call SeatForeign = IsForeign start old new
 IsUnanswered start old new call Ended = IsEnded start old new call

@@ -167,7 +167,7 @@ impl<'a, H: DeskBrand> DeskInner<'a, H> {
     }
 
     /// Lets a seat see the whole log. Returns false for a seat of another desk, which stays as it was.
-    fn show(&self, seat: &mut Seat<'a, H>) -> bool
+    pub fn show(&self, seat: &mut Seat<'a, H>) -> bool
         ensures op { seat.new.op ≡ seat.old.op }
         ensures count { seat.new.count ≡ seat.old.count }
         ensures seen { OnTrue result (seat.new.seen ≡ self.now.log) }

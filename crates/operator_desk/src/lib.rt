@@ -1,7 +1,8 @@
 //! One desk for up to sixteen operators, each on a thread of its own.
 //!
 //! Begin with [`Log::new`], then [`SharedDesk::new`], which returns a [`Seat`] for each operator and the readers of
-//! the published rows. An operator calls by [`SharedDesk::call`]. In the end [`SharedDesk::gather`] takes all seats
+//! the published rows. An operator calls by [`SharedDesk::call`], and sees what others called by
+//! [`SharedDesk::catch_up`] and [`SharedDesk::calls_after`]. In the end [`SharedDesk::gather`] takes all seats
 //! back and returns the whole log, or [`SharedDesk::end`] gives it up.
 //!
 //! Contracts see a seat as what its operator knows: the log that it has seen, and how many of its own calls were
@@ -23,6 +24,7 @@
 #![tactic(auto)]
 
 mod answer;
+mod catching_up;
 mod copying;
 mod desk_brand;
 mod desk_inner;

@@ -1,14 +1,17 @@
 //! Seats of operators.
 
-ghost use Rattle.std.specs.Prelude.{◌≡◌, ◌+◌, ◌≤◌, length, IfOk, OnOk};
+ghost use Rattle.std.specs.Prelude.{◌≡◌, ◌+◌, ◌≤◌, length, drop, IfOk, OnOk};
 ghost use mathlib.Core.List.{IsPrefix};
+ghost use Rattle.operator_desk.specs.LegalLogs.{IsLegal};
+ghost use Rattle.operator_desk.specs.PastCalls.{made_of};
 ghost use Rattle.operator_desk.specs.Seats.{new_seat, new_seats};
 ghost use Rattle.operator_desk.specs.inner.Tokens.{shown, AreFirst};
 
 use crate::desk_brand::DeskBrand;
 use crate::entry::LogEntry;
 use crate::log::Log;
-use crate::tokens::agree;
+use crate::tokens::{accepted_after, agree};
+use call_history::AcceptedCall;
 use std::alloc::{AllocError, Global};
 use std::marker::Model;
 use std::sync::OnceToken;
@@ -82,11 +85,25 @@ impl<'a, H: DeskBrand> Seat<'a, H> {
         self.op
     }
 
-    /// How many entries of the log it has seen.
-    pub(crate) fn has_seen(&self) -> usize
-        ensures { result ≡ length self.now.seen }
+    /// How many entries of the log it has seen. They are a legal log.
+    pub fn has_seen(&self) -> usize
+        ensures count { result ≡ length self.now.seen }
+        ensures legal { IsLegal H.start self.now.seen }
     {
         self.seen.len()
+    }
+
+    /// The accepted calls that it has seen, but for so many first ones.
+    pub(crate) fn calls_after(
+        &self,
+        alloc: Global,
+        log: &'a Log,
+        version: usize,
+    ) -> Result<Vec<AcceptedCall<'a>>, AllocError>
+        requires log { log.now ≡ H.cells }
+        ensures { IfOk result (λ calls. calls.items ≡ drop version (made_of self.now.seen)) }
+    {
+        accepted_after(alloc, log, &self.seen, version)
     }
 
     /// Gives its share back. What it has seen is a beginning of the log.

@@ -1,15 +1,16 @@
 //! The desk that operators share.
 
-ghost use Rattle.std.specs.Prelude.{◌≡◌, ◌≢◌, true, length, None, Some, Err, IfOk, IfErr, OnOk};
+ghost use Rattle.std.specs.Prelude.{◌≡◌, ◌≢◌, true, length, drop, None, Some, Err, IfOk, IfErr, OnOk, OnErr};
 ghost use Rattle.std.specs.List.{All, sum_by};
 ghost use mathlib.Core.List.{IsPrefix};
 ghost use Rattle.desk_rows.specs.Desk.{blank as no_rows, good};
 ghost use Rattle.desk_edit.specs.Asked.{asked_by};
 ghost use Rattle.versions.specs.Published.{new_reader};
 ghost use Rattle.operator_desk.specs.LegalLogs.{IsLegal};
-ghost use Rattle.operator_desk.specs.PastCalls.{IsPast};
+ghost use Rattle.operator_desk.specs.PastCalls.{IsPast, made_of};
 ghost use Rattle.operator_desk.specs.Seats.{SeatOf, new_seats};
 ghost use Rattle.operator_desk.specs.Answers.{IsAnswered, IsUnanswered, IsNotice, IsCopy, Tells};
+ghost use Rattle.operator_desk.specs.Answers.{HasCaughtUp, IsForeign};
 ghost use Rattle.operator_desk.specs.Opening.{desk_fault};
 ghost use Rattle.operator_desk.specs.Gathering.{IsFault};
 
@@ -22,7 +23,7 @@ use crate::gathering::judged;
 use crate::log::Log;
 use crate::past::Past;
 use crate::seat::{Seat, seats_for};
-use call_history::CallLists;
+use call_history::{AcceptedCall, CallLists};
 use desk_calls::Desk;
 use desk_edit::Call;
 use desk_rows::Rows;
@@ -37,8 +38,11 @@ pub const MAX_OPERATORS: u32 = 16;
 /// [`SharedDesk::end`].
 pub struct SharedDesk<'a, H: DeskBrand> {
     inner: Mutex<DeskInner<'a, H>>,
+    /// The log, whose entries are read without the lock.
+    log: &'a Log,
     seats: u32,
     ghost all: { seats ≡ H.seats },
+    ghost cells: { log.now ≡ H.cells },
 }
 
 impl<'a, H: DeskBrand> SharedDesk<'a, H> {
@@ -126,8 +130,10 @@ impl<'a, H: DeskBrand> SharedDesk<'a, H> {
     fn around(held: DeskInner<'a, H>, seats: u32) -> SharedDesk<'a, H>
         requires { seats ≡ H.seats }
     {
+        let log = held.log;
         SharedDesk {
             inner: Mutex::new(held),
+            log,
             seats,
         }
     }
@@ -153,6 +159,32 @@ impl<'a, H: DeskBrand> SharedDesk<'a, H> {
         let answer = held.call(rt, alloc, seat, call);
         MutexGuard::unlock(held);
         answer
+    }
+
+    /// Lets a seat see the whole log, as a call does, and returns the notice of its last version. A seat of another desk
+    /// has no answer, and stays as it was.
+    pub fn catch_up<R: Wait>(&self, rt: &R, seat: &mut Seat<'a, H>) -> Result<Notice, CallFault>
+        ensures caught { OnOk result (HasCaughtUp H.start seat.old seat.new) }
+        ensures tells { IfOk result (λ notice. Tells H.start H.publisher seat.new.seen notice) }
+        ensures fault { OnErr result (IsForeign H.start seat.old seat.new) }
+        ensures named { IfErr result (λ fault. fault ≡ CallFault.SeatForeign) }
+    {
+        let held = self.inner.lock(rt);
+        let answer = held.catch_up(seat);
+        MutexGuard::unlock(held);
+        answer
+    }
+
+    /// The accepted calls that a seat has seen, but for so many first ones. It doesn't wait for the desk.
+    pub fn calls_after(
+        &self,
+        alloc: Global,
+        seat: &Seat<'a, H>,
+        version: usize,
+    ) -> Result<Vec<AcceptedCall<'a>>, AllocError>
+        ensures { IfOk result (λ calls. calls.items ≡ drop version (made_of seat.now.seen)) }
+    {
+        seat.calls_after(alloc, self.log, version)
     }
 
     /// The notice of what is published now.
@@ -219,6 +251,7 @@ impl<'a, H: DeskBrand> SharedDesk<'a, H> {
     {
         let SharedDesk {
             inner,
+            log: _,
             seats: count,
         } = self;
         let held = inner.into_inner();
@@ -233,7 +266,11 @@ impl<'a, H: DeskBrand> SharedDesk<'a, H> {
 
     /// Gives the log up. Readers find no rows from then on.
     pub fn end<R: Wait>(self, rt: &R) {
-        let SharedDesk { inner, seats: _ } = self;
+        let SharedDesk {
+            inner,
+            log: _,
+            seats: _,
+        } = self;
         inner.into_inner().end(rt);
     }
 }

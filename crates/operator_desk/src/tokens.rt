@@ -1,12 +1,14 @@
 //! Rows of tokens that show one log.
 
-ghost use Rattle.std.specs.Prelude.{◌≡◌, ◌≢◌, ◌≤◌, ◌<◌, length, take, vec_len, vec_capacity, IfOk};
+ghost use Rattle.std.specs.Prelude.{◌≡◌, ◌≢◌, ◌≤◌, ◌<◌, length, take, drop, vec_len, vec_capacity, IfOk};
 ghost use Rattle.std.specs.Bool.{OnTrue, OnFalse};
 ghost use Rattle.operator_desk.specs.OwnCalls.{numbers};
+ghost use Rattle.operator_desk.specs.PastCalls.{made_of};
 ghost use Rattle.operator_desk.specs.inner.Tokens.{marks, shown, AreFirst};
 
 use crate::entry::LogEntry;
 use crate::log::Log;
+use call_history::AcceptedCall;
 use std::alloc::{AllocError, Global};
 use std::sync::OnceToken;
 
@@ -78,4 +80,21 @@ pub fn copied<'a>(
         copies.push_reserved(log.read(k, &entries[k]).copy(alloc)?);
     }
     Ok(copies)
+}
+
+/// The accepted calls that these tokens show, but for so many first ones.
+pub fn accepted_after<'a>(
+    alloc: Global,
+    log: &'a Log,
+    entries: &Vec<OnceToken<'a, LogEntry>>,
+    version: usize,
+) -> Result<Vec<AcceptedCall<'a>>, AllocError>
+    requires entries { AreFirst log.now entries.now.items }
+    ensures { IfOk result (λ calls. calls.items ≡ drop version (made_of (shown entries.now.items))) }
+{
+    let mut calls = Vec::new(alloc);
+    for k in version..entries.len() {
+        calls.push(log.read(k, &entries[k]).accepted(k as u64 + 1))?;
+    }
+    Ok(calls)
 }
