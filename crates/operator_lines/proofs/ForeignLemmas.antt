@@ -1,6 +1,5 @@
 -- Where a version of HTTP stands in a line.
-use Rattle.std.proofs.lemmas.Bool.Decides.{nat_tests}
-use Rattle.std.proofs.Common.{◌≡◌, ℕ, zero, suc, ◌+◌, ◌<◌, false, ◌||◌, List, [], ◌∷◌, length, drop, refl, ap, ◌∙◌}
+use Rattle.std.proofs.Common.{◌≡◌, ℕ, zero, suc, ◌+◌, ◌<◌, ◌||◌, List, [], ◌∷◌, length, drop, refl, ap, ◌∙◌}
 use Rattle.std.proofs.Common.{arith}
 use Rattle.operator_lines.specs.Foreign.{begins_version, has_version}
 
