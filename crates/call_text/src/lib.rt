@@ -1,8 +1,8 @@
 //! How accepted calls are told: a line for each, by the words that a script has for calls.
 //!
 //! [`print_history`] appends the lines of the calls that are in force, and of those that can be redone; [`print_news`]
-//! those that tell of calls as they are accepted. Contracts see texts as octets. [`made_lines_are_read`] says that such a
-//! line holds its call: its words are read as that call.
+//! those that tell of calls as they are accepted. Contracts see texts as octets. [`made_lines_are_read`] says that such
+//! a line holds its call: its words are read as that call.
 //!
 //! ```rust
 //! // lists: a `CallLists` of what was accepted up to version 7

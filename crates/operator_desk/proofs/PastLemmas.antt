@@ -70,7 +70,8 @@ made_next xs from k x m few least hx is =
     ∙ ap (drop from) (sym (next_from 1 xs k x few hx) ∙ ap (λ (n : ℕ). take n ms) next))
 
 -- all of them are the accepted calls up to the last place
-pub made_whole : (xs : List (OnceToken EntryOf)) (k : ℕ) → length xs ≤ k → take k (made_of (shown xs)) ≡ made_of (shown xs)
+pub made_whole : (xs : List (OnceToken EntryOf)) (k : ℕ) → length xs ≤ k
+    → take k (made_of (shown xs)) ≡ made_of (shown xs)
 made_whole xs k all =
     let many : length (made_of (shown xs)) ≡ length xs = length-made 1 (shown xs) ∙ length-shown xs in
     take_all k (made_of (shown xs)) (omega (arith, many))

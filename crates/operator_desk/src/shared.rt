@@ -161,8 +161,8 @@ impl<'a, H: DeskBrand> SharedDesk<'a, H> {
         answer
     }
 
-    /// Lets a seat see the whole log, as a call does, and returns the notice of its last version. A seat of another desk
-    /// has no answer, and stays as it was.
+    /// Lets a seat see the whole log, as a call does, and returns the notice of its last version. A seat of another
+    /// desk has no answer, and stays as it was.
     pub fn catch_up<R: Wait>(&self, rt: &R, seat: &mut Seat<'a, H>) -> Result<Notice, CallFault>
         ensures caught { OnOk result (HasCaughtUp H.start seat.old seat.new) }
         ensures tells { IfOk result (λ notice. Tells H.start H.publisher seat.new.seen notice) }

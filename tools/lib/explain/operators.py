@@ -30,8 +30,8 @@ class Call:
         )
 
     def is_told_lines(self):
-        """Whether its answer is some lines, of which the last is `end VERSION`."""
-        return self.text.split(" ")[0] in ("show", "history")
+        """Whether its answer is some lines, of which the last is `end VERSION` or `end`."""
+        return self.text.split(" ")[0] in ("show", "history", "stats", "watch")
 
 
 @dataclasses.dataclass(frozen=True)
@@ -60,7 +60,8 @@ class Answers:
             return
         while self.waiting and self.waiting[0].text in ("quit", "stop"):
             self.waiting.popleft()
-        if not self.waiting or self.waiting[0].moment > line.moment:
+        # A line of a watch answers nothing.
+        if not self.waiting or self.waiting[0].moment > line.moment or line.text.startswith("call "):
             return
         if self.waiting[0].is_told_lines() and not line.text.startswith(("busy", "fault", "no ")):
             self.take_row(line)
@@ -71,10 +72,11 @@ class Answers:
             call.number = int(line.text[3:])
 
     def take_row(self, line):
-        """Takes a line that answers `show` or `history`."""
-        if self.rows is not None and not line.text.startswith("end "):
+        """Takes a line that answers `show`, `history`, `stats` or `watch`."""
+        is_last = line.text.split(" ")[0] == "end"
+        if self.rows is not None and not is_last:
             self.rows.append(line.text)
-        elif line.text.startswith("end "):
+        elif is_last:
             call = self.waiting.popleft()
             call.answer, call.until = line.text, line.moment
             if self.rows is not None and call.text == "show":

@@ -48,7 +48,7 @@ SCRIPT = {
     "show": [],
 }
 # The first words of operators' lines that are no calls.
-ALONE = ("show", "history", "quit", "stop")
+ALONE = ("show", "history", "stats", "watch", "quit", "stop")
 # How many of a command's last words may be left out.
 LEFT_OUT = {"add-room": 1, "bridge": 1}
 

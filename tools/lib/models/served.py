@@ -2,8 +2,8 @@
 
     served.py serve FILE
 
-FILE has a bridge's settings. It answers lines as docs/FORMATS.md says, with seats. Its answers wait without bound, and
-it closes no connection for its silence.
+FILE has a bridge's settings. It answers lines as docs/FORMATS.md says, with seats. Its answers wait without bound, it
+closes no connection for its silence, and it counts nothing for `stats`.
 """
 
 import os
@@ -18,7 +18,7 @@ import tomllib
 if __name__ == "__main__":
     sys.path.insert(0, str(pathlib.Path(__file__).resolve().parents[2]))
 
-from lib.models.desk import COMMANDS, Desk, Log  # noqa: E402
+from lib.models.desk import COMMANDS, Desk, Log, made_line  # noqa: E402
 from lib.models.lines import fault_of_line  # noqa: E402
 
 MOST_OCTETS = 4096
@@ -43,7 +43,7 @@ class Front(socketserver.ThreadingTCPServer):
 
     def __init__(self, address, seats, ssrc):
         super().__init__(address, Operator)
-        self.log, self.lock, self.seats, self.taken = Log(), threading.Lock(), seats, {}
+        self.log, self.lock, self.seats, self.taken, self.watching = Log(), threading.Lock(), seats, {}, set()
         self.log.desk = QuickDesk()
         self.log.desk.bridge = ssrc
 
@@ -61,6 +61,7 @@ class Operator(socketserver.StreamRequestHandler):
         finally:
             with self.server.lock:
                 self.server.taken.pop(self, None)
+                self.server.watching.discard(self)
 
     def says(self, text):
         self.wfile.write(f"{text}\n".encode())
@@ -94,10 +95,25 @@ class Operator(socketserver.StreamRequestHandler):
             lines = log.desk.shown(log.version)
         elif words[0] == "history":
             lines = log.history(int((words[1:] or [EVERY_CALL])[0]))
+        elif words == ["watch"]:
+            self.server.watching.add(self)
+            lines = [f"end {log.version}"]
+        elif words == ["stats"]:
+            lines = ["end"]
         else:
             lines = [log.call(words, seat)]
         self.says("\n".join(lines))
+        if lines[0].startswith("ok "):
+            self.tell_of(words, seat)
         return True
+
+    def tell_of(self, words, seat):
+        """Tells those who watch of the last accepted call."""
+        for other in self.server.watching:
+            try:
+                other.says(f"call {made_line(self.server.log.version, seat, words)}")
+            except OSError:
+                pass
 
 
 def address_of(text):

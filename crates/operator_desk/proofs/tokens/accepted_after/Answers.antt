@@ -21,4 +21,6 @@ loop-k-preserved c =
     }
 
 pub returns : goal.returns
-returns c = c.loop-k.invariant.calls ∙ ap (drop c.args.version) (made_whole c.args.entries.now.items c.loop-k.k (search rules))
+returns c =
+    let whole = made_whole c.args.entries.now.items c.loop-k.k (search rules) in
+    c.loop-k.invariant.calls ∙ ap (drop c.args.version) whole
