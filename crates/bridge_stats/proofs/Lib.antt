@@ -1,0 +1,4 @@
+pub mod Entries
+pub mod GrowLemmas
+pub mod TallyLemmas
+pub mod WholeLemmas

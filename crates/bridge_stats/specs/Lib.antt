@@ -1,0 +1,12 @@
+pub mod Counts
+pub mod Headers
+pub mod Kinds
+pub mod Logs
+pub mod Runs
+pub mod Senders
+pub mod Shown
+pub mod Sources
+pub mod Stats
+pub mod Tables
+pub mod Text
+pub mod inner

@@ -1,0 +1,124 @@
+-- What is shown of what a bridge counts (own), and its lines.
+use Rattle.std.specs.Prelude.{◌≡◌, ℕ, ◌-◌, ◌/◌, List, [], ◌∷◌, ◌++◌, map, codes, Option, None, Some, ℤ}
+use Rattle.std.specs.List.{flat_map}
+use Rattle.rtp_codec.specs.declared.address.Address.{Address}
+use Rattle.bridge_stats.specs.declared.taken.TakenIn.{TakenIn}
+use Rattle.bridge_stats.specs.declared.sender.Sender.{Sender}
+use Rattle.bridge_stats.specs.declared.kind.OutcomeKind.{OutcomeKind}
+use Rattle.bridge_stats.specs.declared.stranger.StrangerNumbers.{StrangerNumbers}
+use Rattle.bridge_stats.specs.declared.rows.KindRow.{KindRow}
+use Rattle.bridge_stats.specs.declared.rows.SourceRow.{SourceRow}
+use Rattle.bridge_stats.specs.declared.rows.StrangerRow.{StrangerRow}
+use Rattle.bridge_stats.specs.declared.others.StreamRow.{StreamRow}
+use Rattle.bridge_stats.specs.declared.others.LaneRow.{LaneRow}
+use Rattle.bridge_stats.specs.declared.others.Limited.{Limited}
+use Rattle.bridge_stats.specs.declared.others.Seats.{Seats}
+use Rattle.bridge_stats.specs.declared.others.OthersShown.{OthersShown}
+use Rattle.bridge_stats.specs.declared.shown.StatsShown.{StatsShown}
+use Rattle.bridge_stats.specs.Kinds.{kind_name, all_kinds}
+use Rattle.bridge_stats.specs.Counts.{datagrams_with, octets_with}
+use Rattle.bridge_stats.specs.Sources.{numbers_of}
+use Rattle.bridge_stats.specs.Stats.{StatsOf}
+use Rattle.bridge_stats.specs.Text.{LinePart, words, number, signed, place, line_text}
+
+-- how many datagrams had an outcome of this kind, and their octets
+abbrev pub kind_row : List TakenIn → OutcomeKind → KindRow
+kind_row all kind = record { kind = kind; datagrams = datagrams_with kind all; octets = octets_with kind all }
+
+-- what is counted of a source, and how many whole milliseconds ago its last datagram came
+abbrev pub source_row : (now : ℕ) → Sender × List TakenIn → SourceRow
+source_row now entry = record {
+  sender = entry.0;
+  numbers = numbers_of entry.1;
+  ago = (now - (numbers_of entry.1).last) / 1000000;
+}
+
+abbrev pub stranger_row : Sender × StrangerNumbers → StrangerRow
+stranger_row entry = record { sender = entry.0; numbers = entry.1 }
+
+-- where a sender's packets come from
+abbrev pub sender_address : Sender → Address
+sender_address sender = record { ip = sender.ip; port = sender.port }
+
+-- ---- lines
+
+abbrev pub kind_line : KindRow → List ℕ
+kind_line row =
+    line_text (codes "datagrams")
+    (number row.datagrams ∷ words (codes "octets") ∷ number row.octets ∷ words (kind_name row.kind) ∷ [])
+
+-- a source: its address and SSRC, its counts, and how many packets were lost since it was initialised: those expected
+-- less those received, none where more came
+abbrev pub source_line : SourceRow → List ℕ
+source_line row =
+    line_text (codes "source")
+    (place (sender_address row.sender) ∷ number row.sender.ssrc ∷ words (codes "packets") ∷ number row.numbers.packets
+    ∷ words (codes "octets") ∷ number row.numbers.octets ∷ words (codes "late") ∷ number row.numbers.late
+    ∷ words (codes "duplicate") ∷ number row.numbers.duplicates ∷ words (codes "dropped") ∷ number row.numbers.dropped
+    ∷ words (codes "expected") ∷ number row.numbers.expected ∷ words (codes "lost")
+    ∷ number (row.numbers.expected - row.numbers.received) ∷ words (codes "ago") ∷ number row.ago ∷ [])
+
+abbrev pub stranger_line : StrangerRow → List ℕ
+stranger_line row =
+    line_text (codes "stranger")
+    (place (sender_address row.sender) ∷ number row.sender.ssrc ∷ words (codes "type") ∷ number row.numbers.pt
+    ∷ words (codes "packets") ∷ number row.numbers.packets ∷ [])
+
+-- how many datagrams of sources and of others were left out since memory was refused
+abbrev pub left_out_line : (sources strangers : ℕ) → List ℕ
+left_out_line sources strangers =
+    line_text (codes "left-out")
+    (words (codes "sources") ∷ number sources ∷ words (codes "strangers") ∷ number strangers ∷ [])
+
+-- the parts of a source's packet: its SSRC and its extended number, or marks that there is none
+abbrev pub highest_parts : Option (ℕ × ℤ) → List LinePart
+highest_parts None = words (codes "-") ∷ words (codes "-") ∷ []
+highest_parts (Some packet) = number packet.0 ∷ signed packet.1 ∷ []
+
+abbrev pub stream_line : StreamRow → List ℕ
+stream_line row =
+    line_text (codes "stream")
+    (number row.out_ssrc ∷ words (codes "fraction") ∷ number row.fraction ∷ words (codes "lost") ∷ signed row.lost
+    ∷ words (codes "highest") ∷ highest_parts row.source)
+
+abbrev pub lane_line : LaneRow → List ℕ
+lane_line row =
+    line_text (codes "lane")
+    (number row.lane ∷ words (codes "items") ∷ number row.items ∷ words (codes "dropped") ∷ number row.dropped
+    ∷ words (codes "waiting") ∷ number row.waiting ∷ words (codes "packets") ∷ number row.packets
+    ∷ words (codes "octets") ∷ number row.octets ∷ words (codes "waited") ∷ number row.waited
+    ∷ words (codes "not-ready") ∷ number row.not_ready ∷ words (codes "denied") ∷ number row.denied
+    ∷ words (codes "refused") ∷ number row.refused ∷ words (codes "unreachable") ∷ number row.unreachable
+    ∷ words (codes "too-long") ∷ number row.too_long ∷ words (codes "other") ∷ number row.other ∷ [])
+
+abbrev pub limited_line : Limited → List ℕ
+limited_line limited =
+    line_text (codes "limited")
+    (words (codes "nacks") ∷ number limited.nacks ∷ words (codes "blocks") ∷ number limited.blocks
+    ∷ words (codes "plis") ∷ number limited.plis ∷ [])
+
+abbrev pub seats_line : Seats → List ℕ
+seats_line seats = line_text (codes "seats") (number seats.used ∷ words (codes "of") ∷ number seats.all ∷ [])
+
+-- ---- all lines
+
+-- what others count
+abbrev pub others_text : OthersShown → List ℕ
+others_text others =
+    flat_map stream_line others.streams.now ++ (flat_map lane_line others.lanes.now
+    ++ (limited_line others.limited ++ (seats_line others.seats ++ codes "end\n")))
+
+-- all that is counted: the outcomes, sources, senders that are no source, what was left out, and what others count
+abbrev pub stats_text : StatsShown → OthersShown → List ℕ
+stats_text shown others =
+    flat_map kind_line shown.kinds.items ++ (flat_map source_line shown.sources.items
+    ++ (flat_map stranger_line shown.strangers.items
+    ++ (left_out_line shown.left_out_sources shown.left_out_strangers ++ others_text others)))
+
+-- This is shown at a moment of what was counted.
+pub record IsShown (now : ℕ) (stats : StatsOf) (shown : StatsShown) : Type 0 where
+  pub kinds : shown.kinds.items ≡ map (kind_row stats.taken) all_kinds
+  pub sources : shown.sources.items ≡ map (source_row now) stats.sources.entries
+  pub strangers : shown.strangers.items ≡ map stranger_row stats.strangers.entries
+  pub left_out_sources : shown.left_out_sources ≡ stats.sources.left_out
+  pub left_out_strangers : shown.left_out_strangers ≡ stats.strangers.left_out

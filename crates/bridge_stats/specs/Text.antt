@@ -1,0 +1,33 @@
+-- The lines in which a bridge tells what it counted (own): words and numbers.
+use Rattle.std.specs.Prelude.{ℕ, ℤ, List, [], ◌∷◌, ◌++◌, codes, decimal, get_or}
+use Rattle.std.specs.List.{flat_map}
+use Rattle.std.specs.Fmt.{signed_decimal}
+use Rattle.rtp_codec.specs.declared.address.Address.{Address}
+
+-- a part of a line: words as they stand, a number, a number with its sign, an address
+pub data LinePart : Type 0 where
+  words : List ℕ → LinePart
+  number : ℕ → LinePart
+  signed : ℤ → LinePart
+  place : Address → LinePart
+
+-- how an address is written
+abbrev pub place_text : Address → List ℕ
+place_text a =
+    decimal (get_or a.ip 0 0) ++ codes "." ++ decimal (get_or a.ip 1 0) ++ codes "." ++ decimal (get_or a.ip 2 0)
+    ++ codes "." ++ decimal (get_or a.ip 3 0) ++ codes ":" ++ decimal a.port
+
+-- how a part is written
+abbrev pub part_text : LinePart → List ℕ
+part_text (words text) = text
+part_text (number n) = decimal n
+part_text (signed n) = signed_decimal n
+part_text (place a) = place_text a
+
+-- a part with a space before it
+abbrev pub next_text : LinePart → List ℕ
+next_text part = 32 ∷ part_text part
+
+-- a line: its first word, its parts with a space before each, and an LF (10)
+abbrev pub line_text : List ℕ → List LinePart → List ℕ
+line_text first parts = first ++ (flat_map next_text parts ++ 10 ∷ [])

@@ -1,0 +1,4 @@
+pub mod Growing
+pub mod Kept
+pub mod Said
+pub mod Tallies

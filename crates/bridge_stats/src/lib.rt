@@ -1,0 +1,47 @@
+//! What a bridge counts of the datagrams that it takes in, and the lines that tell it.
+//!
+//! Begin with [`BridgeStats::new`]. [`BridgeStats::note`] notes a datagram and its outcome, of which [`TakenIn::of`]
+//! makes one value. Where somebody asks, [`BridgeStats::show`] writes rows into a [`StatsShown`], and [`print_stats`]
+//! appends their lines, and those of what others count. A contract sees the list of all datagrams that were noted, the
+//! datagrams of each source that is kept, and a text as its octets.
+//!
+//! ```rust
+//! let mut stats = BridgeStats::new(alloc)?;
+//! stats.note(&TakenIn::of(from, moment, &octets, outcome)); // for each datagram
+//! let mut shown = StatsShown::new(alloc)?;
+//! stats.show(now, &mut shown)?; // now: nanoseconds since 1970
+//! print_stats(&shown, &others, &mut out)?; // datagrams 0 octets 0 dropped TooLong, and so on
+//! ```
+#![tactic(auto)]
+
+mod appending;
+mod kind;
+mod laws;
+mod lines;
+mod numbers;
+mod others;
+mod rows;
+mod sender;
+mod showing;
+mod shown;
+mod source_count;
+mod source_table;
+mod stats;
+mod stranger;
+mod stretch;
+mod taken;
+mod taken_log;
+mod tally;
+
+pub use self::kind::OutcomeKind;
+pub use self::laws::all_are_counted;
+pub use self::numbers::SourceNumbers;
+pub use self::others::{LaneRow, Limited, OthersShown, Seats, StreamRow};
+pub use self::rows::{KindRow, SourceRow, StrangerRow};
+pub use self::sender::Sender;
+pub use self::shown::{StatsShown, print_stats};
+pub use self::stats::BridgeStats;
+pub use self::stranger::StrangerNumbers;
+pub use self::taken::TakenIn;
+pub use self::taken_log::TakenLog;
+pub use self::tally::OutcomeTally;

@@ -1,0 +1,143 @@
+//! What others count.
+
+ghost use Rattle.std.specs.Prelude.{◌≡◌};
+ghost use Rattle.bridge_stats.specs.Shown.{stream_line, lane_line};
+ghost use Rattle.bridge_stats.specs.inner.Growing.{buffer_of, Grows};
+
+use crate::appending::{LineField, append_line};
+use crate::lines::StatLine;
+use std::alloc::{AllocError, Allocator};
+
+/// What the receiver of an outgoing stream reported last.
+#[derive(Clone, Copy)]
+pub struct StreamRow {
+    /// The SSRC of the stream.
+    pub out_ssrc: u32,
+    /// The fraction of packets lost, in 256ths.
+    pub fraction: u8,
+    /// The packets lost in all. Duplicates make it negative.
+    pub lost: i32,
+    /// The source's packet with the highest number that the receiver got: its SSRC and its extended number.
+    pub source: Option<(u32, i64)>,
+}
+
+/// What a lane did. Each number counts since the start, but for those that wait.
+#[derive(Clone, Copy)]
+pub struct LaneRow {
+    /// The lane, from 0 on.
+    pub lane: u32,
+    /// How many items it was given.
+    pub items: u64,
+    /// How many were dropped for it.
+    pub dropped: u64,
+    /// How many wait on its ring.
+    pub waiting: u64,
+    /// How many datagrams the system took.
+    pub packets: u64,
+    /// How many octets these had.
+    pub octets: u64,
+    /// For how many the wire wasn't ready at once.
+    pub waited: u64,
+    /// How many were given up since the wire wasn't ready within 20 ms.
+    pub not_ready: u64,
+    /// How many were not permitted.
+    pub denied: u64,
+    /// How many were refused.
+    pub refused: u64,
+    /// How many had no way to their address.
+    pub unreachable: u64,
+    /// How many were too long.
+    pub too_long: u64,
+    /// How many failed for another reason.
+    pub other: u64,
+}
+
+/// What the rate limiter left out since the start.
+#[derive(Clone, Copy)]
+pub struct Limited {
+    /// NACKs of which it left out numbers.
+    pub nacks: u64,
+    /// Report blocks.
+    pub blocks: u64,
+    /// PLIs.
+    pub plis: u64,
+}
+
+/// The operators' seats.
+#[derive(Clone, Copy)]
+pub struct Seats {
+    /// How many are in use.
+    pub used: u32,
+    /// How many there are.
+    pub all: u32,
+}
+
+/// What others count, to be shown with what the datagrams are counted as.
+#[derive(Clone, Copy)]
+pub struct OthersShown<'a> {
+    /// The streams whose receivers reported.
+    pub streams: &'a [StreamRow],
+    /// The lanes, in their order.
+    pub lanes: &'a [LaneRow],
+    /// What the rate limiter left out.
+    pub limited: Limited,
+    /// The operators' seats.
+    pub seats: Seats,
+}
+
+impl StatLine for StreamRow {
+    ghost line = { stream_line };
+
+    fn append<A: Allocator>(&self, out: &mut Vec<u8, A>) -> Result<(), AllocError> {
+        let (ssrc, ext) = match self.source {
+            None => (LineField::Words(b"-"), LineField::Words(b"-")),
+            Some((ssrc, ext)) => (LineField::Number(u64::from(ssrc)), LineField::Signed(ext)),
+        };
+        let fields = [
+            LineField::Number(u64::from(self.out_ssrc)),
+            LineField::Words(b"fraction"),
+            LineField::Number(u64::from(self.fraction)),
+            LineField::Words(b"lost"),
+            LineField::Signed(i64::from(self.lost)),
+            LineField::Words(b"highest"),
+            ssrc,
+            ext,
+        ];
+        append_line(b"stream", &fields, out)
+    }
+}
+
+impl StatLine for LaneRow {
+    ghost line = { lane_line };
+
+    fn append<A: Allocator>(&self, out: &mut Vec<u8, A>) -> Result<(), AllocError> {
+        let fields = [
+            LineField::Number(u64::from(self.lane)),
+            LineField::Words(b"items"),
+            LineField::Number(self.items),
+            LineField::Words(b"dropped"),
+            LineField::Number(self.dropped),
+            LineField::Words(b"waiting"),
+            LineField::Number(self.waiting),
+            LineField::Words(b"packets"),
+            LineField::Number(self.packets),
+            LineField::Words(b"octets"),
+            LineField::Number(self.octets),
+            LineField::Words(b"waited"),
+            LineField::Number(self.waited),
+            LineField::Words(b"not-ready"),
+            LineField::Number(self.not_ready),
+            LineField::Words(b"denied"),
+            LineField::Number(self.denied),
+            LineField::Words(b"refused"),
+            LineField::Number(self.refused),
+            LineField::Words(b"unreachable"),
+            LineField::Number(self.unreachable),
+            LineField::Words(b"too-long"),
+            LineField::Number(self.too_long),
+            LineField::Words(b"other"),
+            LineField::Number(self.other),
+        ];
+        append_line(b"lane", &fields, out)
+    }
+}

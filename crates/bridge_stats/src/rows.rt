@@ -1,0 +1,114 @@
+//! The rows of what is counted.
+
+ghost use Rattle.std.specs.Prelude.{◌≡◌};
+ghost use Rattle.bridge_stats.specs.Shown.{sender_address, kind_line, source_line, stranger_line};
+ghost use Rattle.bridge_stats.specs.inner.Growing.{buffer_of, Grows};
+
+use crate::appending::{LineField, append_line};
+use crate::kind::OutcomeKind;
+use crate::lines::StatLine;
+use crate::numbers::SourceNumbers;
+use crate::sender::Sender;
+use crate::stranger::StrangerNumbers;
+use rtp_codec::Address;
+use std::alloc::{AllocError, Allocator};
+
+/// How many datagrams had an outcome of a kind.
+#[derive(Clone, Copy)]
+pub struct KindRow {
+    /// The kind.
+    pub kind: OutcomeKind,
+    /// How many had it.
+    pub datagrams: u64,
+    /// How many octets these had.
+    pub octets: u64,
+}
+
+/// What is counted of a source.
+#[derive(Clone, Copy)]
+pub struct SourceRow {
+    /// Its address and SSRC.
+    pub sender: Sender,
+    /// What is counted of it.
+    pub numbers: SourceNumbers,
+    /// How many whole milliseconds ago its last datagram came.
+    pub ago: u64,
+}
+
+/// What is counted of a sender that is no source.
+#[derive(Clone, Copy)]
+pub struct StrangerRow {
+    /// Its address and SSRC.
+    pub sender: Sender,
+    /// What is counted of it.
+    pub numbers: StrangerNumbers,
+}
+
+/// Where a sender's packets come from.
+fn sender_address(sender: &Sender) -> Address
+    ensures { result ≡ sender_address sender.now }
+{
+    Address {
+        ip: sender.ip,
+        port: sender.port,
+    }
+}
+
+impl StatLine for KindRow {
+    ghost line = { kind_line };
+
+    fn append<A: Allocator>(&self, out: &mut Vec<u8, A>) -> Result<(), AllocError> {
+        let fields = [
+            LineField::Number(self.datagrams),
+            LineField::Words(b"octets"),
+            LineField::Number(self.octets),
+            LineField::Words(self.kind.name()),
+        ];
+        append_line(b"datagrams", &fields, out)
+    }
+}
+
+impl StatLine for SourceRow {
+    ghost line = { source_line };
+
+    fn append<A: Allocator>(&self, out: &mut Vec<u8, A>) -> Result<(), AllocError> {
+        let numbers = &self.numbers;
+        let fields = [
+            LineField::Place(sender_address(&self.sender)),
+            LineField::Number(u64::from(self.sender.ssrc)),
+            LineField::Words(b"packets"),
+            LineField::Number(numbers.packets),
+            LineField::Words(b"octets"),
+            LineField::Number(numbers.octets),
+            LineField::Words(b"late"),
+            LineField::Number(numbers.late),
+            LineField::Words(b"duplicate"),
+            LineField::Number(numbers.duplicates),
+            LineField::Words(b"dropped"),
+            LineField::Number(numbers.dropped),
+            LineField::Words(b"expected"),
+            LineField::Number(numbers.expected),
+            LineField::Words(b"lost"),
+            LineField::Number(numbers.expected.saturating_sub(numbers.received)),
+            LineField::Words(b"ago"),
+            LineField::Number(self.ago),
+        ];
+        append_line(b"source", &fields, out)
+    }
+}
+
+impl StatLine for StrangerRow {
+    ghost line = { stranger_line };
+
+    fn append<A: Allocator>(&self, out: &mut Vec<u8, A>) -> Result<(), AllocError> {
+        let fields = [
+            LineField::Place(sender_address(&self.sender)),
+            LineField::Number(u64::from(self.sender.ssrc)),
+            LineField::Words(b"type"),
+            LineField::Number(u64::from(self.numbers.pt)),
+            LineField::Words(b"packets"),
+            LineField::Number(self.numbers.packets),
+        ];
+        append_line(b"stranger", &fields, out)
+    }
+}

@@ -1,0 +1,103 @@
+//! What is counted, as it is shown at a moment.
+
+ghost use Rattle.std.specs.Prelude.{◌≡◌, map, OnOk};
+ghost use Rattle.bridge_stats.specs.Kinds.{all_kinds};
+ghost use Rattle.bridge_stats.specs.Shown.{kind_row, source_row, stranger_row, IsShown};
+
+use crate::kind::OutcomeKind;
+use crate::rows::{KindRow, SourceRow, StrangerRow};
+use crate::sender::Sender;
+use crate::shown::StatsShown;
+use crate::source_count::SourceCount;
+use crate::source_table::SourceCache;
+use crate::stats::BridgeStats;
+use crate::stranger::StrangerCache;
+use crate::tally::OutcomeTally;
+use std::alloc::{AllocError, Allocator};
+
+/// How many nanoseconds a millisecond has.
+const MILLISECOND: u64 = 1_000_000;
+
+/// The row of an outcome.
+fn kind_row(tally: &OutcomeTally, kind: OutcomeKind) -> KindRow
+    ensures { result ≡ kind_row tally.now kind }
+{
+    KindRow {
+        kind,
+        datagrams: tally.datagrams(kind),
+        octets: tally.octets(kind),
+    }
+}
+
+/// The row of a source at a moment.
+fn source_row(now: u64, sender: &Sender, count: &SourceCount) -> SourceRow
+    ensures { result ≡ source_row now (sender.now, count.now) }
+{
+    let numbers = count.numbers();
+    SourceRow {
+        sender: *sender,
+        numbers,
+        ago: now.saturating_sub(numbers.last) / MILLISECOND,
+    }
+}
+
+/// Writes the rows of the outcomes.
+fn show_kinds(tally: &OutcomeTally, out: &mut Vec<KindRow>) -> Result<(), AllocError>
+    ensures { OnOk result (out.new.items ≡ map (kind_row tally.now) all_kinds) }
+{
+    out.clear();
+    let kinds = OutcomeKind::all();
+    for kind in kinds {
+        out.push(kind_row(tally, *kind))?;
+    }
+    Ok(())
+}
+
+/// Writes the rows of the sources.
+fn show_sources<A: Allocator + Copy>(
+    cache: &SourceCache<A>,
+    now: u64,
+    out: &mut Vec<SourceRow>,
+) -> Result<(), AllocError>
+    ensures { OnOk result (out.new.items ≡ map (source_row now) cache.now.entries) }
+{
+    out.clear();
+    for (sender, count) in cache.iter() {
+        out.push(source_row(now, sender, count))?;
+    }
+    Ok(())
+}
+
+/// Writes the rows of the senders that are no source.
+fn show_strangers<A: Allocator + Copy>(
+    cache: &StrangerCache<A>,
+    out: &mut Vec<StrangerRow>,
+) -> Result<(), AllocError>
+    ensures { OnOk result (out.new.items ≡ map stranger_row cache.now.entries) }
+{
+    out.clear();
+    for (sender, numbers) in cache.iter() {
+        out.push(StrangerRow {
+            sender: *sender,
+            numbers: *numbers,
+        })?;
+    }
+    Ok(())
+}
+
+impl<A: Allocator + Copy> BridgeStats<A> {
+    /// Shows what is counted at a moment, in place of what was shown before. It takes memory only for more rows than
+    /// there ever were. On out of memory, the only error, what is shown is of no use.
+    pub fn show(&self, now: u64, shown: &mut StatsShown) -> Result<(), AllocError>
+        ensures { OnOk result (IsShown now self.now shown.new) }
+    {
+        let sources = &self.sources;
+        let strangers = &self.strangers;
+        show_kinds(&self.tally, &mut shown.kinds)?;
+        show_sources(&sources.cache, now, &mut shown.sources)?;
+        show_strangers(&strangers.cache, &mut shown.strangers)?;
+        shown.left_out_sources = sources.left_out;
+        shown.left_out_strangers = strangers.left_out;
+        Ok(())
+    }
+}

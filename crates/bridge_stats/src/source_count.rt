@@ -1,0 +1,168 @@
+//! What came of one source.
+
+ghost use Rattle.std.specs.Prelude.{◌≡◌, ◌+◌, ◌∷◌, ◌++◌, [], cond, not};
+ghost use Rattle.bridge_stats.specs.Counts.{so_many};
+ghost use Rattle.bridge_stats.specs.Sources.{is_accepted, is_late, is_duplicate, numbers_of};
+
+use crate::numbers::SourceNumbers;
+use crate::stretch::Stretch;
+use crate::taken::TakenIn;
+use crate::taken_log::TakenLog;
+use intake::Outcome;
+use std::marker::Model;
+
+/// Whether a packet with this outcome counts for its source.
+fn is_accepted(outcome: &Outcome) -> bool
+    ensures { result ≡ is_accepted outcome.now }
+{
+    match outcome {
+        Outcome::Accepted { .. }
+        | Outcome::Late { .. }
+        | Outcome::Duplicate { .. }
+        | Outcome::Restarted { .. } => true,
+        Outcome::TooLong
+        | Outcome::Neither
+        | Outcome::BadRtp(_)
+        | Outcome::BadRtcp(_)
+        | Outcome::Unknown
+        | Outcome::BadPayload
+        | Outcome::Spent
+        | Outcome::Probation
+        | Outcome::Jump
+        | Outcome::Rtcp { .. } => false,
+    }
+}
+
+/// Whether it came too late.
+fn is_late(outcome: &Outcome) -> bool
+    ensures { result ≡ is_late outcome.now }
+{
+    match outcome {
+        Outcome::Late { .. } => true,
+        Outcome::TooLong
+        | Outcome::Neither
+        | Outcome::BadRtp(_)
+        | Outcome::BadRtcp(_)
+        | Outcome::Unknown
+        | Outcome::BadPayload
+        | Outcome::Spent
+        | Outcome::Probation
+        | Outcome::Accepted { .. }
+        | Outcome::Duplicate { .. }
+        | Outcome::Jump
+        | Outcome::Restarted { .. }
+        | Outcome::Rtcp { .. } => false,
+    }
+}
+
+/// Whether its number had come.
+fn is_duplicate(outcome: &Outcome) -> bool
+    ensures { result ≡ is_duplicate outcome.now }
+{
+    match outcome {
+        Outcome::Duplicate { .. } => true,
+        Outcome::TooLong
+        | Outcome::Neither
+        | Outcome::BadRtp(_)
+        | Outcome::BadRtcp(_)
+        | Outcome::Unknown
+        | Outcome::BadPayload
+        | Outcome::Spent
+        | Outcome::Probation
+        | Outcome::Accepted { .. }
+        | Outcome::Late { .. }
+        | Outcome::Jump
+        | Outcome::Restarted { .. }
+        | Outcome::Rtcp { .. } => false,
+    }
+}
+
+/// As much more, if this is so.
+fn more_if(count: u64, is_so: bool, more: u64) -> u64
+    ensures { result ≡ so_many (count + cond is_so more 0) }
+{
+    if is_so {
+        count.saturating_add(more)
+    } else {
+        count
+    }
+}
+
+/// What came of one source.
+///
+/// Contracts see the list of its datagrams.
+#[derive(Drop)]
+pub(crate) struct SourceCount {
+    packets: u64,
+    octets: u64,
+    late: u64,
+    duplicates: u64,
+    dropped: u64,
+    last: u64,
+    stretch: Option<Stretch>,
+    /// What was noted, in proofs alone.
+    log: TakenLog,
+}
+
+impl Model for SourceCount {
+    ghost use Rattle.std.specs.Prelude.{List};
+    ghost use Rattle.bridge_stats.specs.declared.taken.TakenIn.{TakenIn as TakenOf};
+    ghost use Rattle.bridge_stats.specs.Logs.{taken_list};
+    ghost use Rattle.bridge_stats.specs.inner.Kept.{AreCounts};
+
+    ghost Value = { List TakenOf };
+
+    ghost view = { λ s. taken_list s.log };
+
+    ghost invariant = { λ s. AreCounts s.packets s.octets s.late s.duplicates s.dropped s.last s.stretch
+        (taken_list s.log) };
+}
+
+impl SourceCount {
+    /// Nothing came.
+    pub(crate) fn new() -> Self
+        ensures { result ≡ [] }
+    {
+        Self {
+            packets: 0,
+            octets: 0,
+            late: 0,
+            duplicates: 0,
+            dropped: 0,
+            last: 0,
+            stretch: None,
+            log: TakenLog::new(),
+        }
+    }
+
+    /// Notes a datagram.
+    pub(crate) fn note(&mut self, taken: &TakenIn)
+        ensures { self.new ≡ self.old ++ taken.now ∷ [] }
+    {
+        let accepted = is_accepted(&taken.outcome);
+        self.packets = more_if(self.packets, accepted, 1);
+        self.octets = more_if(self.octets, accepted, taken.octets);
+        self.late = more_if(self.late, is_late(&taken.outcome), 1);
+        self.duplicates = more_if(self.duplicates, is_duplicate(&taken.outcome), 1);
+        self.dropped = more_if(self.dropped, !accepted, 1);
+        self.last = taken.moment;
+        self.stretch = Stretch::after(self.stretch, &taken.outcome);
+        self.log.note(taken);
+    }
+
+    /// What is counted of it.
+    pub(crate) fn numbers(&self) -> SourceNumbers
+        ensures { result ≡ numbers_of self.now }
+    {
+        SourceNumbers {
+            packets: self.packets,
+            octets: self.octets,
+            late: self.late,
+            duplicates: self.duplicates,
+            dropped: self.dropped,
+            expected: Stretch::expected(self.stretch),
+            received: Stretch::received(self.stretch),
+            last: self.last,
+        }
+    }
+}
