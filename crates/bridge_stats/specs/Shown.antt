@@ -85,11 +85,11 @@ abbrev pub lane_line : LaneRow → List ℕ
 lane_line row =
     line_text (codes "lane")
     (number row.lane ∷ words (codes "items") ∷ number row.items ∷ words (codes "dropped") ∷ number row.dropped
-    ∷ words (codes "waiting") ∷ number row.waiting ∷ words (codes "packets") ∷ number row.packets
-    ∷ words (codes "octets") ∷ number row.octets ∷ words (codes "waited") ∷ number row.waited
-    ∷ words (codes "not-ready") ∷ number row.not_ready ∷ words (codes "denied") ∷ number row.denied
-    ∷ words (codes "refused") ∷ number row.refused ∷ words (codes "unreachable") ∷ number row.unreachable
-    ∷ words (codes "too-long") ∷ number row.too_long ∷ words (codes "other") ∷ number row.other ∷ [])
+    ∷ words (codes "packets") ∷ number row.packets ∷ words (codes "octets") ∷ number row.octets
+    ∷ words (codes "waited") ∷ number row.waited ∷ words (codes "not-ready") ∷ number row.not_ready
+    ∷ words (codes "denied") ∷ number row.denied ∷ words (codes "refused") ∷ number row.refused
+    ∷ words (codes "unreachable") ∷ number row.unreachable ∷ words (codes "too-long") ∷ number row.too_long
+    ∷ words (codes "other") ∷ number row.other ∷ [])
 
 abbrev pub limited_line : Limited → List ℕ
 limited_line limited =

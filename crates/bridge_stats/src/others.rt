@@ -21,7 +21,7 @@ pub struct StreamRow {
     pub source: Option<(u32, i64)>,
 }
 
-/// What a lane did. Each number counts since the start, but for those that wait.
+/// What a lane did. Each number counts since the start.
 #[derive(Clone, Copy)]
 pub struct LaneRow {
     /// The lane, from 0 on.
@@ -30,8 +30,6 @@ pub struct LaneRow {
     pub items: u64,
     /// How many were dropped for it.
     pub dropped: u64,
-    /// How many wait on its ring.
-    pub waiting: u64,
     /// How many datagrams the system took.
     pub packets: u64,
     /// How many octets these had.
@@ -117,8 +115,6 @@ impl StatLine for LaneRow {
             LineField::Number(self.items),
             LineField::Words(b"dropped"),
             LineField::Number(self.dropped),
-            LineField::Words(b"waiting"),
-            LineField::Number(self.waiting),
             LineField::Words(b"packets"),
             LineField::Number(self.packets),
             LineField::Words(b"octets"),

@@ -1,8 +1,9 @@
 //! What is counted, as it is shown at a moment.
 
-ghost use Rattle.std.specs.Prelude.{◌≡◌, map, OnOk};
+ghost use Rattle.std.specs.Prelude.{◌≡◌, ℕ, map, OnOk};
 ghost use Rattle.bridge_stats.specs.Kinds.{all_kinds};
 ghost use Rattle.bridge_stats.specs.Shown.{kind_row, source_row, stranger_row, IsShown};
+ghost use Rattle.bridge_stats.specs.Stats.{StatsOf};
 
 use crate::kind::OutcomeKind;
 use crate::rows::{KindRow, SourceRow, StrangerRow};
@@ -98,6 +99,30 @@ impl<A: Allocator + Copy> BridgeStats<A> {
         show_strangers(&strangers.cache, &mut shown.strangers)?;
         shown.left_out_sources = sources.left_out;
         shown.left_out_strangers = strangers.left_out;
+        Ok(())
+    }
+}
+
+/// Writes the same rows.
+fn show_rows<T: Copy>(rows: &[T], out: &mut Vec<T>) -> Result<(), AllocError>
+    ensures { OnOk result (out.new.items ≡ rows.now) }
+{
+    out.clear();
+    out.extend_from_slice(rows)
+}
+
+impl StatsShown {
+    /// Shows what others show, in place of what was shown before. It takes memory only for more rows than there ever
+    /// were. On out of memory, the only error, what is shown is of no use.
+    pub fn show_again(&mut self, others: &StatsShown) -> Result<(), AllocError>
+        ensures { OnOk result ((now : ℕ) (stats : StatsOf)
+            → IsShown now stats others.now → IsShown now stats self.new) }
+    {
+        show_rows(&others.kinds, &mut self.kinds)?;
+        show_rows(&others.sources, &mut self.sources)?;
+        show_rows(&others.strangers, &mut self.strangers)?;
+        self.left_out_sources = others.left_out_sources;
+        self.left_out_strangers = others.left_out_strangers;
         Ok(())
     }
 }
