@@ -75,7 +75,11 @@ fn media_in<H: DeskBrand + Setup, R: Wait + Clock + Drop>(
 ) -> ServerMedia<H, R>
     ensures { IsSetUp H.who H.lanes H.start H.publisher result }
 {
-    let Running { rounds, counts: _ } = running;
+    let Running {
+        rounds,
+        counts: _,
+        lanes: _,
+    } = running;
     let Rounds {
         alloc: _,
         inlet: _,
@@ -84,6 +88,7 @@ fn media_in<H: DeskBrand + Setup, R: Wait + Clock + Drop>(
         reader: _,
         media,
         ticked: _,
+        stats: _,
         version: _,
         pictures: _,
         has_members: _,

@@ -31,6 +31,8 @@ mod serving;
 mod setup;
 mod sinks;
 mod sockets;
+mod stats_desk;
+mod stats_rows;
 mod stopped;
 mod telling;
 mod waking;

@@ -25,6 +25,7 @@ use crate::telling::Teller;
 use crate::waking::FrontWaker;
 use crate::watching::SystemWatch;
 use bridge_core::{Intake, Settings};
+use bridge_stats::BridgeStats;
 use front_rounds::{RoundStage, Rounds, Wakes};
 use lane_wire::WireSink;
 use media_front::{LaneFeed, MediaFront, pli_octets};
@@ -162,6 +163,8 @@ where
     let watch = SystemWatch::new(rt, moments);
     let start = watch.start();
     let counts = counts_for(alloc, readers.len())?;
+    let lanes = Vec::with_capacity(alloc, readers.len())?;
+    let stats = BridgeStats::new(alloc)?;
     let sinks = sinks_for(alloc, &udp, &counts)?;
     let reports = ReportTimer::begin(settings.report_ms, start);
     let mut media = media_of(rt, alloc, readers, settings.bridge, sinks, reports, teller)?;
@@ -174,6 +177,7 @@ where
         reader: own,
         media,
         ticked: start,
+        stats,
         version: 0,
         pictures: PictureRequests::new(alloc),
         has_members: false,
@@ -181,7 +185,11 @@ where
         wakes: Wakes::begin(start),
         chunk,
     };
-    let running = Running { rounds, counts };
+    let running = Running {
+        rounds,
+        counts,
+        lanes,
+    };
     Ok((running, waker, listener))
 }
 

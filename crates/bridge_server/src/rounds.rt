@@ -1,15 +1,18 @@
 //! The front of a bridge that runs: its rounds over the system's sockets and clock.
 
 ghost use Rattle.std.specs.Prelude.{◌≡◌};
+ghost use Rattle.bridge_server.specs.Told.{lane_row};
 
 use crate::setup::Setup;
 use crate::sinks::LaneSocket;
 use crate::sockets::{FrontSocket, UdpInlet};
+use crate::stats_desk::StatsDesk;
 use crate::telling::Teller;
 use crate::watching::SystemWatch;
+use bridge_stats::LaneRow;
 use event_lines::{Cause, Event, LaneDrops};
 use front_rounds::Rounds;
-use lane_wire::{SharedCounts, WireSink};
+use lane_wire::{SendCounts, SharedCounts, WireSink};
 use media_front::{MediaFront, PublisherOf};
 use media_workers::SleepPace;
 use operator_desk::DeskBrand;
@@ -45,6 +48,44 @@ pub(crate) struct Running<H: DeskBrand + Setup, R: Wait + Clock + Drop> {
     pub(crate) rounds: ServerRounds<H, R>,
     /// What each lane has sent so far, and what not.
     pub(crate) counts: Vec<Arc<SharedCounts, Global>>,
+    /// What was shown of the lanes last. It has the capacity for all.
+    pub(crate) lanes: Vec<LaneRow>,
+}
+
+/// What a lane did.
+fn lane_row(lane: u32, items: u64, dropped: u64, sent: &SendCounts) -> LaneRow
+    ensures { result ≡ lane_row lane items dropped sent.now }
+{
+    LaneRow {
+        lane,
+        items,
+        dropped,
+        packets: sent.packets,
+        octets: sent.octets,
+        waited: sent.waited,
+        not_ready: sent.not_ready,
+        denied: sent.denied,
+        refused: sent.refused,
+        unreachable: sent.unreachable,
+        too_long: sent.too_long,
+        other: sent.other,
+    }
+}
+
+/// Writes what each lane did so far, by what each has sent. Rows for which there is no capacity are left out.
+fn show_lanes<H: DeskBrand, R: Wait + Clock + Drop>(
+    media: &ServerMedia<H, R>,
+    counts: &[Arc<SharedCounts, Global>],
+    rows: &mut Vec<LaneRow>,
+) {
+    rows.clear();
+    for lane in 0..media.lanes() {
+        if let Some(sent) = counts.get(lane as usize) {
+            let items = media.given(lane);
+            let row = lane_row(lane, items, media.dropped(lane), &sent.read());
+            let _ = rows.push(row);
+        }
+    }
 }
 
 impl<H: DeskBrand + Setup, R: Wait + Clock + Drop> Model for Running<H, R> {
@@ -89,6 +130,17 @@ impl<
                 }
             }
         }
+    }
+
+    /// Answers the operators' threads that ask what the bridge counts. Where none asks, it does nothing.
+    pub(crate) fn answer_stats(&mut self, rt: &R, desk: &StatsDesk) {
+        if !desk.is_asked() {
+            return;
+        }
+        let rounds = &self.rounds;
+        show_lanes(&rounds.media, &self.counts, &mut self.lanes);
+        let limited = rounds.media.limited();
+        desk.answer(rt, rounds.ticked, &rounds.stats, limited, &self.lanes);
     }
 
     /// What failed last at its sockets and its clock.

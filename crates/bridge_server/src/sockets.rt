@@ -7,6 +7,7 @@ ghost use Rattle.front_rounds.specs.Came.{octets_read};
 use crate::causes::started;
 use crate::front::{Front, TCP, UDP, WAKER};
 use crate::listener::OperatorListener;
+use crate::stats_desk::StatsDesk;
 use crate::telling::Teller;
 use crate::waking::FrontWaker;
 use event_lines::{Cause, ServerPart, WhyFailed};
@@ -245,6 +246,8 @@ pub(crate) fn sockets_of<R: Wait>(
     let waker = FrontWaker {
         waker: Arc::new(alloc, waker)?,
         teller: teller.clone()?,
+        stats: Arc::new(alloc, StatsDesk::new(alloc)?)?,
+        seats: settings.operators,
     };
     let udp = Arc::new(alloc, udp)?;
     let wire = FrontSocket::new(alloc, &udp)?;

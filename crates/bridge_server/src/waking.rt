@@ -1,6 +1,8 @@
-//! How other threads wake the front.
+//! How other threads wake the front, and what they ask it.
 
+use crate::stats_desk::StatsDesk;
 use crate::telling::Teller;
+use bridge_stats::Seats;
 use event_lines::{Event, WhyFailed};
 use mio::Waker;
 use operator_threads::Wake;
@@ -8,11 +10,15 @@ use rtp_codec::Address;
 use std::alloc::{AllocError, Global};
 use std::sync::{Arc, Wait};
 
-/// Ends the front's wait, and takes what there is to tell.
+/// Ends the front's wait, and takes what there is to tell and to ask.
 #[derive(Drop)]
 pub(crate) struct FrontWaker {
     pub(crate) waker: Arc<Waker, Global>,
     pub(crate) teller: Teller,
+    /// Where the front is asked what the bridge counts.
+    pub(crate) stats: Arc<StatsDesk, Global>,
+    /// How many operators' seats there are.
+    pub(crate) seats: u32,
 }
 
 impl Clone for FrontWaker {
@@ -20,6 +26,8 @@ impl Clone for FrontWaker {
         Ok(Self {
             waker: Arc::try_clone(&self.waker)?,
             teller: self.teller.clone()?,
+            stats: Arc::try_clone(&self.stats)?,
+            seats: self.seats,
         })
     }
 }
@@ -32,8 +40,8 @@ impl FrontWaker {
     }
 }
 
-/// Ends the front's wait for one connection. The thread of its operator does so after an accepted call, and after
-/// `stop`.
+/// Ends the front's wait for one connection. The thread of its operator does so after an accepted call, after `stop`,
+/// and where it asks what the bridge counts.
 #[derive(Drop)]
 pub(crate) struct CallerWaker {
     pub(crate) front: FrontWaker,
@@ -50,6 +58,10 @@ impl CallerWaker {
 }
 
 impl Wake for CallerWaker {
+    ghost use Rattle.bridge_server.specs.Told.{TellsCounts};
+
+    ghost counts = { λ waker used text. TellsCounts (record { used = used; all = waker.front.seats }) text };
+
     fn wake(&self) {
         // If a wake fails, the next round comes at most 20 ms later.
         let _ = self.front.waker.wake();
@@ -57,5 +69,20 @@ impl Wake for CallerWaker {
 
     fn note_busy<R: Wait>(&self, rt: &R) {
         self.note_refused(rt, WhyFailed::Busy);
+    }
+
+    fn tell_stats<R: Wait>(
+        &self,
+        rt: &R,
+        _alloc: Global,
+        used: u32,
+        out: &mut Vec<u8>,
+    ) -> Result<(), AllocError> {
+        let desk = &self.front.stats;
+        let answers = desk.ask(rt);
+        self.wake();
+        desk.wait(rt, answers);
+        let all = self.front.seats;
+        desk.print(rt, Seats { used, all }, out)
     }
 }

@@ -1,3 +1,4 @@
+pub mod CountLemmas
 pub mod LaneLemmas
 pub mod MeantLemmas
 pub mod StepLemmas

@@ -9,6 +9,7 @@ use Rattle.desk_rows.specs.Desk.{Desk}
 use Rattle.versions.specs.Published.{NoticeOf, ReaderOf}
 use Rattle.udp_wire.specs.Attempts.{Attempt}
 use Rattle.udp_wire.specs.declared.ending.FrontFault.{FrontFault}
+use Rattle.bridge_stats.specs.Stats.{StatsOf}
 use Rattle.media_front.specs.Fronts.{FrontOf}
 use Rattle.media_front.specs.Waits.{HaveWaited, HaveWaitedInPart, video_origins}
 use Rattle.front_rounds.specs.Came.{Came, datagram, other, nothing, came_by}
@@ -45,37 +46,39 @@ on_ok {A} {B} {C} r a is k = subst (λ (q : Result A B). OnOk q C) is k
 -- ---- histories
 
 pub looked_same : {P S : Type 0} (front : FrontOf P S) (one came : List Came) (told later : List ℕ)
-    (tried : Option (List Attempt)) (last moment : ℕ)
+    (tried : Option (List Attempt)) (last : ℕ) (stats : StatsOf) (moment : ℕ)
     → came ≡ one → later ≡ told ++ moment ∷ []
-    → HaveDone (looked moment ∷ []) (history front one told tried last) (history front came later tried last)
-looked_same front one came told later tried last moment same is =
-    done_one (looked moment) (history front one told tried last) (history front came later tried last)
-    (ap (λ (l : List Came). history front l later tried last) same
-    ∙ ap (λ (l : List ℕ). history front one l tried last) is)
+    → HaveDone (looked moment ∷ []) (history front one told tried last stats)
+    (history front came later tried last stats)
+looked_same front one came told later tried last stats moment same is =
+    done_one (looked moment) (history front one told tried last stats) (history front came later tried last stats)
+    (ap (λ (l : List Came). history front l later tried last stats) same
+    ∙ ap (λ (l : List ℕ). history front one l tried last stats) is)
 
 pub passed_at : {P S : Type 0} (front : FrontOf P S) (one more : List Came) (told later : List ℕ)
-    (tried : Option (List Attempt)) (last : ℕ) (came : Came)
+    (tried : Option (List Attempt)) (last : ℕ) (stats : StatsOf) (came : Came)
     → more ≡ one ++ came ∷ [] → later ≡ told
-    → HaveDone (passed came ∷ []) (history front one told tried last) (history front more later tried last)
-passed_at front one more told later tried last came is same =
-    done_one (passed came) (history front one told tried last) (history front more later tried last)
-    (ap (λ (c : List Came). history front c later tried last) is
-    ∙ ap (λ (t : List ℕ). history front (one ++ came ∷ []) t tried last) same)
+    → HaveDone (passed came ∷ []) (history front one told tried last stats) (history front more later tried last stats)
+passed_at front one more told later tried last stats came is same =
+    done_one (passed came) (history front one told tried last stats) (history front more later tried last stats)
+    (ap (λ (c : List Came). history front c later tried last stats) is
+    ∙ ap (λ (t : List ℕ). history front (one ++ came ∷ []) t tried last stats) same)
 
 -- ---- reads
 
 pub passes_by : {P S : Type 0} (front : FrontOf P S) (one more : List Came) (told : List ℕ)
-    (tried : Option (List Attempt)) (last : ℕ) (read : Read) (chunk : List ℕ)
+    (tried : Option (List Attempt)) (last : ℕ) (stats : StatsOf) (read : Read) (chunk : List ℕ)
     → more ≡ one ++ came_by read chunk ∷ []
-    → (turns : List Turn) × HaveDone turns (history front one told tried last) (history front more told tried last)
+    → (turns : List Turn) × HaveDone turns (history front one told tried last stats)
+    (history front more told tried last stats)
     × IsReadOnce IsPassed (is_something read) turns
-passes_by front one more told tried last (Datagram from octets) chunk is =
+passes_by front one more told tried last stats (Datagram from octets) chunk is =
     let came = datagram from (take octets chunk) in
-    (passed came ∷ [], passed_at front one more told told tried last came is refl, (came, tt, refl))
-passes_by front one more told tried last Other chunk is =
-    (passed other ∷ [], passed_at front one more told told tried last other is refl, (other, tt, refl))
-passes_by front one more told tried last Nothing chunk is =
-    (passed nothing ∷ [], passed_at front one more told told tried last nothing is refl, refl)
+    (passed came ∷ [], passed_at front one more told told tried last stats came is refl, (came, tt, refl))
+passes_by front one more told tried last stats Other chunk is =
+    (passed other ∷ [], passed_at front one more told told tried last stats other is refl, (other, tt, refl))
+passes_by front one more told tried last stats Nothing chunk is =
+    (passed nothing ∷ [], passed_at front one more told told tried last stats nothing is refl, refl)
 
 -- the turns of these reads
 abbrev pub turns_of : List (List Turn) → List Turn
@@ -129,7 +132,12 @@ read_full Is reads all many = record {
 pub waits_by : {P S : Type 0} (r : Result (Unit {0}) FrontFault) (desk : Desk) (moment : ℕ) (old new : History P S)
     → OnOk r (HaveWaited desk moment (video_origins desk) old.front new.front old.tried new.tried)
     → OnErr r (HaveWaitedInPart desk moment (video_origins desk) old.front new.front old.tried new.tried)
-    → new.front ≡ record old.front { intake = new.front.intake; feed = new.front.feed; limiter = new.front.limiter }
+    → new.front ≡ record old.front {
+      intake = new.front.intake;
+      feed = new.front.feed;
+      limiter = new.front.limiter;
+      limited = new.front.limited;
+    }
     → new.front.intake.asker ≡ old.front.intake.asker → HasActed old new
     → (turns : List Turn) × HaveDone turns old new × OnOk r (turns ≡ let_wait desk moment ∷ [])
 waits_by (Ok u) desk moment old new ok err kept asker same = (

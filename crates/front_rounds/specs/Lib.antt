@@ -1,8 +1,10 @@
 pub mod Came
 pub mod Logs
+pub mod Counted
 pub mod Turns
 pub mod Shapes
 pub mod Runs
 pub mod Tries
+pub mod Totals
 pub mod Sleeps
 pub mod inner

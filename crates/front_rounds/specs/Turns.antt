@@ -7,6 +7,7 @@ use Rattle.versions.specs.Published.{NoticeOf}
 use Rattle.media_items.specs.Inputs.{Input}
 use Rattle.intake.specs.Sources.{Origin}
 use Rattle.intake.specs.declared.outcome.Outcome.{Outcome}
+use Rattle.bridge_stats.specs.Stats.{StatsOf}
 use Rattle.udp_wire.specs.Attempts.{Attempt}
 use Rattle.udp_wire.specs.Pacing.{most_ticks, is_behind, report_due, after_report}
 use Rattle.media_front.specs.FedLanes.{owing_notice, after_signal, AllAreGiven}
@@ -15,20 +16,24 @@ use Rattle.media_front.specs.Waits.{HaveWaited, HaveWaitedInPart, video_origins}
 use Rattle.media_front.specs.Pictures.{HasAsked}
 use Rattle.media_front.specs.Probations.{EndsProbation}
 use Rattle.front_rounds.specs.Came.{Came, datagram}
+use Rattle.front_rounds.specs.Counted.{IsCounted}
 
 -- A front and its history, oldest first: what was read where its datagrams come in, the moments that its watch told,
--- and what was tried on its wire, if that is known. And the moment at which the ticks that were due were given last.
+-- and what was tried on its wire, if that is known. The moment at which the ticks that were due were given last. And
+-- what it counts of the datagrams that it took in.
 pub record History (P S : Type 0) : Type 0 where
   pub front : FrontOf P S
   pub came : List Came
   pub told : List ℕ
   pub tried : Option (List Attempt)
   pub ticked : ℕ
+  pub stats : StatsOf
 
 -- the same of its parts
-abbrev pub history : {P S : Type 0} → FrontOf P S → List Came → List ℕ → Option (List Attempt) → ℕ → History P S
-history front came told tried ticked =
-    record { front = front; came = came; told = told; tried = tried; ticked = ticked }
+abbrev pub history : {P S : Type 0} → FrontOf P S → List Came → List ℕ → Option (List Attempt) → ℕ → StatsOf
+    → History P S
+history front came told tried ticked stats =
+    record { front = front; came = came; told = told; tried = tried; ticked = ticked; stats = stats }
 
 -- from how many nanoseconds without a tick on a front stood still: 1 s
 abbrev pub stood_still : ℕ
@@ -87,7 +92,7 @@ pub record IsInTime {P S : Type 0} (late : Bool) (arrival : Arrival) (old : Hist
   pub ticked : last ≡ (if late then arrival.moment else old.ticked)
   pub caught : HasCaughtUp late arrival.moment old.front mid
 
--- A datagram was read and taken in, and ended the probation of this video source, or of none.
+-- A datagram was read and taken in, was counted once, and ended the probation of this video source, or of none.
 pub record TakesArrival {P S : Type 0} (late : Bool) (arrival : Arrival) (outcome : Outcome) (ended : Option ℕ)
     (old new : History P S) : Type 0 where
   pub read : HasRead arrival old new
@@ -95,10 +100,17 @@ pub record TakesArrival {P S : Type 0} (late : Bool) (arrival : Arrival) (outcom
   pub time : IsInTime late arrival old mid new.ticked
   pub takes : HasTaken arrival outcome mid new.front old.tried new.tried
   pub ends : EndsProbation arrival outcome mid.intake new.front.intake ended
-  pub same : new.front ≡ record mid { intake = new.front.intake; feed = new.front.feed; limiter = new.front.limiter }
+  pub same : new.front
+      ≡ record mid {
+        intake = new.front.intake;
+        feed = new.front.feed;
+        limiter = new.front.limiter;
+        limited = new.front.limited;
+      }
   pub asker : new.front.intake.asker ≡ mid.intake.asker
+  pub counted : IsCounted arrival outcome old.stats new.stats
 
--- A datagram was read, and memory ran out: nothing was sent or given, though the intake may have taken it in.
+-- A datagram was read, and memory ran out: nothing was sent, given or counted, though the intake may have taken it in.
 pub record LosesArrival {P S : Type 0} (late : Bool) (arrival : Arrival) (old new : History P S) : Type 0 where
   pub read : HasRead arrival old new
   pub mid : FrontOf P S
@@ -107,6 +119,7 @@ pub record LosesArrival {P S : Type 0} (late : Bool) (arrival : Arrival) (old ne
   pub same : new.front ≡ record mid { intake = new.front.intake }
   pub asker : new.front.intake.asker ≡ mid.intake.asker
   pub tried : new.tried ≡ old.tried
+  pub stats : new.stats ≡ old.stats
 
 -- Nothing changed but the front and what was tried.
 abbrev pub HasActed : {P S : Type 0} → History P S → History P S → Type 0
@@ -124,7 +137,12 @@ pub record PassesTime {P S : Type 0} (whole : Bool) (desk : Desk) (moment : ℕ)
       (HaveWaited desk moment (video_origins desk) old.front new.front old.tried new.tried)
       (HaveWaitedInPart desk moment (video_origins desk) old.front new.front old.tried new.tried)
   pub kept : new.front
-      ≡ record old.front { intake = new.front.intake; feed = new.front.feed; limiter = new.front.limiter }
+      ≡ record old.front {
+        intake = new.front.intake;
+        feed = new.front.feed;
+        limiter = new.front.limiter;
+        limited = new.front.limited;
+      }
   pub asker : new.front.intake.asker ≡ old.front.intake.asker
   pub same : HasActed old new
 

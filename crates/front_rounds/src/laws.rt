@@ -5,6 +5,7 @@ ghost use Rattle.std.specs.List.{flat_map};
 ghost use Rattle.media_front.specs.FedLanes.{lanes_in};
 ghost use Rattle.front_rounds.specs.Turns.{Turn, History, HaveDone};
 ghost use Rattle.front_rounds.specs.Tries.{Try, AreMeant, came_in, moments_in};
+ghost use Rattle.front_rounds.specs.Totals.{AreCounted};
 
 use media_workers::{Pace, Sink};
 
@@ -23,6 +24,14 @@ pub fn all_that_came_is_in_turns<P: Pace, S: Sink>()
 pub fn all_that_is_tried_is_meant<P: Pace, S: Sink>()
     ensures { (turns : List Turn) (old new : History P S) → HaveDone turns old new
         → (tries : List Try) × AreMeant turns old new tries }
+{}
+
+/// Whatever a front does, it counts each datagram that it took in once, in order, with the outcome that its intake
+/// gave, and nothing else. A datagram for which memory ran out isn't counted, nor one that was dropped since the desk
+/// had ended.
+pub fn all_that_is_taken_in_is_counted<P: Pace, S: Sink>()
+    ensures { (turns : List Turn) (old new : History P S) → HaveDone turns old new
+        → AreCounted turns old.stats new.stats }
 {}
 
 /// Whatever a front does, its lanes stay those that it was handed, and its intake signs with the same SSRC and CNAME.

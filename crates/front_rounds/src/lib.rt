@@ -6,9 +6,10 @@
 //! themselves.
 //!
 //! Contracts see all that a front does as a list of turns: what each changes in the front, in what was read, in the
-//! moments that its watch told, and in what was tried on its wire. They say it after a fault, too.
-//! [`all_that_is_tried_is_meant`] says of any number of rounds why each datagram was tried, and
-//! [`all_that_came_is_in_turns`] that each datagram that was read is in one turn, in order.
+//! moments that its watch told, in what was tried on its wire, and in what is counted. They say it after a fault, too.
+//! [`all_that_is_tried_is_meant`] says of any number of rounds why each datagram was tried,
+//! [`all_that_came_is_in_turns`] that each datagram that was read is in one turn, in order, and
+//! [`all_that_is_taken_in_is_counted`] that each datagram that was taken in is counted once.
 //!
 //! ```rust
 //! // rounds: a `Rounds` over an `Inlet`, a `Wire` and a `Watch`
@@ -28,7 +29,10 @@ mod wakes;
 mod watch;
 
 pub use self::inlet::{Inlet, Read};
-pub use self::laws::{all_that_came_is_in_turns, all_that_is_tried_is_meant, lanes_stay_the_same};
+pub use self::laws::{
+    all_that_came_is_in_turns, all_that_is_taken_in_is_counted, all_that_is_tried_is_meant,
+    lanes_stay_the_same,
+};
 pub use self::logs::{ReadLog, TryLog, WatchLog};
 pub use self::rounds::Rounds;
 pub use self::running::RoundStage;

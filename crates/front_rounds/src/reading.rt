@@ -8,6 +8,7 @@ ghost use Rattle.front_rounds.specs.inner.Reading.{IsReadOnce};
 use crate::inlet::{Inlet, Read};
 use crate::rounds::Rounds;
 use crate::watch::Watch;
+use bridge_stats::TakenIn;
 use desk_rows::Rows;
 use media_workers::{Pace, PublisherName, Sink};
 use udp_wire::{FrontFault, Wire};
@@ -21,9 +22,9 @@ impl<N: PublisherName, P: Pace, S: Sink, I: Inlet, W: Wire, C: Watch> Rounds<N, 
     pub(crate) fn take_datagrams(&mut self, rows: &Rows) -> Result<(), FrontFault>
         ensures { (turns : List Turn) × HaveDone turns
             (history self.old.media (I.came self.old.inlet) (C.told self.old.watch)
-            (W.attempts self.old.wire) self.old.ticked)
+            (W.attempts self.old.wire) self.old.ticked self.old.stats)
             (history self.new.media (I.came self.new.inlet) (C.told self.new.watch)
-            (W.attempts self.new.wire) self.new.ticked)
+            (W.attempts self.new.wire) self.new.ticked self.new.stats)
             × OnOk result (AreAllRead (IsTaken rows.now) turns) }
     {
         for _ in 0..DATAGRAMS {
@@ -35,14 +36,14 @@ impl<N: PublisherName, P: Pace, S: Sink, I: Inlet, W: Wire, C: Watch> Rounds<N, 
         Ok(())
     }
 
-    /// Takes in the next datagram. If it ends the probation of a video source, its sender is asked for a picture.
-    /// Returns whether one waited, or something else.
+    /// Takes in the next datagram, and counts it by its outcome. If it ends the probation of a video source, its sender
+    /// is asked for a picture. Returns whether one waited, or something else.
     fn take_datagram(&mut self, rows: &Rows) -> Result<bool, FrontFault>
         ensures { (turns : List Turn) × HaveDone turns
             (history self.old.media (I.came self.old.inlet) (C.told self.old.watch)
-            (W.attempts self.old.wire) self.old.ticked)
+            (W.attempts self.old.wire) self.old.ticked self.old.stats)
             (history self.new.media (I.came self.new.inlet) (C.told self.new.watch)
-            (W.attempts self.new.wire) self.new.ticked)
+            (W.attempts self.new.wire) self.new.ticked self.new.stats)
             × IfOk result (λ more. IsReadOnce (IsTaken rows.now) more turns) }
     {
         let (from, octets) = match self.inlet.read(&mut self.chunk)? {
@@ -56,6 +57,7 @@ impl<N: PublisherName, P: Pace, S: Sink, I: Inlet, W: Wire, C: Watch> Rounds<N, 
         let taken = self
             .media
             .take_in(self.alloc, rows, &from, moment, octets, &mut self.wire)?;
+        self.stats.note(&TakenIn::of(from, moment, octets, taken.0));
         self.ask_first(&from, taken.1, moment)?;
         Ok(true)
     }
@@ -64,9 +66,9 @@ impl<N: PublisherName, P: Pace, S: Sink, I: Inlet, W: Wire, C: Watch> Rounds<N, 
     pub(crate) fn drop_datagrams(&mut self) -> Result<(), FrontFault>
         ensures done { (turns : List Turn) × HaveDone turns
             (history self.old.media (I.came self.old.inlet) (C.told self.old.watch)
-            (W.attempts self.old.wire) self.old.ticked)
+            (W.attempts self.old.wire) self.old.ticked self.old.stats)
             (history self.new.media (I.came self.new.inlet) (C.told self.new.watch)
-            (W.attempts self.new.wire) self.new.ticked)
+            (W.attempts self.new.wire) self.new.ticked self.new.stats)
             × OnOk result (AreAllRead IsPassed turns) }
         ensures reader { self.new.reader ≡ self.old.reader }
     {
@@ -83,9 +85,9 @@ impl<N: PublisherName, P: Pace, S: Sink, I: Inlet, W: Wire, C: Watch> Rounds<N, 
     fn drop_datagram(&mut self) -> Result<bool, FrontFault>
         ensures done { (turns : List Turn) × HaveDone turns
             (history self.old.media (I.came self.old.inlet) (C.told self.old.watch)
-            (W.attempts self.old.wire) self.old.ticked)
+            (W.attempts self.old.wire) self.old.ticked self.old.stats)
             (history self.new.media (I.came self.new.inlet) (C.told self.new.watch)
-            (W.attempts self.new.wire) self.new.ticked)
+            (W.attempts self.new.wire) self.new.ticked self.new.stats)
             × IfOk result (λ more. IsReadOnce IsPassed more turns) }
         ensures reader { self.new.reader ≡ self.old.reader }
     {

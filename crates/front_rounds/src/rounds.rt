@@ -10,6 +10,7 @@ use crate::inlet::Inlet;
 use crate::running::RoundStage;
 use crate::wakes::Wakes;
 use crate::watch::Watch;
+use bridge_stats::BridgeStats;
 use desk_rows::Rows;
 use media_front::MediaFront;
 use media_workers::{Pace, PublisherName, Sink};
@@ -41,6 +42,8 @@ pub struct Rounds<N: PublisherName, P: Pace, S: Sink, I: Inlet, W: Wire, C: Watc
     pub media: MediaFront<N, P, S>,
     /// When the ticks that were due were given last, in nanoseconds since 1970.
     pub ticked: u64,
+    /// What is counted of the datagrams that were taken in.
+    pub stats: BridgeStats,
     /// The version of the desk that `pictures` has seen.
     pub version: u64,
     /// The senders that are to be asked for a picture.
@@ -61,9 +64,9 @@ impl<N: PublisherName, P: Pace, S: Sink, I: Inlet, W: Wire, C: Watch> Rounds<N, 
     pub(crate) fn wait(&mut self) -> Result<bool, FrontFault>
         ensures done { (turns : List Turn) × HaveDone turns
             (history self.old.media (I.came self.old.inlet) (C.told self.old.watch)
-            (W.attempts self.old.wire) self.old.ticked)
+            (W.attempts self.old.wire) self.old.ticked self.old.stats)
             (history self.new.media (I.came self.new.inlet) (C.told self.new.watch)
-            (W.attempts self.new.wire) self.new.ticked)
+            (W.attempts self.new.wire) self.new.ticked self.new.stats)
             × OnOk result ((moment : ℕ) × (turns ≡ looked moment ∷ [])) }
         ensures reader { self.new.reader ≡ self.old.reader }
     {
@@ -79,9 +82,9 @@ impl<N: PublisherName, P: Pace, S: Sink, I: Inlet, W: Wire, C: Watch> Rounds<N, 
         requires { notice.publisher ≡ N.publisher }
         ensures { (turns : List Turn) × HaveDone turns
             (history self.old.media (I.came self.old.inlet) (C.told self.old.watch)
-            (W.attempts self.old.wire) self.old.ticked)
+            (W.attempts self.old.wire) self.old.ticked self.old.stats)
             (history self.new.media (I.came self.new.inlet) (C.told self.new.watch)
-            (W.attempts self.new.wire) self.new.ticked)
+            (W.attempts self.new.wire) self.new.ticked self.new.stats)
             × OnOk result (IsRound notice self.old.reader self.new.reader turns) }
     {
         self.media.tell(notice);
@@ -99,9 +102,9 @@ impl<N: PublisherName, P: Pace, S: Sink, I: Inlet, W: Wire, C: Watch> Rounds<N, 
     fn take_in(&mut self) -> Result<(), FrontFault>
         ensures { (turns : List Turn) × HaveDone turns
             (history self.old.media (I.came self.old.inlet) (C.told self.old.watch)
-            (W.attempts self.old.wire) self.old.ticked)
+            (W.attempts self.old.wire) self.old.ticked self.old.stats)
             (history self.new.media (I.came self.new.inlet) (C.told self.new.watch)
-            (W.attempts self.new.wire) self.new.ticked)
+            (W.attempts self.new.wire) self.new.ticked self.new.stats)
             × OnOk result (IsTakenIn self.old.reader self.new.reader turns) }
     {
         let Some(reader) = self.reader.take() else {
@@ -125,9 +128,9 @@ impl<N: PublisherName, P: Pace, S: Sink, I: Inlet, W: Wire, C: Watch> Rounds<N, 
     fn take(&mut self, version: u64, rows: &Rows) -> Result<(), FrontFault>
         ensures { (turns : List Turn) × HaveDone turns
             (history self.old.media (I.came self.old.inlet) (C.told self.old.watch)
-            (W.attempts self.old.wire) self.old.ticked)
+            (W.attempts self.old.wire) self.old.ticked self.old.stats)
             (history self.new.media (I.came self.new.inlet) (C.told self.new.watch)
-            (W.attempts self.new.wire) self.new.ticked)
+            (W.attempts self.new.wire) self.new.ticked self.new.stats)
             × OnOk result (IsTaking rows.now turns) }
     {
         self.has_members = !rows.members().is_empty();
@@ -141,9 +144,9 @@ impl<N: PublisherName, P: Pace, S: Sink, I: Inlet, W: Wire, C: Watch> Rounds<N, 
     fn take_due(&mut self, version: u64, rows: &Rows, now: u64) -> Result<(), FrontFault>
         ensures { (turns : List Turn) × HaveDone turns
             (history self.old.media (I.came self.old.inlet) (C.told self.old.watch)
-            (W.attempts self.old.wire) self.old.ticked)
+            (W.attempts self.old.wire) self.old.ticked self.old.stats)
             (history self.new.media (I.came self.new.inlet) (C.told self.new.watch)
-            (W.attempts self.new.wire) self.new.ticked)
+            (W.attempts self.new.wire) self.new.ticked self.new.stats)
             × OnOk result (IsDue rows.now now turns) }
     {
         self.beat(rows, now)?;
@@ -155,9 +158,9 @@ impl<N: PublisherName, P: Pace, S: Sink, I: Inlet, W: Wire, C: Watch> Rounds<N, 
     fn beat(&mut self, rows: &Rows, now: u64) -> Result<(), FrontFault>
         ensures { (turns : List Turn) × HaveDone turns
             (history self.old.media (I.came self.old.inlet) (C.told self.old.watch)
-            (W.attempts self.old.wire) self.old.ticked)
+            (W.attempts self.old.wire) self.old.ticked self.old.stats)
             (history self.new.media (I.came self.new.inlet) (C.told self.new.watch)
-            (W.attempts self.new.wire) self.new.ticked)
+            (W.attempts self.new.wire) self.new.ticked self.new.stats)
             × OnOk result ((due : Bool) × (turns ≡ gave_ticks due now ∷ waits due rows.now now)) }
     {
         if self.tick_at(now) {
@@ -170,9 +173,9 @@ impl<N: PublisherName, P: Pace, S: Sink, I: Inlet, W: Wire, C: Watch> Rounds<N, 
     fn wait_all(&mut self, rows: &Rows, now: u64) -> Result<(), FrontFault>
         ensures { (turns : List Turn) × HaveDone turns
             (history self.old.media (I.came self.old.inlet) (C.told self.old.watch)
-            (W.attempts self.old.wire) self.old.ticked)
+            (W.attempts self.old.wire) self.old.ticked self.old.stats)
             (history self.new.media (I.came self.new.inlet) (C.told self.new.watch)
-            (W.attempts self.new.wire) self.new.ticked)
+            (W.attempts self.new.wire) self.new.ticked self.new.stats)
             × OnOk result (turns ≡ let_wait rows.now now ∷ []) }
     {
         self.media.wait_all(self.alloc, rows, now, &mut self.wire)
@@ -182,9 +185,9 @@ impl<N: PublisherName, P: Pace, S: Sink, I: Inlet, W: Wire, C: Watch> Rounds<N, 
     fn report(&mut self, rows: &Rows, now: u64) -> Result<(), FrontFault>
         ensures { (turns : List Turn) × HaveDone turns
             (history self.old.media (I.came self.old.inlet) (C.told self.old.watch)
-            (W.attempts self.old.wire) self.old.ticked)
+            (W.attempts self.old.wire) self.old.ticked self.old.stats)
             (history self.new.media (I.came self.new.inlet) (C.told self.new.watch)
-            (W.attempts self.new.wire) self.new.ticked)
+            (W.attempts self.new.wire) self.new.ticked self.new.stats)
             × OnOk result ((due : Bool) × (turns ≡ made_report due rows.now now ∷ [])) }
     {
         self.media.report(self.alloc, rows, now, &mut self.wire)?;
@@ -195,9 +198,9 @@ impl<N: PublisherName, P: Pace, S: Sink, I: Inlet, W: Wire, C: Watch> Rounds<N, 
     fn wake<R: Wait>(&mut self, rt: &R) -> Result<(), FrontFault>
         ensures done { (turns : List Turn) × HaveDone turns
             (history self.old.media (I.came self.old.inlet) (C.told self.old.watch)
-            (W.attempts self.old.wire) self.old.ticked)
+            (W.attempts self.old.wire) self.old.ticked self.old.stats)
             (history self.new.media (I.came self.new.inlet) (C.told self.new.watch)
-            (W.attempts self.new.wire) self.new.ticked)
+            (W.attempts self.new.wire) self.new.ticked self.new.stats)
             × OnOk result ((moment : ℕ) × (raised : Bool) × (turns ≡ looked moment ∷ signals raised)) }
         ensures reader { self.new.reader ≡ self.old.reader }
     {
@@ -212,9 +215,9 @@ impl<N: PublisherName, P: Pace, S: Sink, I: Inlet, W: Wire, C: Watch> Rounds<N, 
     fn tick(&mut self) -> Result<(), FrontFault>
         ensures done { (turns : List Turn) × HaveDone turns
             (history self.old.media (I.came self.old.inlet) (C.told self.old.watch)
-            (W.attempts self.old.wire) self.old.ticked)
+            (W.attempts self.old.wire) self.old.ticked self.old.stats)
             (history self.new.media (I.came self.new.inlet) (C.told self.new.watch)
-            (W.attempts self.new.wire) self.new.ticked)
+            (W.attempts self.new.wire) self.new.ticked self.new.stats)
             × OnOk result ((moment : ℕ) × (due : Bool) × (turns ≡ looked moment ∷ gave_ticks due moment ∷ [])) }
         ensures reader { self.new.reader ≡ self.old.reader }
     {

@@ -35,10 +35,10 @@ impl<N: PublisherName, P: Pace, S: Sink, I: Inlet, W: Wire, C: Watch> Rounds<N, 
         ensures run { (start : FrontAt P S)
             → HasRun self.old.stage start (front_at
             (history self.old.media (I.came self.old.inlet) (C.told self.old.watch)
-            (W.attempts self.old.wire) self.old.ticked) self.old.reader)
+            (W.attempts self.old.wire) self.old.ticked self.old.stats) self.old.reader)
             → HasRun self.new.stage start (front_at
             (history self.new.media (I.came self.new.inlet) (C.told self.new.watch)
-            (W.attempts self.new.wire) self.new.ticked) self.new.reader) }
+            (W.attempts self.new.wire) self.new.ticked self.new.stats) self.new.reader) }
         ensures lanes { lanes_in self.new.media.feed ≡ lanes_in self.old.media.feed }
         ensures asker { self.new.media.intake.asker ≡ self.old.media.intake.asker }
     {
@@ -54,10 +54,10 @@ impl<N: PublisherName, P: Pace, S: Sink, I: Inlet, W: Wire, C: Watch> Rounds<N, 
         ensures run { (start : FrontAt P S)
             → HasRun self.old.stage start (front_at
             (history self.old.media (I.came self.old.inlet) (C.told self.old.watch)
-            (W.attempts self.old.wire) self.old.ticked) self.old.reader)
+            (W.attempts self.old.wire) self.old.ticked self.old.stats) self.old.reader)
             → HasRun self.new.stage start (front_at
             (history self.new.media (I.came self.new.inlet) (C.told self.new.watch)
-            (W.attempts self.new.wire) self.new.ticked) self.new.reader) }
+            (W.attempts self.new.wire) self.new.ticked self.new.stats) self.new.reader) }
         ensures lanes { lanes_in self.new.media.feed ≡ lanes_in self.old.media.feed }
         ensures asker { self.new.media.intake.asker ≡ self.old.media.intake.asker }
     {
@@ -81,10 +81,10 @@ impl<N: PublisherName, P: Pace, S: Sink, I: Inlet, W: Wire, C: Watch> Rounds<N, 
         ensures run { (start : FrontAt P S)
             → HasRun self.old.stage start (front_at
             (history self.old.media (I.came self.old.inlet) (C.told self.old.watch)
-            (W.attempts self.old.wire) self.old.ticked) self.old.reader)
+            (W.attempts self.old.wire) self.old.ticked self.old.stats) self.old.reader)
             → HasRun self.new.stage start (front_at
             (history self.new.media (I.came self.new.inlet) (C.told self.new.watch)
-            (W.attempts self.new.wire) self.new.ticked) self.new.reader) }
+            (W.attempts self.new.wire) self.new.ticked self.new.stats) self.new.reader) }
         ensures lanes { lanes_in self.new.media.feed ≡ lanes_in self.old.media.feed }
         ensures asker { self.new.media.intake.asker ≡ self.old.media.intake.asker }
     {
@@ -101,10 +101,10 @@ impl<N: PublisherName, P: Pace, S: Sink, I: Inlet, W: Wire, C: Watch> Rounds<N, 
         ensures run { (start : FrontAt P S)
             → HasRun self.old.stage start (front_at
             (history self.old.media (I.came self.old.inlet) (C.told self.old.watch)
-            (W.attempts self.old.wire) self.old.ticked) self.old.reader)
+            (W.attempts self.old.wire) self.old.ticked self.old.stats) self.old.reader)
             → HasRun self.new.stage start (front_at
             (history self.new.media (I.came self.new.inlet) (C.told self.new.watch)
-            (W.attempts self.new.wire) self.new.ticked) self.new.reader) }
+            (W.attempts self.new.wire) self.new.ticked self.new.stats) self.new.reader) }
         ensures lanes { lanes_in self.new.media.feed ≡ lanes_in self.old.media.feed }
         ensures asker { self.new.media.intake.asker ≡ self.old.media.intake.asker }
     {

@@ -25,9 +25,9 @@ impl<N: PublisherName, P: Pace, S: Sink, I: Inlet, W: Wire, C: Watch> Rounds<N, 
     ) -> Result<(), FrontFault>
         ensures { (turns : List Turn) × HaveDone turns
             (history self.old.media (I.came self.old.inlet) (C.told self.old.watch)
-            (W.attempts self.old.wire) self.old.ticked)
+            (W.attempts self.old.wire) self.old.ticked self.old.stats)
             (history self.new.media (I.came self.new.inlet) (C.told self.new.watch)
-            (W.attempts self.new.wire) self.new.ticked)
+            (W.attempts self.new.wire) self.new.ticked self.new.stats)
             × AllByRecursion IsPicture turns }
     {
         self.see(version, rows, now)?;
@@ -51,9 +51,9 @@ impl<N: PublisherName, P: Pace, S: Sink, I: Inlet, W: Wire, C: Watch> Rounds<N, 
     fn ask_pictures(&mut self, now: u64) -> Result<(), FrontFault>
         ensures { (turns : List Turn) × HaveDone turns
             (history self.old.media (I.came self.old.inlet) (C.told self.old.watch)
-            (W.attempts self.old.wire) self.old.ticked)
+            (W.attempts self.old.wire) self.old.ticked self.old.stats)
             (history self.new.media (I.came self.new.inlet) (C.told self.new.watch)
-            (W.attempts self.new.wire) self.new.ticked)
+            (W.attempts self.new.wire) self.new.ticked self.new.stats)
             × AllByRecursion IsPicture turns }
     {
         let due = self.pictures.due(self.alloc, now)?;
@@ -75,9 +75,9 @@ impl<N: PublisherName, P: Pace, S: Sink, I: Inlet, W: Wire, C: Watch> Rounds<N, 
     ) -> Result<(), FrontFault>
         ensures { (turns : List Turn) × HaveDone turns
             (history self.old.media (I.came self.old.inlet) (C.told self.old.watch)
-            (W.attempts self.old.wire) self.old.ticked)
+            (W.attempts self.old.wire) self.old.ticked self.old.stats)
             (history self.new.media (I.came self.new.inlet) (C.told self.new.watch)
-            (W.attempts self.new.wire) self.new.ticked)
+            (W.attempts self.new.wire) self.new.ticked self.new.stats)
             × OnOk result (AsksFirst from.now ended turns) }
     {
         match ended {
@@ -102,9 +102,9 @@ impl<N: PublisherName, P: Pace, S: Sink, I: Inlet, W: Wire, C: Watch> Rounds<N, 
     fn ask_picture(&mut self, source: &VideoSource, now: u64) -> Result<(), FrontFault>
         ensures { (turns : List Turn) × HaveDone turns
             (history self.old.media (I.came self.old.inlet) (C.told self.old.watch)
-            (W.attempts self.old.wire) self.old.ticked)
+            (W.attempts self.old.wire) self.old.ticked self.old.stats)
             (history self.new.media (I.came self.new.inlet) (C.told self.new.watch)
-            (W.attempts self.new.wire) self.new.ticked)
+            (W.attempts self.new.wire) self.new.ticked self.new.stats)
             × AllByRecursion IsPicture turns
             × OnOk result ((sent : Bool) × (turns ≡ asked_picture
             (record { address = member_address source.now; ssrc = source.now.ssrc }) sent ∷ [])) }

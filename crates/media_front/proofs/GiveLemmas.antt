@@ -125,7 +125,8 @@ owing_of book notice (t ∷ ts) is zero d low = is
 owing_of book notice (t ∷ ts) is (suc k) d low = owing_of book notice ts is k d (omega (arith, low))
 
 after_signal_owed : (due : Bool) (t : LaneStatus)
-    → (if due then record { owed = t.owed; unsignalled = 0; pressed = false; dropped = t.dropped } else t).owed ≡ t.owed
+    → (if due then record { owed = t.owed; unsignalled = 0; pressed = false; given = t.given; dropped = t.dropped }
+    else t).owed ≡ t.owed
 after_signal_owed true t = refl
 after_signal_owed false t = refl
 
@@ -143,7 +144,9 @@ after_signal_of book (t ∷ ts) all (suc k) d low =
 
 -- a lane whose signal is raised, if it is due, is the same by its parts
 after_signal_if : {P S : Type 0} (due : Bool) (p : PortOf P S) (t : LaneStatus)
-    → lane_by p (if due then record { owed = t.owed; unsignalled = 0; pressed = false; dropped = t.dropped } else t)
+    → lane_by p
+    (if due then record { owed = t.owed; unsignalled = 0; pressed = false; given = t.given; dropped = t.dropped }
+    else t)
     ≡ (if due then record (lane_by p t) { unsignalled = 0; pressed = false } else lane_by p t)
 after_signal_if true p t = refl
 after_signal_if false p t = refl

@@ -18,6 +18,7 @@ use Rattle.media_front.specs.Tries.{WereTried}
 use Rattle.media_front.specs.Paid.{paid_of}
 use Rattle.media_front.specs.Prices.{pli_octets}
 use Rattle.media_front.specs.Granted.{granted_of}
+use Rattle.media_front.specs.LeftOut.{after_limiting}
 use Rattle.media_front.specs.Fronts.{FrontOf, Arrival, HasHandled, once_refilled, once_paid, once_asked}
 use Rattle.media_front.specs.Waits.{HasWaitedOnce, HaveWaited, HaveWaitedInPart, video_origin, video_origins}
 use Rattle.media_front.specs.inner.Origins.{origin_in}
@@ -28,12 +29,13 @@ pub on_err : {A B C : Type 0} (r : Result A B) → C → OnErr r C
 on_err (Ok a) k = tt {0}
 on_err (Err b) k = k
 
--- what was done for a front is done for one with the same buckets, the same lanes and the same name
+-- what was done for a front is done for one with the same buckets, the same lanes, the same counts and the same name
 pub handled_at : {P S : Type 0} (arrival : Arrival) (ingested : Ingested) (mid old new : FrontOf P S)
     (before after : Option (List Attempt))
-    → mid.limiter ≡ old.limiter → mid.feed ≡ old.feed → mid.intake.asker ≡ old.intake.asker
+    → mid.limiter ≡ old.limiter → mid.feed ≡ old.feed → mid.limited ≡ old.limited
+    → mid.intake.asker ≡ old.intake.asker
     → HasHandled arrival ingested mid new before after → HasHandled arrival ingested old new before after
-handled_at {P} {S} arrival ingested mid old new before after limiter feed asker h = record {
+handled_at {P} {S} arrival ingested mid old new before after limiter feed limited asker h = record {
   up =
       subst (λ (a : List Bucket). WereTried (paid_of ingested.up (once_refilled arrival ingested a)) before after)
       limiter
@@ -60,6 +62,21 @@ handled_at {P} {S} arrival ingested mid old new before after limiter feed asker 
   limiter = h.limiter
       ∙ (ap (λ (who : Asker). once_asked (pli_octets who) arrival ingested mid.limiter) asker
       ∙ ap (once_asked (pli_octets old.intake.asker) arrival ingested) limiter);
+  limited = h.limited
+      ∙ (ap
+      (λ (who : Asker).
+      after_limiting (pli_octets who) arrival.moment ingested.items (once_paid arrival ingested mid.limiter)
+      mid.limited)
+      asker
+      ∙ (ap
+      (λ (a : List Bucket).
+      after_limiting (pli_octets old.intake.asker) arrival.moment ingested.items (once_paid arrival ingested a)
+      mid.limited)
+      limiter
+      ∙ ap
+      (after_limiting (pli_octets old.intake.asker) arrival.moment ingested.items
+      (once_paid arrival ingested old.limiter))
+      limited));
 }
 
 -- the origins of the video sources, row by row

@@ -12,12 +12,13 @@ use Rattle.media_workers.specs.Ports.{PortOf, port_of, accept}
 use Rattle.media_front.specs.Signals.{is_pressing, many_parcels}
 
 -- a lane of a feed: its port, the notice that its next parcel carries, how many parcels it accepted since its signal
--- was raised last, whether one of these presses, and how many parcels were dropped for it
+-- was raised last, whether one of these presses, how many it accepted in all, and how many were dropped for it
 pub record FedLane (P S : Type 0) : Type 0 where
   pub port : PortOf P S
   pub owed : Option NoticeOf
   pub unsignalled : ℕ
   pub pressed : Bool
+  pub given : ℕ
   pub dropped : ℕ
 
 -- one more, as far as 64 bits count
@@ -41,6 +42,7 @@ IsFresh x =
       owed = None;
       unsignalled = 0;
       pressed = false;
+      given = 0;
       dropped = 0;
     }
 
@@ -64,6 +66,7 @@ accepting item x =
       owed = None;
       unsignalled = one_more x.unsignalled;
       pressed = x.pressed || is_pressing (input_of (item_in item));
+      given = one_more x.given;
       dropped = x.dropped;
     }
 

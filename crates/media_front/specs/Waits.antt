@@ -51,7 +51,13 @@ OnWire P S = FrontOf P S × Option (List Attempt)
 pub record HasWaitedOnce {P S : Type 0} (desk : Desk) (moment : ℕ) (old : OnWire P S) (o : Origin) (new : OnWire P S)
     : Type 0 where
   pub waited : HasWaited desk o moment old.0 new.0 old.1 new.1
-  pub same : new.0 ≡ record old.0 { intake = new.0.intake; feed = new.0.feed; limiter = new.0.limiter }
+  pub same : new.0
+      ≡ record old.0 {
+        intake = new.0.intake;
+        feed = new.0.feed;
+        limiter = new.0.limiter;
+        limited = new.0.limited;
+      }
   pub asker : new.0.intake.asker ≡ old.0.intake.asker
 
 -- The sources of these origins have waited, each once and in this order, at this moment.

@@ -134,8 +134,12 @@ impl<N: PublisherName, P: Pace, S: Sink> MediaFront<N, P, S> {
         ensures intake { OnErr result (MayHaveTaken
             (record { desk = rows.now; from = from.now; moment = moment; octets = octets.now })
             self.old.intake self.new.intake) }
-        ensures same { self.new
-            ≡ record self.old { intake = self.new.intake; feed = self.new.feed; limiter = self.new.limiter } }
+        ensures same { self.new ≡ record self.old {
+          intake = self.new.intake;
+          feed = self.new.feed;
+          limiter = self.new.limiter;
+          limited = self.new.limited;
+        } }
         ensures asker { self.new.intake.asker ≡ self.old.intake.asker }
     {
         let before = self.epochs();

@@ -49,6 +49,14 @@ impl<N: PublisherName, P: Pace, S: Sink> LaneFeed<N, P, S> {
         self.statuses.len() as u32
     }
 
+    /// How many parcels a lane accepted.
+    pub fn given(&self, lane: u32) -> u64
+        requires lane { lane < length self.now }
+        ensures { (x : FedLane _ _) → slice_get self.now lane ≡ Some x → result ≡ x.given }
+    {
+        self.statuses[lane as usize].given
+    }
+
     /// How many parcels were dropped for a lane, since its ring had too few free places for them.
     pub fn dropped(&self, lane: u32) -> u64
         requires lane { lane < length self.now }

@@ -8,14 +8,17 @@ ghost use Rattle.media_workers.specs.Bridges.{AllEnded};
 ghost use Rattle.udp_wire.specs.Pacing.{tick_gap, most_ticks, is_behind, report_due, after_report};
 ghost use Rattle.udp_wire.specs.declared.ending.FrontFault.TheVariants.{OutOfMemory as MemoryFault};
 ghost use Rattle.media_front.specs.FedLanes.{FedLane, ports_in, owing_notice, after_signal, AreGiven, AllAreGiven};
+ghost use Rattle.media_front.specs.LeftOut.{none_limited};
 ghost use Rattle.media_front.specs.Prices.{pli_octets};
 ghost use Rattle.media_front.specs.Tries.{WereTried};
 ghost use Rattle.media_front.specs.Fronts.{HasTaken, MayHaveTaken, HasReported, ticks_due, after_ticks, until_tick};
 
 use crate::feed::LaneFeed;
+use crate::limiting::none_limited;
 use crate::timer_item::TimerItem;
 use crate::trying::try_all;
 use bridge_core::{Intake, Outcome};
+use bridge_stats::Limited;
 use desk_rows::Rows;
 use media_workers::{LaneEnd, Pace, PublisherName, Sink};
 use rate_limiter::RateLimiter;
@@ -33,14 +36,16 @@ const TICK_GAP: u64 = 20_000_000;
 /// The most ticks that are made up for.
 const MOST_TICKS: u32 = 50;
 
-/// The front of a bridge whose lanes run on threads: the receive side, the lanes, the rate limiter, and when ticks and
-/// reports are due. It is not `Drop`: end it by [`MediaFront::close`].
+/// The front of a bridge whose lanes run on threads: the receive side, the lanes, the rate limiter and what that left
+/// out, and when ticks and reports are due. It is not `Drop`: end it by [`MediaFront::close`].
 ///
-/// Contracts see these five. Moments are nanoseconds since 1970.
+/// Contracts see these six. Moments are nanoseconds since 1970.
 pub struct MediaFront<N: PublisherName, P: Pace, S: Sink> {
     pub(crate) intake: Intake,
     pub(crate) feed: LaneFeed<N, P, S>,
     pub(crate) limiter: RateLimiter,
+    /// What the rate limiter left out.
+    pub(crate) limited: Limited,
     /// How many octets a PLI costs the address that it comes from.
     pub(crate) pli_cost: u64,
     ticks: Ticks,
@@ -58,6 +63,7 @@ impl<N: PublisherName, P: Pace, S: Sink> Model for MediaFront<N, P, S> {
       intake = f.intake;
       feed = f.feed;
       limiter = f.limiter;
+      limited = f.limited;
       ticks = f.ticks;
       reports = f.reports;
     } };
@@ -80,6 +86,7 @@ impl<N: PublisherName, P: Pace, S: Sink> MediaFront<N, P, S> {
           intake = intake;
           feed = feed;
           limiter = limiter;
+          limited = none_limited;
           ticks = record { start = reports.last; had = 0 };
           reports = reports;
         } }
@@ -88,6 +95,7 @@ impl<N: PublisherName, P: Pace, S: Sink> MediaFront<N, P, S> {
             intake,
             feed,
             limiter,
+            limited: none_limited(),
             pli_cost,
             ticks: Ticks {
                 start: reports.last,
@@ -112,7 +120,7 @@ impl<N: PublisherName, P: Pace, S: Sink> MediaFront<N, P, S> {
     ///   octets. One that its address has too few tokens for is dropped.
     /// - Every lane is given each item. A NACK keeps as many of its first numbers as the limiter grants. A NACK, a
     ///   report block or a PLI is left out if the limiter grants it nothing. A PLI also costs its sender the octets
-    ///   that pass it on, and is left out if the sender has too few tokens.
+    ///   that pass it on, and is left out if the sender has too few tokens. What is left out is counted.
     ///
     /// On out of memory, the only error, nothing is sent, and no lane is given an item. The intake may have taken the
     /// datagram in.
@@ -133,8 +141,12 @@ impl<N: PublisherName, P: Pace, S: Sink> MediaFront<N, P, S> {
         ensures intake { OnErr result (MayHaveTaken
             (record { desk = rows.now; from = from.now; moment = moment; octets = octets.now })
             self.old.intake self.new.intake) }
-        ensures same { self.new
-            ≡ record self.old { intake = self.new.intake; feed = self.new.feed; limiter = self.new.limiter } }
+        ensures same { self.new ≡ record self.old {
+          intake = self.new.intake;
+          feed = self.new.feed;
+          limiter = self.new.limiter;
+          limited = self.new.limited;
+        } }
         ensures asker { self.new.intake.asker ≡ self.old.intake.asker }
     {
         let ingest = self.intake.datagram(alloc, rows, from, moment, octets)?;
@@ -233,6 +245,13 @@ impl<N: PublisherName, P: Pace, S: Sink> MediaFront<N, P, S> {
         self.feed.signal(rt);
     }
 
+    /// What the rate limiter left out so far, in part or whole, of what members asked for and reported.
+    pub fn limited(&self) -> Limited
+        ensures { result ≡ self.now.limited }
+    {
+        self.limited
+    }
+
     /// Whether any lane has ended. No contract speaks of the answer for lanes on threads.
     pub fn has_ended(&self) -> bool {
         self.feed.has_ended()
@@ -244,6 +263,14 @@ impl<N: PublisherName, P: Pace, S: Sink> MediaFront<N, P, S> {
         ensures few { result ≤ most_lanes }
     {
         self.feed.count()
+    }
+
+    /// How many parcels a lane accepted: the items that it was given.
+    pub fn given(&self, lane: u32) -> u64
+        requires lane { lane < length self.now.feed }
+        ensures { (x : FedLane _ _) → slice_get self.now.feed lane ≡ Some x → result ≡ x.given }
+    {
+        self.feed.given(lane)
     }
 
     /// How many parcels were dropped for a lane, since its ring had too few free places for them.
@@ -262,6 +289,7 @@ impl<N: PublisherName, P: Pace, S: Sink> MediaFront<N, P, S> {
             intake: _,
             feed,
             limiter: _,
+            limited: _,
             pli_cost: _,
             ticks: _,
             reports: _,

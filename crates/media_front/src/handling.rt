@@ -17,7 +17,7 @@ use udp_wire::Wire;
 
 impl<N: PublisherName, P: Pace, S: Sink> MediaFront<N, P, S> {
     /// Does what the intake answered to these octets, which came from an address at a moment: refills their tokens,
-    /// tries to send what is paid for, and gives every lane what is granted of the items.
+    /// tries to send what is paid for, gives every lane what is granted of the items, and counts what is left out.
     ///
     /// On out of memory, the only error, nothing changes and nothing is sent.
     pub(crate) fn handle<W: Wire>(
@@ -34,15 +34,30 @@ impl<N: PublisherName, P: Pace, S: Sink> MediaFront<N, P, S> {
             (record { desk = desk; from = from.now; moment = moment; octets = octets.now }) (ingested_of ingest)
             self.old self.new (W.attempts wire.old) (W.attempts wire.new)) }
         ensures err { OnErr result ((self.new ≡ self.old) × (W.attempts wire.new ≡ W.attempts wire.old)) }
-        ensures same { self.new ≡ record self.old { feed = self.new.feed; limiter = self.new.limiter } }
+        ensures same { self.new ≡ record self.old {
+          feed = self.new.feed;
+          limiter = self.new.limiter;
+          limited = self.new.limited;
+        } }
     {
         let received = Received {
             from: *from,
             moment,
             octets: octets.len() as u64,
         };
-        let planned = plan_for(alloc, &self.limiter, self.pli_cost, received, ingest)?;
-        let Plan { ingest, draft } = planned;
+        let planned = plan_for(
+            alloc,
+            &self.limiter,
+            self.limited,
+            self.pli_cost,
+            received,
+            ingest,
+        )?;
+        let Plan {
+            ingest,
+            draft,
+            limited,
+        } = planned;
         let Ingest {
             outcome: _,
             up,
@@ -50,6 +65,7 @@ impl<N: PublisherName, P: Pace, S: Sink> MediaFront<N, P, S> {
         } = ingest;
         let shared = share_all(alloc, items)?;
         self.limiter.put_back(draft)?;
+        self.limited = limited;
         try_all(&up, wire);
         self.feed.hand_out_all(&shared);
         Ok(())

@@ -21,6 +21,8 @@ pub struct LaneStatus {
     pub(crate) unsignalled: u64,
     /// Whether one of these presses.
     pub(crate) pressed: bool,
+    /// How many parcels the lane accepted.
+    pub(crate) given: u64,
     /// How many parcels were dropped, since the lane's ring had too few free places for them.
     pub(crate) dropped: u64,
 }
@@ -34,6 +36,7 @@ impl LaneStatus {
             owed: None,
             unsignalled: 0,
             pressed: false,
+            given: 0,
             dropped: 0,
         }
     }
@@ -73,6 +76,7 @@ impl LaneStatus {
         if accepted {
             self.owed = None;
             self.unsignalled = self.unsignalled.saturating_add(1);
+            self.given = self.given.saturating_add(1);
             self.pressed = self.pressed || presses;
         } else {
             self.dropped = self.dropped.saturating_add(1);

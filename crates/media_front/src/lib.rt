@@ -8,8 +8,9 @@
 //! clock.
 //!
 //! Contracts see a feed as its lanes: for each one its port of `media_workers`, the notice that it is owed, how many
-//! parcels it accepted since its signal was raised, whether one presses, and how many were dropped. They don't say when
-//! a parcel is dropped: [`places_left`] says how many places of a ring each kind of item leaves free for others.
+//! parcels it accepted since its signal was raised, whether one presses, how many it accepted in all, and how many were
+//! dropped. They don't say when a parcel is dropped: [`places_left`] says how many places of a ring each kind of item
+//! leaves free for others.
 //!
 //! ```rust
 //! // readers, notice and rows: of a shared desk of the brand H; sinks: a `Sink` for each lane; wire: a `Wire`
@@ -49,6 +50,7 @@ mod granting;
 mod handling;
 mod lane_status;
 mod laws;
+mod limiting;
 mod naming;
 mod offering;
 mod origins;

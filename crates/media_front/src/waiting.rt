@@ -41,8 +41,12 @@ impl<N: PublisherName, P: Pace, S: Sink> MediaFront<N, P, S> {
         ensures unsent { OnErr result (W.attempts wire.new ≡ W.attempts wire.old) }
         ensures intake { OnErr result (MayHaveWaited rows.now (record { address = from.now; ssrc = ssrc }) moment
             self.old.intake self.new.intake) }
-        ensures same { self.new
-            ≡ record self.old { intake = self.new.intake; feed = self.new.feed; limiter = self.new.limiter } }
+        ensures same { self.new ≡ record self.old {
+          intake = self.new.intake;
+          feed = self.new.feed;
+          limiter = self.new.limiter;
+          limited = self.new.limited;
+        } }
         ensures asker { self.new.intake.asker ≡ self.old.intake.asker }
     {
         let answer = self.intake.wait(alloc, rows, from, ssrc, moment)?;
@@ -70,8 +74,12 @@ impl<N: PublisherName, P: Pace, S: Sink> MediaFront<N, P, S> {
             self.old self.new (W.attempts wire.old) (W.attempts wire.new)) }
         ensures err { OnErr result (HaveWaitedInPart rows.now now (option_to_list (origin_in rows.now row.now))
             self.old self.new (W.attempts wire.old) (W.attempts wire.new)) }
-        ensures same { self.new
-            ≡ record self.old { intake = self.new.intake; feed = self.new.feed; limiter = self.new.limiter } }
+        ensures same { self.new ≡ record self.old {
+          intake = self.new.intake;
+          feed = self.new.feed;
+          limiter = self.new.limiter;
+          limited = self.new.limited;
+        } }
         ensures asker { self.new.intake.asker ≡ self.old.intake.asker }
     {
         match origin_in(rows, row) {
@@ -98,8 +106,12 @@ impl<N: PublisherName, P: Pace, S: Sink> MediaFront<N, P, S> {
             self.old self.new (W.attempts wire.old) (W.attempts wire.new)) }
         ensures err { OnErr result (HaveWaitedInPart rows.now now (video_origins rows.now)
             self.old self.new (W.attempts wire.old) (W.attempts wire.new)) }
-        ensures same { self.new
-            ≡ record self.old { intake = self.new.intake; feed = self.new.feed; limiter = self.new.limiter } }
+        ensures same { self.new ≡ record self.old {
+          intake = self.new.intake;
+          feed = self.new.feed;
+          limiter = self.new.limiter;
+          limited = self.new.limited;
+        } }
         ensures asker { self.new.intake.asker ≡ self.old.intake.asker }
     {
         for row in rows.others_of(Kind::Source) {

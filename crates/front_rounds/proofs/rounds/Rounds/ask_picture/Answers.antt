@@ -12,12 +12,13 @@ returns g c =
     let told = g.C.Watch.told a.watch in
     let o : Origin = record { address = c.address.result; ssrc = c.args.source.now.ssrc } in
     let sent = c.in_ok-sent.sent in
-    let old = history a.media came told (g.W.Wire.attempts a.wire) a.ticked in
-    let mid = history c.ask_picture.new.self came told (g.W.Wire.attempts c.ask_picture.new.wire) a.ticked in (
+    let old = history a.media came told (g.W.Wire.attempts a.wire) a.ticked a.stats in
+    let mid = history c.ask_picture.new.self came told (g.W.Wire.attempts c.ask_picture.new.wire) a.ticked a.stats in (
       asked_picture o sent ∷ [],
       subst (λ (h : History g.row.P.Denot g.row.S.Denot). HaveDone (asked_picture o sent ∷ []) old h)
           (sym (ap
-          (λ s. history s.media (g.I.Inlet.came s.inlet) (g.C.Watch.told s.watch) (g.W.Wire.attempts s.wire) s.ticked)
+          (λ s. history s.media (g.I.Inlet.came s.inlet) (g.C.Watch.told s.watch)
+          (g.W.Wire.attempts s.wire) s.ticked s.stats)
           c.note.ensures))
           (done_one (asked_picture o sent) old mid (record { asked = c.in_ok-sent.ensures.asked; same = refl })),
       (tt, tt),

@@ -11,7 +11,8 @@ returns-then-tick_at g c =
     let now = c.args.now in
     let due = c.tick_at.result in
     let w = c.wait_all.ensures in
-    let mid = history b.media (g.I.Inlet.came b.inlet) (g.C.Watch.told b.watch) (g.W.Wire.attempts b.wire) b.ticked in (
+    let mid =
+    history b.media (g.I.Inlet.came b.inlet) (g.C.Watch.told b.watch) (g.W.Wire.attempts b.wire) b.ticked b.stats in (
       gave_ticks due now ∷ w.0,
       (
         mid,
@@ -21,11 +22,12 @@ returns-then-tick_at g c =
           same =
               ap
               (λ s.
-              history b.media (g.I.Inlet.came s.inlet) (g.C.Watch.told s.watch) (g.W.Wire.attempts s.wire) b.ticked)
+              history b.media (g.I.Inlet.came s.inlet) (g.C.Watch.told s.watch)
+              (g.W.Wire.attempts s.wire) b.ticked s.stats)
               c.tick_at.ensures.same
               ∙ ap
               (λ (k : ℕ).
-              history b.media (g.I.Inlet.came a.inlet) (g.C.Watch.told a.watch) (g.W.Wire.attempts a.wire) k)
+              history b.media (g.I.Inlet.came a.inlet) (g.C.Watch.told a.watch) (g.W.Wire.attempts a.wire) k a.stats)
               c.tick_at.ensures.last;
         },
         w.1,
@@ -45,7 +47,8 @@ returns g c =
     let b = c.tick_at.new.self in
     let now = c.args.now in
     let due = c.tick_at.result in
-    let new = history b.media (g.I.Inlet.came b.inlet) (g.C.Watch.told b.watch) (g.W.Wire.attempts b.wire) b.ticked in (
+    let new =
+    history b.media (g.I.Inlet.came b.inlet) (g.C.Watch.told b.watch) (g.W.Wire.attempts b.wire) b.ticked b.stats in (
       gave_ticks due now ∷ [],
       (
         new,
@@ -55,11 +58,12 @@ returns g c =
           same =
               ap
               (λ s.
-              history b.media (g.I.Inlet.came s.inlet) (g.C.Watch.told s.watch) (g.W.Wire.attempts s.wire) b.ticked)
+              history b.media (g.I.Inlet.came s.inlet) (g.C.Watch.told s.watch)
+              (g.W.Wire.attempts s.wire) b.ticked s.stats)
               c.tick_at.ensures.same
               ∙ ap
               (λ (k : ℕ).
-              history b.media (g.I.Inlet.came a.inlet) (g.C.Watch.told a.watch) (g.W.Wire.attempts a.wire) k)
+              history b.media (g.I.Inlet.came a.inlet) (g.C.Watch.told a.watch) (g.W.Wire.attempts a.wire) k a.stats)
               c.tick_at.ensures.last;
         },
         refl,

@@ -13,8 +13,10 @@ pub returns-in-Ok-clause-run : goal.returns-in-Ok-clause-run
 returns-in-Ok-clause-run g c start had =
     let a = c.args.self.now in
     let n = c.wait.new.self in
-    let old = history a.media (g.I.Inlet.came a.inlet) (g.C.Watch.told a.watch) (g.W.Wire.attempts a.wire) a.ticked in
-    let new = history n.media (g.I.Inlet.came n.inlet) (g.C.Watch.told n.watch) (g.W.Wire.attempts n.wire) n.ticked in
+    let old =
+    history a.media (g.I.Inlet.came a.inlet) (g.C.Watch.told a.watch) (g.W.Wire.attempts a.wire) a.ticked a.stats in
+    let new =
+    history n.media (g.I.Inlet.came n.inlet) (g.C.Watch.told n.watch) (g.W.Wire.attempts n.wire) n.ticked n.stats in
     let k : HasRun Whole start (front_at old a.reader) =
     subst (λ (s : RoundStage). HasRun s start (front_at old a.reader)) c.requires had in
     let w = c.in-Ok.ensures.done in (
@@ -29,8 +31,10 @@ pub returns-in-Err-clause-run : goal.returns-in-Err-clause-run
 returns-in-Err-clause-run g c start had =
     let a = c.args.self.now in
     let n = c.wait.new.self in
-    let old = history a.media (g.I.Inlet.came a.inlet) (g.C.Watch.told a.watch) (g.W.Wire.attempts a.wire) a.ticked in
-    let new = history n.media (g.I.Inlet.came n.inlet) (g.C.Watch.told n.watch) (g.W.Wire.attempts n.wire) n.ticked in
+    let old =
+    history a.media (g.I.Inlet.came a.inlet) (g.C.Watch.told a.watch) (g.W.Wire.attempts a.wire) a.ticked a.stats in
+    let new =
+    history n.media (g.I.Inlet.came n.inlet) (g.C.Watch.told n.watch) (g.W.Wire.attempts n.wire) n.ticked n.stats in
     let k : HasRun Whole start (front_at old a.reader) =
     subst (λ (s : RoundStage). HasRun s start (front_at old a.reader)) c.requires had in
     let w = c.wait.ensures.done in (

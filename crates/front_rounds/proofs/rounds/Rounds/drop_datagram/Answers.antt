@@ -9,5 +9,5 @@ returns-clause-done g c =
     let a = c.args.self.now in
     let p =
     passes_by a.media (g.I.Inlet.came a.inlet) (g.I.Inlet.came c.read.new.self) (g.C.Watch.told a.watch)
-    (g.W.Wire.attempts a.wire) a.ticked c.in_ok-read.read c.read.new.chunk.items c.in_ok-read.ensures.ok in
+    (g.W.Wire.attempts a.wire) a.ticked a.stats c.in_ok-read.read c.read.new.chunk.items c.in_ok-read.ensures.ok in
     (p.0, p.1, subst (λ (b : Bool). IsReadOnce IsPassed b p.0) (sym c.is_something.ensures) p.2)

@@ -11,8 +11,8 @@ returns g c =
     let due = c.in_ok-report.field-0 in
     let turn = made_report due c.args.rows.now c.args.now in (
       turn ∷ [],
-      done_one turn (history a.media came told (g.W.Wire.attempts a.wire) a.ticked)
-          (history c.report.new.self came told (g.W.Wire.attempts c.report.new.wire) a.ticked)
+      done_one turn (history a.media came told (g.W.Wire.attempts a.wire) a.ticked a.stats)
+          (history c.report.new.self came told (g.W.Wire.attempts c.report.new.wire) a.ticked a.stats)
           (record {
             right = c.in_ok-report.ensures.due;
             made = c.in_ok-report.ensures.reported;

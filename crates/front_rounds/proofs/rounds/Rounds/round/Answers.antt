@@ -17,8 +17,8 @@ returns-in-Ok g c =
     let entered = on_ok c.take_in.result _ c.in-Ok.is e.2 in (
       owed c.args.notice ∷ (e.0 ++ w.0),
       (
-        history c.tell.new.self came told tried a.ticked,
-        ap (λ f. history f came told tried a.ticked) c.tell.ensures,
+        history c.tell.new.self came told tried a.ticked a.stats,
+        ap (λ f. history f came told tried a.ticked a.stats) c.tell.ensures,
         done_both e.0 w.0 _ _ _ e.1 w.1,
       ),
       on_ok_map c.wake.result
@@ -38,8 +38,8 @@ returns-in-Err g c =
     let w = c.wake-in-Err.ensures.done in (
       owed c.args.notice ∷ (e.0 ++ w.0),
       (
-        history c.tell.new.self came told tried a.ticked,
-        ap (λ f. history f came told tried a.ticked) c.tell.ensures,
+        history c.tell.new.self came told tried a.ticked a.stats,
+        ap (λ f. history f came told tried a.ticked a.stats) c.tell.ensures,
         done_both e.0 w.0 _ _ _ e.1 w.1,
       ),
       tt,

@@ -1,5 +1,6 @@
 use Rattle.std.proofs.Common.{◌≡◌, ◌∷◌, [], ◌++◌, ℕ, List, take, Option, refl, ap, sym, subst, ◌∙◌, inl, inr}
 use Rattle.udp_wire.specs.Attempts.{Attempt}
+use Rattle.bridge_stats.specs.Stats.{StatsOf, HasNoted}
 use Rattle.media_front.specs.Fronts.{Arrival, HasTaken}
 use Rattle.front_rounds.specs.Came.{datagram, other, nothing, came_by}
 use Rattle.front_rounds.specs.Turns.{TakesArrival, history, passed, took, lost}
@@ -12,7 +13,7 @@ returns-in-Other g c =
     let a = c.args.self.now in (
       passed other ∷ [],
       passed_at a.media (g.I.Inlet.came a.inlet) (g.I.Inlet.came c.read.new.self) (g.C.Watch.told a.watch)
-          (g.C.Watch.told a.watch) (g.W.Wire.attempts a.wire) a.ticked other
+          (g.C.Watch.told a.watch) (g.W.Wire.attempts a.wire) a.ticked a.stats other
           (c.in_ok-from.ensures.ok
           ∙ ap (λ r. g.I.Inlet.came a.inlet ++ came_by r c.read.new.chunk.items ∷ []) c.in-Other.is)
           refl,
@@ -24,7 +25,7 @@ returns-in-Nothing g c =
     let a = c.args.self.now in (
       passed nothing ∷ [],
       passed_at a.media (g.I.Inlet.came a.inlet) (g.I.Inlet.came c.read.new.self) (g.C.Watch.told a.watch)
-          (g.C.Watch.told a.watch) (g.W.Wire.attempts a.wire) a.ticked nothing
+          (g.C.Watch.told a.watch) (g.W.Wire.attempts a.wire) a.ticked a.stats nothing
           (c.in_ok-from.ensures.ok
           ∙ ap (λ r. g.I.Inlet.came a.inlet ++ came_by r c.read.new.chunk.items ∷ []) c.in-Nothing.is)
           refl,
@@ -37,7 +38,7 @@ returns-in_err-moment g c =
     let came = datagram c.in-Datagram.from (take c.in-Datagram.octets c.read.new.chunk.items) in (
       passed came ∷ [],
       passed_at a.media (g.I.Inlet.came a.inlet) (g.I.Inlet.came c.read.new.self) (g.C.Watch.told a.watch)
-          (g.C.Watch.told c.now.new.self) (g.W.Wire.attempts a.wire) a.ticked came
+          (g.C.Watch.told c.now.new.self) (g.W.Wire.attempts a.wire) a.ticked a.stats came
           (c.in_ok-from.ensures.ok
           ∙ ap (λ r. g.I.Inlet.came a.inlet ++ came_by r c.read.new.chunk.items ∷ []) c.in-Datagram.is)
           c.in_err-moment.ensures.err,
@@ -60,9 +61,10 @@ returns-in_err-taken g c =
     let late = c.catch_up.result in (
       lost late arrival ∷ [],
       done_one (lost late arrival)
-          (history a.media (g.I.Inlet.came a.inlet) (g.C.Watch.told a.watch) (g.W.Wire.attempts a.wire) a.ticked)
+          (history a.media (g.I.Inlet.came a.inlet) (g.C.Watch.told a.watch)
+          (g.W.Wire.attempts a.wire) a.ticked a.stats)
           (history c.take_in.new.self (g.I.Inlet.came b.inlet) (g.C.Watch.told b.watch)
-          (g.W.Wire.attempts c.take_in.new.wire) b.ticked)
+          (g.W.Wire.attempts c.take_in.new.wire) b.ticked b.stats)
           (record {
             read = record {
               came = ap (λ s. g.I.Inlet.came s.inlet) same
@@ -85,6 +87,7 @@ returns-in_err-taken g c =
             same = c.in_err-taken.ensures.err;
             asker = c.take_in.ensures.asker;
             tried = c.in_err-taken.ensures.unsent ∙ ap (λ s. g.W.Wire.attempts s.wire) same;
+            stats = ap (λ s. s.stats) same;
           }),
       err_if_ok _ c.from_residual-in_err-taken.result c.from_residual-in_err-taken.ensures.0,
     )
@@ -105,10 +108,11 @@ returns-in_err-ask_first g c =
     let outcome = c.in_ok-taken.taken.0 in
     let ended = c.in_ok-taken.taken.1 in
     let turn = took c.catch_up.result arrival outcome ended in
-    let old = history a.media (g.I.Inlet.came a.inlet) (g.C.Watch.told a.watch) (g.W.Wire.attempts a.wire) a.ticked in
+    let old =
+    history a.media (g.I.Inlet.came a.inlet) (g.C.Watch.told a.watch) (g.W.Wire.attempts a.wire) a.ticked a.stats in
     let mid =
     history c.take_in.new.self (g.I.Inlet.came b.inlet) (g.C.Watch.told b.watch) (g.W.Wire.attempts c.take_in.new.wire)
-    b.ticked in
+    b.ticked c.note.new.self in
     let does : TakesArrival c.catch_up.result arrival outcome ended old mid = record {
       read = record {
         came = ap (λ s. g.I.Inlet.came s.inlet) same
@@ -129,6 +133,13 @@ returns-in_err-ask_first g c =
       ends = c.in_ok-taken.ensures.ended;
       same = c.take_in.ensures.same;
       asker = c.take_in.ensures.asker;
+      counted =
+          record {
+            taken = c.of.result;
+            is = record { found = c.of.ensures.found; none = c.of.ensures.none; rest = c.of.ensures.rest };
+            noted =
+                subst (λ (s : StatsOf). HasNoted c.of.result s c.note.new.self) (ap (λ s. s.stats) same) c.note.ensures;
+          };
     } in
     let k = c.ask_first.ensures in (
       turn ∷ k.0,
@@ -152,10 +163,11 @@ returns g c =
     let outcome = c.in_ok-taken.taken.0 in
     let ended = c.in_ok-taken.taken.1 in
     let turn = took c.catch_up.result arrival outcome ended in
-    let old = history a.media (g.I.Inlet.came a.inlet) (g.C.Watch.told a.watch) (g.W.Wire.attempts a.wire) a.ticked in
+    let old =
+    history a.media (g.I.Inlet.came a.inlet) (g.C.Watch.told a.watch) (g.W.Wire.attempts a.wire) a.ticked a.stats in
     let mid =
     history c.take_in.new.self (g.I.Inlet.came b.inlet) (g.C.Watch.told b.watch) (g.W.Wire.attempts c.take_in.new.wire)
-    b.ticked in
+    b.ticked c.note.new.self in
     let does : TakesArrival c.catch_up.result arrival outcome ended old mid = record {
       read = record {
         came = ap (λ s. g.I.Inlet.came s.inlet) same
@@ -176,6 +188,13 @@ returns g c =
       ends = c.in_ok-taken.ensures.ended;
       same = c.take_in.ensures.same;
       asker = c.take_in.ensures.asker;
+      counted =
+          record {
+            taken = c.of.result;
+            is = record { found = c.of.ensures.found; none = c.of.ensures.none; rest = c.of.ensures.rest };
+            noted =
+                subst (λ (s : StatsOf). HasNoted c.of.result s c.note.new.self) (ap (λ s. s.stats) same) c.note.ensures;
+          };
     } in
     let k = c.ask_first.ensures in (
       turn ∷ k.0,

@@ -10,9 +10,9 @@ abbrev pub invariant-loop : goal.invariant-loop
 invariant-loop g l = record {
   done : (reads : List (List Turn))
       × HaveDone (turns_of reads) (history l.fn.self.media (g.I.Inlet.came l.fn.self.inlet)
-      (g.C.Watch.told l.fn.self.watch) (g.W.Wire.attempts l.fn.self.wire) l.fn.self.ticked)
+      (g.C.Watch.told l.fn.self.watch) (g.W.Wire.attempts l.fn.self.wire) l.fn.self.ticked l.fn.self.stats)
       (history l.self.media (g.I.Inlet.came l.self.inlet) (g.C.Watch.told l.self.watch) (g.W.Wire.attempts l.self.wire)
-      l.self.ticked)
+      l.self.ticked l.self.stats)
       × AllByRecursion (IsTaken l.rows) reads × (length reads ≡ l.counter);
   few : l.counter ≤ 64;
 }

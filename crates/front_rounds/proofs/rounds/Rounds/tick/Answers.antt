@@ -11,12 +11,13 @@ returns-clause-done g c =
     let came = g.I.Inlet.came a.inlet in
     let told = g.C.Watch.told c.now.new.self in
     let tried = g.W.Wire.attempts a.wire in
-    let mid = history a.media came told tried a.ticked in
-    let new = history b.media (g.I.Inlet.came b.inlet) (g.C.Watch.told b.watch) (g.W.Wire.attempts b.wire) b.ticked in (
+    let mid = history a.media came told tried a.ticked a.stats in
+    let new =
+    history b.media (g.I.Inlet.came b.inlet) (g.C.Watch.told b.watch) (g.W.Wire.attempts b.wire) b.ticked b.stats in (
       looked now ∷ gave_ticks due now ∷ [],
       (
         mid,
-        ap (λ (t : List ℕ). history a.media came t tried a.ticked) c.in_ok-now.ensures.ok,
+        ap (λ (t : List ℕ). history a.media came t tried a.ticked a.stats) c.in_ok-now.ensures.ok,
         (
           new,
           record {
@@ -25,9 +26,10 @@ returns-clause-done g c =
             same =
                 ap
                 (λ s.
-                history b.media (g.I.Inlet.came s.inlet) (g.C.Watch.told s.watch) (g.W.Wire.attempts s.wire) b.ticked)
+                history b.media (g.I.Inlet.came s.inlet) (g.C.Watch.told s.watch)
+                (g.W.Wire.attempts s.wire) b.ticked s.stats)
                 c.tick_at.ensures.same
-                ∙ ap (λ (k : ℕ). history b.media came told tried k) c.tick_at.ensures.last;
+                ∙ ap (λ (k : ℕ). history b.media came told tried k a.stats) c.tick_at.ensures.last;
           },
           refl,
         ),

@@ -9,7 +9,7 @@ returns-clause-done g c =
     let now = c.in_ok-now.now in (
       looked now ∷ [],
       looked_same a.media (g.I.Inlet.came a.inlet) (g.I.Inlet.came c.wait.new.self) (g.C.Watch.told a.watch)
-          (g.C.Watch.told c.now.new.self) (g.W.Wire.attempts a.wire) a.ticked now
+          (g.C.Watch.told c.now.new.self) (g.W.Wire.attempts a.wire) a.ticked a.stats now
           c.wait.ensures c.in_ok-now.ensures.ok,
       is_ok c.wait.result (now, refl),
     )

@@ -25,6 +25,7 @@ returns-clause-asked g c =
       intake = here.intake;
       feed = here.feed;
       limiter = here.limiter;
+      limited = here.limited;
       ticks = here.ticks;
       reports = here.reports;
     } in
@@ -40,6 +41,7 @@ returns-clause-asked g c =
             one;
         items = refl;
         limiter = c.try_one.ensures.limiter ∙ ap (λ (x : Address × List ℕ). after_one x here.limiter) is;
+        limited = refl;
       };
       answer = c.try_one.ensures.answer ∙ ap (λ (x : Address × List ℕ). is_paid_for x here.limiter) is;
       same = refl;

@@ -11,6 +11,7 @@ use Rattle.rate_limiter.specs.declared.bucket.Bucket.{Bucket}
 use Rattle.rate_limiter.specs.Drafts.{DraftOf}
 use Rattle.media_front.specs.Paid.{paid_of}
 use Rattle.media_front.specs.Granted.{granted_of, after_asking}
+use Rattle.media_front.specs.LeftOut.{after_limiting}
 use Rattle.media_front.specs.Fronts.{FrontOf, Arrival, HasHandled, once_refilled, once_paid}
 use Rattle.media_front.specs.inner.Shares.{input_shared}
 use Rattle.media_front.proofs.front.MediaFront.handle.Goals as goal
@@ -37,6 +38,7 @@ returns-clause-handled g c desk =
       intake = here.intake;
       feed = c.hand_out_all.new.self;
       limiter = c.put_back.new.self;
+      limited = plan.limited;
       ticks = here.ticks;
       reports = here.reports;
     } in
@@ -65,4 +67,7 @@ returns-clause-handled g c desk =
           (ap (map input_shared) c.deref-2.ensures.value ∙ (c.in_ok-shared.ensures ∙ given)) c.hand_out_all.ensures);
       limiter = c.in_ok-put_back.ensures.after ∙ ap (λ (d : DraftOf). d.after) is.draft
           ∙ ap (λ (n : ℕ). after_asking n c.args.moment (map input_of ingest.items.items) sent) c.self.invariant;
+      limited = is.limited
+          ∙ ap (λ (n : ℕ). after_limiting n c.args.moment (map input_of ingest.items.items) sent here.limited)
+          c.self.invariant;
     })

@@ -31,6 +31,7 @@ returns-clause-waited g c =
       intake = here.intake;
       feed = here.feed;
       limiter = here.limiter;
+      limited = here.limited;
       ticks = here.ticks;
       reports = here.reports;
     } in
@@ -46,6 +47,6 @@ returns-clause-waited g c =
           c.in_ok-answer.ensures.waits;
       handled =
           handled_at (silence desk o.address c.args.moment) (answered_of answer) mid old c.handle.new.self before after
-          refl
+          refl refl
           refl c.wait.ensures.asker (c.in_ok-handle.ensures.handled desk);
     })

@@ -39,6 +39,7 @@ loop-row-preserved g c =
             intake = c.wait_row.new.self.intake;
             feed = c.wait_row.new.self.feed;
             limiter = c.wait_row.new.self.limiter;
+            limited = c.wait_row.new.self.limited;
           })
           c.loop-row.invariant.same;
       asker = c.wait_row.ensures.asker ∙ c.loop-row.invariant.asker;

@@ -9,6 +9,12 @@ abbrev pub invariant-loop-row : goal.invariant-loop-row
 invariant-loop-row g l = record {
   waited : HaveWaited l.rows l.now (filter_map (origin_in l.rows) (take l.row-index l.row-items)) l.initial.self l.self
       (g.W.Wire.attempts l.initial.wire) (g.W.Wire.attempts l.wire);
-  same : l.self ≡ record l.initial.self { intake = l.self.intake; feed = l.self.feed; limiter = l.self.limiter };
+  same : l.self
+      ≡ record l.initial.self {
+        intake = l.self.intake;
+        feed = l.self.feed;
+        limiter = l.self.limiter;
+        limited = l.self.limited;
+      };
   asker : l.self.intake.asker ≡ l.initial.self.intake.asker;
 }

@@ -1,0 +1,120 @@
+//! Where operators' threads ask what the bridge counts, and the front answers.
+
+ghost use Rattle.std.specs.Prelude.{◌≡◌, ◌++◌, ℕ, List, OnOk, OnErr};
+ghost use Rattle.bridge_server.specs.Told.{TellsCounts};
+
+use crate::stats_rows::StatsRows;
+use bridge_stats::{BridgeStats, LaneRow, Limited, Seats};
+use std::alloc::{AllocError, Global};
+use std::sync::atomic::{AtomicBool, Ordering};
+use std::sync::{Condvar, Mutex, MutexGuard, Wait};
+
+/// What the front answered last.
+#[derive(Drop)]
+struct LastAnswer {
+    rows: StatsRows,
+    /// How often it answered.
+    answers: u64,
+    /// Whether it answers no more.
+    is_over: bool,
+}
+
+/// Where operators' threads ask what the bridge counts, and the front answers once a round. While nobody asks, the
+/// front only looks at a flag. It waits for no thread that prints.
+#[derive(Drop)]
+pub(crate) struct StatsDesk {
+    asked: AtomicBool,
+    answer: Mutex<LastAnswer>,
+    /// The front has answered, or answers no more.
+    answered: Condvar,
+    /// Held while lines are printed. Operators who keep asking take one processor together.
+    printed: Mutex<StatsRows>,
+}
+
+impl StatsDesk {
+    /// Nobody has asked. The only error is out of memory.
+    pub(crate) fn new(alloc: Global) -> Result<Self, AllocError> {
+        let answer = LastAnswer {
+            rows: StatsRows::new(alloc)?,
+            answers: 0,
+            is_over: false,
+        };
+        Ok(Self {
+            asked: AtomicBool::new(false),
+            answer: Mutex::new(answer),
+            answered: Condvar::new(),
+            printed: Mutex::new(StatsRows::new(alloc)?),
+        })
+    }
+
+    /// Asks the front, which has to be woken then. Returns how often it had answered.
+    pub(crate) fn ask<R: Wait>(&self, rt: &R) -> u64 {
+        let answer = self.answer.lock(rt);
+        let answers = answer.answers;
+        MutexGuard::unlock(answer);
+        self.asked.store(true, Ordering::SeqCst);
+        answers
+    }
+
+    /// Waits until the front has answered, since it had answered so often, or answers no more.
+    pub(crate) fn wait<R: Wait>(&self, rt: &R, answers: u64) {
+        let answer = self
+            .answered
+            .wait_while(rt, self.answer.lock(rt), |answer| {
+                answer.answers == answers && !answer.is_over
+            });
+        MutexGuard::unlock(answer);
+    }
+
+    /// Appends the lines of the front's last answer, with these seats. An `Err`, out of memory, appends nothing. It
+    /// comes, too, where the front has never answered.
+    pub(crate) fn print<R: Wait>(
+        &self,
+        rt: &R,
+        seats: Seats,
+        out: &mut Vec<u8>,
+    ) -> Result<(), AllocError>
+        ensures ok { OnOk result ((text : List ℕ)
+            × (out.new.items ≡ out.old.items ++ text) × TellsCounts seats text) }
+        ensures err { OnErr result (out.new.items ≡ out.old.items) }
+    {
+        let mut rows = self.printed.lock(rt);
+        let answer = self.answer.lock(rt);
+        rows.show_again(&answer.rows);
+        MutexGuard::unlock(answer);
+        let done = rows.print(seats, out);
+        MutexGuard::unlock(rows);
+        done
+    }
+
+    /// Whether a thread asks.
+    pub(crate) fn is_asked(&self) -> bool {
+        self.asked.load(Ordering::SeqCst)
+    }
+
+    /// Answers all threads that ask: what is counted at a moment, what the rate limiter left out, and the lanes.
+    // A thread that asks from here on is answered in the next round, too.
+    pub(crate) fn answer<R: Wait>(
+        &self,
+        rt: &R,
+        now: u64,
+        stats: &BridgeStats,
+        limited: Limited,
+        lanes: &[LaneRow],
+    ) {
+        self.asked.store(false, Ordering::SeqCst);
+        let mut answer = self.answer.lock(rt);
+        answer.rows.show(now, stats, limited, lanes);
+        answer.answers = answer.answers.wrapping_add(1);
+        MutexGuard::unlock(answer);
+        self.answered.notify_all();
+    }
+
+    /// Answers no more: threads that ask get the last answer.
+    pub(crate) fn close<R: Wait>(&self, rt: &R) {
+        let mut answer = self.answer.lock(rt);
+        answer.is_over = true;
+        MutexGuard::unlock(answer);
+        self.answered.notify_all();
+    }
+}

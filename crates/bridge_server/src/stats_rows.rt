@@ -1,0 +1,159 @@
+//! Rows of what a bridge counts, between the front and operators' threads.
+
+ghost use Rattle.std.specs.Prelude.{◌≡◌, ◌++◌, ℕ, List, false, OnOk, OnErr, IfOk};
+ghost use Rattle.bridge_stats.specs.Stats.{StatsOf};
+ghost use Rattle.bridge_stats.specs.Shown.{IsShown};
+ghost use Rattle.bridge_server.specs.Told.{TellsCounts};
+
+use bridge_stats::{
+    BridgeStats, LaneRow, Limited, OthersShown, Seats, StatsShown, StreamRow, print_stats,
+};
+use std::alloc::{AllocError, Global};
+use std::marker::Model;
+
+/// How many lanes there are at most.
+const MOST_LANES: usize = 16;
+
+/// Rows of what a bridge counts, or of no use.
+#[derive(Drop)]
+struct RowsKept {
+    counted: StatsShown,
+    lanes: Vec<LaneRow>,
+    limited: Limited,
+}
+
+impl RowsKept {
+    /// With memory for the most rows. The only error is out of memory.
+    fn new(alloc: Global) -> Result<Self, AllocError> {
+        Ok(Self {
+            counted: StatsShown::new(alloc)?,
+            lanes: Vec::with_capacity(alloc, MOST_LANES)?,
+            limited: Limited {
+                nacks: 0,
+                blocks: 0,
+                plis: 0,
+            },
+        })
+    }
+
+    /// Writes the lanes, and what the rate limiter left out.
+    fn write_others(&mut self, limited: Limited, lanes: &[LaneRow]) -> Result<(), AllocError> {
+        self.limited = limited;
+        self.lanes.clear();
+        self.lanes.extend_from_slice(lanes)
+    }
+
+    /// Writes what is counted at a moment, what the rate limiter left out, and the lanes.
+    fn write(
+        &mut self,
+        now: u64,
+        stats: &BridgeStats,
+        limited: Limited,
+        lanes: &[LaneRow],
+    ) -> Result<(), AllocError>
+        ensures { OnOk result (IsShown now stats.now self.new.counted) }
+    {
+        self.write_others(limited, lanes)?;
+        stats.show(now, &mut self.counted)
+    }
+
+    /// Writes what others show.
+    fn copy(&mut self, others: &RowsKept) -> Result<(), AllocError>
+        ensures { OnOk result ((now : ℕ) (stats : StatsOf)
+            → IsShown now stats others.now.counted → IsShown now stats self.new.counted) }
+    {
+        self.write_others(others.limited, &others.lanes)?;
+        self.counted.show_again(&others.counted)
+    }
+
+    /// Appends their lines, with these seats. An `Err`, out of memory, appends nothing.
+    fn print(&self, seats: Seats, out: &mut Vec<u8>) -> Result<(), AllocError>
+        ensures ok { (now : ℕ) (stats : StatsOf) → IsShown now stats self.now.counted
+            → OnOk result ((text : List ℕ) × (out.new.items ≡ out.old.items ++ text) × TellsCounts seats text) }
+        ensures err { OnErr result (out.new.items ≡ out.old.items) }
+    {
+        let streams: &[StreamRow] = &[];
+        let others = OthersShown {
+            streams,
+            lanes: &self.lanes,
+            limited: self.limited,
+            seats,
+        };
+        print_stats(&self.counted, &others, out)
+    }
+}
+
+/// Rows of what a bridge counts, if there are any. There is memory for the most, so that none is taken while it runs.
+///
+/// Contracts see whether there are rows.
+#[derive(Drop)]
+pub(crate) struct StatsRows {
+    kept: RowsKept,
+    /// Whether they show what was counted at a moment.
+    is_whole: bool,
+}
+
+impl Model for StatsRows {
+    ghost use Rattle.std.specs.Prelude.{Bool};
+    ghost use Rattle.std.specs.Bool.{OnTrue};
+    ghost use Rattle.bridge_server.specs.Told.{ShowsCounts};
+
+    ghost Value = { Bool };
+
+    ghost view = { λ r. r.is_whole };
+
+    ghost invariant = { λ r. OnTrue r.is_whole (ShowsCounts r.kept.counted) };
+}
+
+impl StatsRows {
+    /// No rows. The only error is out of memory.
+    pub(crate) fn new(alloc: Global) -> Result<Self, AllocError>
+        ensures { IfOk result (λ rows. rows ≡ false) }
+    {
+        let kept = RowsKept::new(alloc)?;
+        Ok(Self {
+            kept,
+            is_whole: false,
+        })
+    }
+
+    /// Shows what is counted at a moment, what the rate limiter left out, and the lanes.
+    pub(crate) fn show(
+        &mut self,
+        now: u64,
+        stats: &BridgeStats,
+        limited: Limited,
+        lanes: &[LaneRow],
+    ) {
+        self.is_whole = false;
+        match self.kept.write(now, stats, limited, lanes) {
+            Ok(()) => self.is_whole = true,
+            Err(_) => {}
+        }
+    }
+
+    /// Shows what others show.
+    pub(crate) fn show_again(&mut self, others: &StatsRows) {
+        self.is_whole = false;
+        if !others.is_whole {
+            return;
+        }
+        match self.kept.copy(&others.kept) {
+            Ok(()) => self.is_whole = true,
+            Err(_) => {}
+        }
+    }
+
+    /// Appends the lines of the rows, with these seats. An `Err`, out of memory, appends nothing. It comes, too, where
+    /// there are no rows.
+    pub(crate) fn print(&self, seats: Seats, out: &mut Vec<u8>) -> Result<(), AllocError>
+        ensures ok { OnOk result ((text : List ℕ)
+            × (out.new.items ≡ out.old.items ++ text) × TellsCounts seats text) }
+        ensures err { OnErr result (out.new.items ≡ out.old.items) }
+    {
+        if !self.is_whole {
+            return Err(AllocError);
+        }
+        self.kept.print(seats, out)
+    }
+}

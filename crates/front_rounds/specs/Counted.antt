@@ -1,0 +1,28 @@
+-- What a front counts of a datagram that it takes in (own).
+use Rattle.std.specs.Prelude.{◌≡◌, length, IfSome, IfNone}
+use Rattle.rtp_codec.specs.declared.writing.Header.{Header}
+use Rattle.intake.specs.declared.outcome.Outcome.{Outcome}
+use Rattle.bridge_stats.specs.declared.taken.TakenIn.{TakenIn}
+use Rattle.bridge_stats.specs.Headers.{HasHeader}
+use Rattle.bridge_stats.specs.Stats.{StatsOf, HasNoted}
+use Rattle.media_front.specs.Fronts.{Arrival}
+
+-- The note of a datagram: where it came from and when, how many octets it has, and its outcome. It has the header of an
+-- RTP packet, and none if the datagram is no such packet.
+pub record IsNoteOf (arrival : Arrival) (outcome : Outcome) (taken : TakenIn) : Type 0 where
+  pub found : IfSome taken.header (HasHeader arrival.octets)
+  pub none : IfNone taken.header ((h : Header) → HasHeader arrival.octets h → ⊥)
+  pub rest : taken
+      ≡ record {
+        from = arrival.from;
+        moment = arrival.moment;
+        octets = length arrival.octets;
+        header = taken.header;
+        outcome = outcome;
+      }
+
+-- A datagram that was taken in was counted once, with its outcome.
+pub record IsCounted (arrival : Arrival) (outcome : Outcome) (old new : StatsOf) : Type 0 where
+  pub taken : TakenIn
+  pub is : IsNoteOf arrival outcome taken
+  pub noted : HasNoted taken old new
