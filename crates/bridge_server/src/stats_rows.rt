@@ -66,19 +66,26 @@ impl RowsKept {
         self.counted.show_again(&others.counted)
     }
 
+    /// What others count, with these seats.
+    fn others(&self, seats: Seats) -> OthersShown<'_>
+        ensures { result.seats ≡ seats }
+    {
+        let streams: &[StreamRow] = &[];
+        OthersShown {
+            streams,
+            lanes: &self.lanes,
+            limited: self.limited,
+            seats,
+        }
+    }
+
     /// Appends their lines, with these seats. An `Err`, out of memory, appends nothing.
     fn print(&self, seats: Seats, out: &mut Vec<u8>) -> Result<(), AllocError>
         ensures ok { (now : ℕ) (stats : StatsOf) → IsShown now stats self.now.counted
             → OnOk result ((text : List ℕ) × (out.new.items ≡ out.old.items ++ text) × TellsCounts seats text) }
         ensures err { OnErr result (out.new.items ≡ out.old.items) }
     {
-        let streams: &[StreamRow] = &[];
-        let others = OthersShown {
-            streams,
-            lanes: &self.lanes,
-            limited: self.limited,
-            seats,
-        };
+        let others = self.others(seats);
         print_stats(&self.counted, &others, out)
     }
 }
