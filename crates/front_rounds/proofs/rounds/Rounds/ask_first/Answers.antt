@@ -13,7 +13,7 @@ pub returns-in_err-want-in-Some : goal.returns-in_err-want-in-Some
 returns-in_err-want-in-Some g c = (
   [],
   sym (ap (λ s.
-    history s.media (g.I.Inlet.came s.inlet) (g.C.Watch.told s.watch) (g.W.Wire.attempts s.wire) s.ticked s.stats)
+      history s.media (g.I.Inlet.came s.inlet) (g.C.Watch.told s.watch) (g.W.Wire.attempts s.wire) s.ticked s.stats)
       c.want.ensures),
   err_on_ok _ c.from_residual.result c.from_residual.ensures.0,
 )

@@ -6,7 +6,7 @@ pub returns-in_err-see : goal.returns-in_err-see
 returns-in_err-see g c = (
   [],
   sym (ap (λ s.
-    history s.media (g.I.Inlet.came s.inlet) (g.C.Watch.told s.watch) (g.W.Wire.attempts s.wire) s.ticked s.stats)
+      history s.media (g.I.Inlet.came s.inlet) (g.C.Watch.told s.watch) (g.W.Wire.attempts s.wire) s.ticked s.stats)
       c.see.ensures),
   tt,
 )
