@@ -241,7 +241,7 @@ def costs(browser, ask, ssrc):
         said = ask(f"{'un' * (at % 2)}mute {ssrc}")
         check(said.startswith("ok "), f"another operator's change is told {said}")
         browser.run(
-            "window.got = fetch('/desk', { cache: 'no-store' }).then((reply) => reply.text())"
+            "window.got = fetch('/desk.txt', { cache: 'no-store' }).then((reply) => reply.text())"
             ".then((text) => { window.got = text; return true; })"
         )
         begun = browser.used()

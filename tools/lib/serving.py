@@ -81,12 +81,12 @@ class Operator:
         return self.lines.readline().strip()
 
     def shown(self, line="show"):
-        """The lines that answer `show` or `history`, as far as they come."""
+        """The lines that answer `show`, `history` or `stats`, as far as they come."""
         self.tell(line)
         lines = []
         for line in self.lines:
             lines.append(line.strip())
-            if line.startswith("end "):
+            if line.split()[:1] == ["end"]:
                 break
         return lines
 

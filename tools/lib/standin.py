@@ -11,7 +11,7 @@ from lib.make.page import PARTS, TOKEN, WEB
 from lib.models.desk import Log
 from lib.models.lines import COMMANDS, TURNS
 
-RESERVED = ("show", "history", "quit", "stop", "names")
+RESERVED = ("show", "history", "stats", "watch", "quit", "stop", "names")
 MOST_CALLS = 256
 LONGEST_NAME, LONGEST_CHANGE = 800, 262_144
 
@@ -34,7 +34,7 @@ class Standin:
     def __init__(self, names=None, text="{}"):
         self.log, self.token = Log(), secrets.token_hex(16)
         self.path, self.names, self.version = names and pathlib.Path(names), text, 0
-        self.lock, self.is_gone = threading.Lock(), False
+        self.lock, self.is_gone, self.counted = threading.Lock(), False, None
 
     def call(self, line, operator=0):
         """What the bridge answers to a line. The page is operator 0."""
@@ -118,12 +118,22 @@ def handler_of(standin):
                 return self.tell(200, *standin.file(self.path))
             if self.path == "/names":
                 return self.tell(200, f"names {standin.version}\n{standin.names}")
-            if self.path not in ("/desk", "/history"):
+            if self.path == "/stats":
+                return self.count()
+            if self.path not in ("/desk.txt", "/history.txt"):
                 return self.tell(404, "NotFound\n")
             if standin.is_gone:
                 return self.tell(502, "Gone: the bridge is not there, nothing was sent\n")
-            lines = standin.desk() if self.path == "/desk" else standin.history()
+            lines = standin.desk() if self.path == "/desk.txt" else standin.history()
             return self.tell(200, "".join(f"{line}\n" for line in lines))
+
+        def count(self):
+            """What is counted, or that nothing is, as where the bridge is an older one."""
+            if standin.is_gone:
+                return self.tell(502, "Gone: the bridge is not there, nothing was sent\n")
+            if standin.counted is None:
+                return self.tell(501, "Unknown: this bridge doesn't know the question, it is an older one\n")
+            return self.tell(200, json.dumps(standin.counted), "application/json")
 
         def do_POST(self):
             body = self.rfile.read(int(self.headers["Content-Length"])).decode()
@@ -136,7 +146,7 @@ def handler_of(standin):
             if self.path == "/names":
                 return self.tell(200, standin.rename(body) + "\n")
             if body.split(" ")[0] in RESERVED:
-                return self.tell(400, "Reserved: show, history, quit, stop and names are not for the page\n")
+                return self.tell(400, "Reserved: show, history, stats, watch, quit, stop and names are not for the page\n")
             if standin.is_gone:
                 return self.tell(502, "Gone: the bridge is not there, nothing was sent\n")
             return self.tell(200, standin.call(body) + "\n")

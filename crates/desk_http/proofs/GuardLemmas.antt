@@ -5,7 +5,7 @@ use Rattle.http.specs.Request.{head_of, body_of}
 use Rattle.http_uri.specs.Uri.{uri_path}
 use Rattle.desk_http.specs.declared.site.Site.{Site}
 use Rattle.desk_http.specs.declared.routing.Route.{Route}
-use Rattle.desk_http.specs.declared.routing.Route.TheVariants.{Page, Script, Style, Desk, History, Call, Names}
+use Rattle.desk_http.specs.declared.routing.Route.TheVariants.{Page, Script, Style, Read, Call, Names}
 use Rattle.desk_http.specs.declared.routing.Route.TheVariants.{ChangeNames, Refused}
 use Rattle.desk_http.specs.declared.routing.PageRefusal.{PageRefusal}
 use Rattle.desk_http.specs.declared.routing.PageRefusal.TheVariants.{ForeignHost, ForeignOrigin, NotAllowed, NoToken}
@@ -61,8 +61,8 @@ at_call site request None e = absurd (cc)
 at_call site request (Some resources.Page) e = absurd (get_no (is_method request (codes "GET")) Page (λ h. cc) e)
 at_call site request (Some resources.Script) e = absurd (get_no (is_method request (codes "GET")) Script (λ h. cc) e)
 at_call site request (Some resources.Style) e = absurd (get_no (is_method request (codes "GET")) Style (λ h. cc) e)
-at_call site request (Some resources.Desk) e = absurd (get_no (is_method request (codes "GET")) Desk (λ h. cc) e)
-at_call site request (Some resources.History) e = absurd (get_no (is_method request (codes "GET")) History (λ h. cc) e)
+at_call site request (Some (resources.Read query form)) e =
+    absurd (get_no (is_method request (codes "GET")) (Read query form) (λ h. cc) e)
 at_call site request (Some resources.Call) e = e
 at_call site request (Some resources.Names) e = absurd (no_names_call site request e)
 

@@ -1,2 +1,4 @@
 mod PendingLineLemmas
 mod GuardLemmas
+pub mod ReadingLemmas
+pub mod RelayLemmas

@@ -1,9 +1,9 @@
 -- How much of the bridge's reply to a line has come (own).
-use Rattle.std.specs.Prelude.{ℕ, ◌-◌, Bool, not, ◌&&◌, if◌then◌else◌, nat_eq, nat_lt, nat_le, List, length, take, drop}
+use Rattle.std.specs.Prelude.{ℕ, ◌-◌, Bool, not, ◌&&◌, ◌||◌, if◌then◌else◌, nat_eq, nat_lt, nat_le, List, length, take, drop}
 use Rattle.std.specs.Prelude.{slice_index, codes, Option, Some, None}
 use Rattle.std.specs.List.{list_any, suffix_len}
 use Rattle.std.specs.Str.{bytes_eq}
-use Rattle.desk_http.specs.Queries.{is_query}
+use Rattle.desk_http.specs.Queries.{is_query, is_stats}
 use Rattle.desk_http.specs.declared.bridge_request.ReplyProgress.{ReplyProgress}
 use Rattle.desk_http.specs.declared.bridge_request.ReplyProgress.TheVariants.{Partial, Complete, Busy, Malformed}
 
@@ -38,6 +38,20 @@ abbrev pub query_progress : Option (List ℕ) → ReplyProgress
 query_progress None = Partial
 query_progress (Some text) = if has_end_line text then Complete else Partial
 
+-- the last line is `end`
+abbrev pub has_plain_end : List ℕ → Bool
+has_plain_end text = bytes_eq (last_line text) (codes "end")
+
+-- the text begins as the answer to a faulty line
+abbrev pub is_fault : List ℕ → Bool
+is_fault text = nat_le 6 (length text) && bytes_eq (take 6 text) (codes "fault ")
+
+-- The reply to `stats` ends with the line `end`, or is a fault. A word may stand behind that `end`.
+abbrev pub stats_progress : Option (List ℕ) → ReplyProgress
+stats_progress None = Partial
+stats_progress (Some text) =
+    if (has_plain_end text || has_end_line text) || is_fault text then Complete else Partial
+
 -- the reply to a call is one line
 abbrev pub call_progress : List ℕ → Option (List ℕ) → ReplyProgress
 call_progress received None = if has_lf received then Malformed else Partial
@@ -52,5 +66,6 @@ abbrev pub progress_of : List ℕ → List ℕ → ReplyProgress
 progress_of line received =
     if bytes_eq received (codes "busy\n") then Busy
     else if nat_lt longest_reply (length received) then Malformed
+    else if is_stats line then stats_progress (before_last_lf received)
     else if is_query line then query_progress (before_last_lf received)
     else call_progress received (before_last_lf received)

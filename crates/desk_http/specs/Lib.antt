@@ -3,6 +3,7 @@ pub mod Queries
 pub mod Routes
 pub mod Guarded
 pub mod Responses
+pub mod Relays
 pub mod Services
 pub mod BridgeRequests
 pub mod PendingLines
@@ -10,3 +11,6 @@ pub mod BridgeConnections
 pub mod Admission
 pub mod Startup
 pub mod Names
+pub mod Readings
+pub mod Metrics
+pub mod Rows

@@ -35,8 +35,10 @@ longest_change = 262144
 abbrev pub is_change : List ℕ → Bool
 is_change body = nat_le (length body) longest_change && is_names_line body
 
--- the first word asks for more than one line, for the end of the connection or of the bridge, or for names
+-- the first word asks for more than one line, for lines from then on, for the end of the connection or of the bridge,
+-- or for names
 abbrev pub is_reserved : List ℕ → Bool
 is_reserved line =
     bytes_eq (first_word line) (codes "show") || bytes_eq (first_word line) (codes "history")
+    || bytes_eq (first_word line) (codes "stats") || bytes_eq (first_word line) (codes "watch")
     || bytes_eq (first_word line) (codes "quit") || bytes_eq (first_word line) (codes "stop") || is_names_line line

@@ -4,11 +4,18 @@ use Rattle.std.specs.Str.{bytes_eq}
 use Rattle.desk_http.specs.declared.query.Query.{Query}
 use Rattle.desk_http.specs.declared.query.Query.TheVariants as queries
 
--- the line that asks for all rows of the desk, or for the last 256 calls in force and the last 256 that can be redone
+-- the line that asks for all rows of the desk, for the last 256 calls in force and the last 256 that can be redone, or
+-- for what the bridge counts
 abbrev pub query_line : Query → List ℕ
 query_line queries.Desk = codes "show"
 query_line queries.History = codes "history 256"
+query_line queries.Stats = codes "stats"
+
+-- the line asks what the bridge counts
+abbrev pub is_stats : List ℕ → Bool
+is_stats line = bytes_eq line (query_line queries.Stats)
 
 -- the line is one of these
 abbrev pub is_query : List ℕ → Bool
-is_query line = bytes_eq line (query_line queries.Desk) || bytes_eq line (query_line queries.History)
+is_query line =
+    bytes_eq line (query_line queries.Desk) || bytes_eq line (query_line queries.History) || is_stats line

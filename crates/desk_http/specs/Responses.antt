@@ -10,8 +10,6 @@ use Rattle.desk_http.specs.declared.routing.Route.TheVariants as routes
 use Rattle.desk_http.specs.declared.routing.PageRefusal.{PageRefusal}
 use Rattle.desk_http.specs.declared.routing.PageRefusal.TheVariants.{ForeignHost, ForeignOrigin, NotFound, NotAllowed}
 use Rattle.desk_http.specs.declared.routing.PageRefusal.TheVariants.{NoToken, NoLine, Reserved, NoNames}
-use Rattle.desk_http.specs.declared.responding.BridgeReply.{BridgeReply}
-use Rattle.desk_http.specs.declared.responding.BridgeReply.TheVariants.{Text, Busy, Gone, Lost}
 
 -- a status, a content type and a body
 pub record PageResponse : Type 0 where
@@ -83,11 +81,13 @@ refusal_status NoNames = 400
 abbrev pub refusal_text : PageRefusal → List ℕ
 refusal_text ForeignHost = codes "ForeignHost: this page answers to its own address alone\n"
 refusal_text ForeignOrigin = codes "ForeignOrigin: this page takes nothing from other pages\n"
-refusal_text NotFound = codes "NotFound: the paths are / and /page.js, /page.css, /desk, /history, /call, /names\n"
+refusal_text NotFound =
+    codes "NotFound: the paths are / /page.js /page.css /desk /desk.txt "
+    ++ codes "/history /history.txt /stats /metrics /call /names\n"
 refusal_text NotAllowed = codes "NotAllowed: POST to /call, GET or POST to /names, GET elsewhere\n"
 refusal_text NoToken = codes "NoToken: load the page again, its token is of an earlier run\n"
 refusal_text NoLine = codes "NoLine: a call is one line of 1 to 4096 printed octets\n"
-refusal_text Reserved = codes "Reserved: show, history, quit, stop and names are not for the page\n"
+refusal_text Reserved = codes "Reserved: show, history, stats, watch, quit, stop and names are not for the page\n"
 refusal_text NoNames =
     codes "NoNames: a change is the word names, the version that was seen, and a JSON object of texts\n"
 
@@ -105,20 +105,11 @@ direct_response site assets routes.Page = page_response assets site.token.items
 direct_response site assets routes.Script = script_response assets
 direct_response site assets routes.Style =
     record { status = 200; content_type = style_type; body = assets.style.now }
-direct_response site assets routes.Desk = waiting_response
-direct_response site assets routes.History = waiting_response
+direct_response site assets (routes.Read query form) = waiting_response
 direct_response site assets routes.Call = waiting_response
 direct_response site assets routes.Names = waiting_response
 direct_response site assets routes.ChangeNames = waiting_response
 direct_response site assets (routes.Refused refusal) = refusal_response refusal
-
--- the response by the bridge's reply, or by why there is none
-abbrev pub relayed_response : BridgeReply → PageResponse
-relayed_response (Text text) = text_response 200 text.items
-relayed_response Busy = text_response 503 (codes "Busy: all seats of the bridge are taken, nothing was done\n")
-relayed_response Gone = text_response 502 (codes "Gone: the bridge is not there, nothing was sent\n")
-relayed_response Lost =
-    text_response 504 (codes "Lost: no answer came, look at the desk before sending the line again\n")
 
 -- the response to a request whose line isn't the one that was replied to
 abbrev pub mismatch_response : PageResponse

@@ -12,6 +12,8 @@ use Rattle.desk_http.specs.declared.routing.Route.{Route}
 use Rattle.desk_http.specs.declared.routing.Route.TheVariants as routes
 use Rattle.desk_http.specs.declared.routing.PageRefusal.TheVariants.{ForeignHost, ForeignOrigin, NotFound, NotAllowed}
 use Rattle.desk_http.specs.declared.routing.PageRefusal.TheVariants.{NoToken, NoLine, Reserved, NoNames}
+use Rattle.desk_http.specs.declared.query.Query.TheVariants.{Desk, History, Stats}
+use Rattle.desk_http.specs.declared.query.Form.TheVariants.{Lines, Json, Metrics}
 use Rattle.desk_http.specs.declared.routing.Resource.{Resource}
 use Rattle.desk_http.specs.declared.routing.Resource.TheVariants as resources
 use Rattle.desk_http.specs.Lines.{is_line, is_reserved, is_change}
@@ -65,8 +67,12 @@ resource_at path =
     if bytes_eq path (codes "/") then Some resources.Page
     else if bytes_eq path (codes "/page.js") then Some resources.Script
     else if bytes_eq path (codes "/page.css") then Some resources.Style
-    else if bytes_eq path (codes "/desk") then Some resources.Desk
-    else if bytes_eq path (codes "/history") then Some resources.History
+    else if bytes_eq path (codes "/desk") then Some (resources.Read Desk Json)
+    else if bytes_eq path (codes "/desk.txt") then Some (resources.Read Desk Lines)
+    else if bytes_eq path (codes "/history") then Some (resources.Read History Json)
+    else if bytes_eq path (codes "/history.txt") then Some (resources.Read History Lines)
+    else if bytes_eq path (codes "/stats") then Some (resources.Read Stats Json)
+    else if bytes_eq path (codes "/metrics") then Some (resources.Read Stats Metrics)
     else if bytes_eq path (codes "/call") then Some resources.Call
     else if bytes_eq path (codes "/names") then Some resources.Names
     else None
@@ -109,8 +115,7 @@ resource_route site request None = routes.Refused NotFound
 resource_route site request (Some resources.Page) = get_only request routes.Page
 resource_route site request (Some resources.Script) = get_only request routes.Script
 resource_route site request (Some resources.Style) = get_only request routes.Style
-resource_route site request (Some resources.Desk) = get_only request routes.Desk
-resource_route site request (Some resources.History) = get_only request routes.History
+resource_route site request (Some (resources.Read query form)) = get_only request (routes.Read query form)
 resource_route site request (Some resources.Call) = call_route site request
 resource_route site request (Some resources.Names) = names_route site request
 

@@ -8,18 +8,17 @@ use Rattle.desk_http.specs.declared.services.Router.{Router}
 use Rattle.desk_http.specs.declared.services.Responder.{Responder}
 use Rattle.desk_http.specs.declared.routing.Route.{Route}
 use Rattle.desk_http.specs.declared.routing.Route.TheVariants as routes
-use Rattle.desk_http.specs.declared.query.Query.TheVariants as queries
 use Rattle.desk_http.specs.Queries.{query_line}
 use Rattle.desk_http.specs.Routes.{route_of}
-use Rattle.desk_http.specs.Responses.{IsPageResponse, direct_response, relayed_response, mismatch_response}
+use Rattle.desk_http.specs.Responses.{IsPageResponse, direct_response, mismatch_response}
+use Rattle.desk_http.specs.Relays.{relayed_response}
 
 -- the line that a route hands to the bridge or to the store of names: that of a call is the body, octet by octet
 abbrev pub bridge_line : Route → List ℕ → Option (List ℕ)
 bridge_line routes.Page body = None
 bridge_line routes.Script body = None
 bridge_line routes.Style body = None
-bridge_line routes.Desk body = Some (query_line queries.Desk)
-bridge_line routes.History body = Some (query_line queries.History)
+bridge_line (routes.Read query form) body = Some (query_line query)
 bridge_line routes.Call body = Some body
 bridge_line routes.Names body = Some (codes "names")
 bridge_line routes.ChangeNames body = Some body
@@ -48,4 +47,4 @@ pub record Responds (old : Responder) (request : Request (List ℕ)) (response :
   pub kept : new ≡ old
   pub content : IsPageResponse
       (if is_line_wanted old.line.now (bridge_line (route_of old.site.now request) (body_of request))
-      then relayed_response old.reply.now else mismatch_response) response
+      then relayed_response old.tables.now (route_of old.site.now request) old.reply.now else mismatch_response) response

@@ -7,12 +7,15 @@ ghost use Rattle.desk_http.specs.BridgeRequests.{
   before_last_lf,
   has_lf,
   has_end_line,
+  has_plain_end,
+  is_fault,
   progress_of,
   call_progress,
   query_progress,
+  stats_progress,
 };
 
-use crate::query::is_query;
+use crate::query::{is_query, is_stats};
 use std::alloc::{AllocError, Global};
 
 /// The most octets of a reply: 16 MiB, six times the rows of a full desk.
@@ -94,6 +97,37 @@ fn query_progress(received: &[u8]) -> ReplyProgress
     }
 }
 
+/// Whether the last line of a text is `end`.
+fn has_plain_end(text: &[u8]) -> bool
+    ensures { result ≡ has_plain_end text.now }
+{
+    &text[last_line_start(text)..] == b"end".as_slice()
+}
+
+/// Whether a text begins as the answer to a faulty line.
+pub(crate) fn is_fault(text: &[u8]) -> bool
+    ensures { result ≡ is_fault text.now }
+{
+    text.len() >= 6 && &text[..6] == b"fault ".as_slice()
+}
+
+/// The progress of a reply to `stats`, which ends with the line `end`. A bridge that doesn't know the question answers
+/// by one line, a fault.
+fn stats_progress(received: &[u8]) -> ReplyProgress
+    ensures { result ≡ stats_progress (before_last_lf received.now) }
+{
+    match before_last_lf(received) {
+        Some(text) => {
+            if has_plain_end(text) || has_end_line(text) || is_fault(text) {
+                ReplyProgress::Complete
+            } else {
+                ReplyProgress::Partial
+            }
+        }
+        None => ReplyProgress::Partial,
+    }
+}
+
 /// The progress of a reply to a call, which is one line.
 fn call_progress(received: &[u8]) -> ReplyProgress
     ensures { result ≡ call_progress received.now (before_last_lf received.now) }
@@ -136,6 +170,8 @@ impl BridgeRequest {
             ReplyProgress::Busy
         } else if self.received.len() > MAX_REPLY {
             ReplyProgress::Malformed
+        } else if is_stats(&self.line) {
+            stats_progress(&self.received)
         } else if is_query(&self.line) {
             query_progress(&self.received)
         } else {

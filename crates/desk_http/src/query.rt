@@ -1,7 +1,7 @@
 //! What the page asks the bridge without changing anything.
 
 ghost use Rattle.std.specs.Prelude.{◌≡◌};
-ghost use Rattle.desk_http.specs.Queries.{query_line, is_query};
+ghost use Rattle.desk_http.specs.Queries.{query_line, is_query, is_stats};
 
 /// What the page asks the bridge without changing anything. Its reply has many lines, and all who ask get the same one.
 #[derive(Clone, Copy)]
@@ -11,6 +11,19 @@ pub enum Query {
     /// The last 256 calls in force, and the last 256 that can be redone. That is less than the 4 MiB that the bridge
     /// keeps for an operator.
     History,
+    /// What the bridge counts. A bridge that doesn't know this question answers by a fault.
+    Stats,
+}
+
+/// How an answer of the bridge is handed on.
+#[derive(Clone, Copy)]
+pub enum Form {
+    /// As the bridge's own lines.
+    Lines,
+    /// As JSON.
+    Json,
+    /// As metrics, in the text format of Prometheus.
+    Metrics,
 }
 
 impl Query {
@@ -21,13 +34,21 @@ impl Query {
         match self {
             Query::Desk => b"show",
             Query::History => b"history 256",
+            Query::Stats => b"stats",
         }
     }
+}
+
+/// Whether a line asks what the bridge counts.
+pub(crate) fn is_stats(line: &[u8]) -> bool
+    ensures { result ≡ is_stats line.now }
+{
+    line == Query::Stats.line()
 }
 
 /// Whether a line asks without changing anything.
 pub(crate) fn is_query(line: &[u8]) -> bool
     ensures { result ≡ is_query line.now }
 {
-    line == Query::Desk.line() || line == Query::History.line()
+    line == Query::Desk.line() || line == Query::History.line() || is_stats(line)
 }

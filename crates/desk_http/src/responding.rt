@@ -12,7 +12,6 @@ ghost use Rattle.desk_http.specs.Responses.{
   refusal_status,
   refusal_text,
   refusal_response,
-  relayed_response,
   mismatch_response,
   direct_response,
   IsPageResponse,
@@ -67,7 +66,7 @@ fn add_common_headers(response: &mut Response) -> Result<(), AllocError>
     )
 }
 
-fn fill(
+pub(crate) fn fill(
     response: &mut Response,
     status: StatusCode,
     content_type: HeaderValue,
@@ -83,7 +82,7 @@ fn fill(
     response.body.push(body)
 }
 
-fn fill_text(
+pub(crate) fn fill_text(
     response: &mut Response,
     status: StatusCode,
     text: &'static [u8],
@@ -146,13 +145,13 @@ fn refusal_text(refusal: PageRefusal) -> &'static [u8]
         PageRefusal::ForeignHost => b"ForeignHost: this page answers to its own address alone\n",
         PageRefusal::ForeignOrigin => b"ForeignOrigin: this page takes nothing from other pages\n",
         PageRefusal::NotFound =>
-            b"NotFound: the paths are / and /page.js, /page.css, /desk, /history, /call, /names\n",
+            b"NotFound: the paths are / /page.js /page.css /desk /desk.txt /history /history.txt /stats /metrics /call /names\n",
         PageRefusal::NotAllowed =>
             b"NotAllowed: POST to /call, GET or POST to /names, GET elsewhere\n",
         PageRefusal::NoToken => b"NoToken: load the page again, its token is of an earlier run\n",
         PageRefusal::NoLine => b"NoLine: a call is one line of 1 to 4096 printed octets\n",
         PageRefusal::Reserved =>
-            b"Reserved: show, history, quit, stop and names are not for the page\n",
+            b"Reserved: show, history, stats, watch, quit, stop and names are not for the page\n",
         PageRefusal::NoNames =>
             b"NoNames: a change is the word names, the version that was seen, and a JSON object of texts\n",
     }
@@ -183,39 +182,10 @@ pub(crate) fn respond(
         Route::Refused(refusal) => {
             fill_text(response, refusal_status(refusal), refusal_text(refusal))
         }
-        Route::Desk | Route::History | Route::Call | Route::Names | Route::ChangeNames => fill_text(
+        Route::Read(_, _) | Route::Call | Route::Names | Route::ChangeNames => fill_text(
             response,
             StatusCode::SERVICE_UNAVAILABLE,
             b"Waiting: the bridge is asked\n",
-        ),
-    }
-}
-
-/// Fills in the response by the bridge's reply.
-pub(crate) fn relay(response: &mut Response, reply: &BridgeReply) -> Result<(), AllocError>
-    requires { IsBlank response.old }
-    ensures { OnOk result (IsPageResponse (relayed_response reply.now) response.new) }
-{
-    match reply {
-        BridgeReply::Text(text) => {
-            let content_type = HeaderValue::from_static("text/plain; charset=utf-8");
-            fill(response, StatusCode::OK, content_type, Bytes::new())?;
-            response.body.put_slice(text)
-        }
-        BridgeReply::Busy => fill_text(
-            response,
-            StatusCode::SERVICE_UNAVAILABLE,
-            b"Busy: all seats of the bridge are taken, nothing was done\n",
-        ),
-        BridgeReply::Gone => fill_text(
-            response,
-            StatusCode::BAD_GATEWAY,
-            b"Gone: the bridge is not there, nothing was sent\n",
-        ),
-        BridgeReply::Lost => fill_text(
-            response,
-            StatusCode::GATEWAY_TIMEOUT,
-            b"Lost: no answer came, look at the desk before sending the line again\n",
         ),
     }
 }

@@ -26,7 +26,7 @@ ghost use Rattle.desk_http.specs.Lines.{
   is_line,
 };
 
-use crate::Site;
+use crate::{Form, Query, Site};
 use bytes::Bytes;
 use http::{Request, header};
 
@@ -44,10 +44,8 @@ pub enum Route {
     Script,
     /// The page's style sheet.
     Style,
-    /// The rows of the desk as they are now.
-    Desk,
-    /// The last calls in force, and those that can be redone.
-    History,
+    /// What the bridge answers to a query, handed on like this.
+    Read(Query, Form),
     /// A call: the line in its body goes to the bridge.
     Call,
     /// The names that operators gave.
@@ -73,7 +71,7 @@ pub enum PageRefusal {
     NoToken,
     /// Its body isn't 1 to 4,096 octets from 32 to 126.
     NoLine,
-    /// Its body begins with `show`, `history`, `quit`, `stop` or `names`.
+    /// Its body begins with `show`, `history`, `stats`, `watch`, `quit`, `stop` or `names`.
     Reserved,
     /// Its body doesn't begin with the word `names`, or has over 262,144 octets.
     NoNames,
@@ -85,8 +83,7 @@ pub(crate) enum Resource {
     Page,
     Script,
     Style,
-    Desk,
-    History,
+    Read(Query, Form),
     Call,
     Names,
 }
@@ -101,9 +98,17 @@ fn resource_at(path: &str) -> Option<Resource>
     } else if path == "/page.css" {
         Some(Resource::Style)
     } else if path == "/desk" {
-        Some(Resource::Desk)
+        Some(Resource::Read(Query::Desk, Form::Json))
+    } else if path == "/desk.txt" {
+        Some(Resource::Read(Query::Desk, Form::Lines))
     } else if path == "/history" {
-        Some(Resource::History)
+        Some(Resource::Read(Query::History, Form::Json))
+    } else if path == "/history.txt" {
+        Some(Resource::Read(Query::History, Form::Lines))
+    } else if path == "/stats" {
+        Some(Resource::Read(Query::Stats, Form::Json))
+    } else if path == "/metrics" {
+        Some(Resource::Read(Query::Stats, Form::Metrics))
     } else if path == "/call" {
         Some(Resource::Call)
     } else if path == "/names" {
@@ -161,6 +166,8 @@ fn is_reserved(line: &[u8]) -> bool
     let word = first_word(line);
     word == b"show".as_slice()
         || word == b"history".as_slice()
+        || word == b"stats".as_slice()
+        || word == b"watch".as_slice()
         || word == b"quit".as_slice()
         || word == b"stop".as_slice()
         || is_names_line(line)
@@ -270,8 +277,7 @@ fn resource_route(site: &Site, request: &Request<Bytes>, resource: Option<Resour
         Some(Resource::Page) => get_only(request, Route::Page),
         Some(Resource::Script) => get_only(request, Route::Script),
         Some(Resource::Style) => get_only(request, Route::Style),
-        Some(Resource::Desk) => get_only(request, Route::Desk),
-        Some(Resource::History) => get_only(request, Route::History),
+        Some(Resource::Read(query, form)) => get_only(request, Route::Read(query, form)),
         Some(Resource::Call) => call_route(site, request),
         Some(Resource::Names) => names_route(site, request),
         None => Route::Refused(PageRefusal::NotFound),

@@ -6,8 +6,9 @@ ghost use Rattle.http.specs.Request.{body_of};
 ghost use Rattle.desk_http.specs.Routes.{route_of};
 ghost use Rattle.desk_http.specs.Services.{bridge_line, is_line_wanted, RoutesRequest, Responds};
 
-use crate::responding::{relay, respond, respond_mismatch};
-use crate::{Assets, BridgeReply, Query, Route, Site, route_of};
+use crate::relaying::{Tables, relay};
+use crate::responding::{respond, respond_mismatch};
+use crate::{Assets, BridgeReply, Route, Site, route_of};
 use bytes::Bytes;
 use http::Request;
 use http_server::{Response, Service};
@@ -18,8 +19,7 @@ fn bridge_line(route: Route, body: &[u8]) -> Option<&[u8]>
     ensures { option_map (λ x. x.now) result ≡ bridge_line route body.now }
 {
     match route {
-        Route::Desk => Some(Query::Desk.line()),
-        Route::History => Some(Query::History.line()),
+        Route::Read(query, _) => Some(query.line()),
         Route::Call => Some(body),
         Route::Names => Some(b"names"),
         Route::ChangeNames => Some(body),
@@ -67,9 +67,13 @@ impl Service for Router {
 /// Responds to a request with the bridge's reply to its line, and to a request with another line with an error.
 // The server of the kit calls a service and encodes its response in one step, and gives out neither the request nor the
 // encoder. So only a connection that reads the request once more can respond later, and no reply reaches another
-// request. A browser gets the desk in the bridge's own text, since JSON would need a definition of its own.
+// request.
 #[derive(Clone, Copy)]
 pub struct Responder<'a> {
+    /// Where the responses are allocated.
+    pub alloc: Global,
+    /// How answers are handed on to machines.
+    pub tables: &'a Tables,
     /// How browsers name the page, and its token.
     pub site: &'a Site,
     /// The line that was replied to.
@@ -101,7 +105,8 @@ impl<'a> Service for Responder<'a> {
         response: &mut Response,
     ) -> Result<(), AllocError> {
         if self.is_for(request) {
-            relay(response, self.reply)
+            let route = route_of(self.site, request);
+            relay(self.alloc, response, self.tables, route, self.reply)
         } else {
             respond_mismatch(response)
         }

@@ -3,11 +3,29 @@
 use crate::client::Client;
 use crate::names_store::NamesStore;
 use crate::server_config::ServerConfig;
-use desk_http::{BridgeReply, ClientActivity, Placement, Query, Responder, Router, Site, admit};
+use desk_http::{
+    BridgeReply, ClientActivity, Placement, Query, Responder, Router, Site, TABLES, admit,
+};
 use mio::net::TcpStream;
 use std::alloc::{AllocError, Global};
 use std::fs::Files;
 use std::io;
+
+/// What responds to a line by a reply.
+pub(crate) fn responder_to<'a>(
+    config: ServerConfig,
+    site: &'a Site,
+    line: &'a [u8],
+    reply: &'a BridgeReply,
+) -> Responder<'a> {
+    Responder {
+        alloc: config.alloc,
+        tables: &TABLES,
+        site,
+        line,
+        reply,
+    }
+}
 
 /// The browsers' connections.
 #[derive(Drop)]
@@ -121,7 +139,7 @@ impl Clients {
             if let Some(line) = client.take_names() {
                 let reply = &store.reply_to(rt, config.alloc, &line)?;
                 let line = line.as_slice();
-                client.complete(config, Responder { site, line, reply }, now);
+                client.complete(config, responder_to(config, site, line, reply), now);
             }
         }
         Ok(())
@@ -138,7 +156,7 @@ impl Clients {
         for client in &mut self.connected {
             if let Some(line) = client.take_line() {
                 let line = line.as_slice();
-                client.complete(config, Responder { site, line, reply }, now);
+                client.complete(config, responder_to(config, site, line, reply), now);
             }
         }
     }

@@ -41,6 +41,10 @@ pub(crate) const HTML_AFTER: &[u8] = br##"">
   </section>
   <aside>
     <section id="detail" aria-labelledby="detail-title" hidden></section>
+    <section id="unknown" aria-labelledby="unknown-title" hidden>
+      <h2 id="unknown-title">Unknown senders</h2>
+      <ol id="strangers"></ol>
+    </section>
     <section aria-labelledby="calls-title">
       <h2 id="calls-title">History</h2>
       <p id="no-calls" class="hint">Nothing was changed yet.</p>

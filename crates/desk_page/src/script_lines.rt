@@ -1,5 +1,5 @@
 //! What the page makes of the bridge's texts, and the lines that clicks send.
-//! `tools/bridge make page` writes this file from web/lines.js, web/overview.js, web/kept.js, web/history.js.
+//! `tools/bridge make page` writes this file from web/lines.js, web/overview.js, web/kept.js, web/stats.js, web/history.js.
 
 /// The first part of the page's script.
 pub(crate) const LINES: &[u8] = br##""use strict";
@@ -8,7 +8,7 @@ pub(crate) const LINES: &[u8] = br##""use strict";
 // The rates of rooms, in Hz.
 const SPEECH = 8000, MUSIC = 44100;
 
-// The desk as it stands in the text of /desk: the lines of `show`, and behind `end VERSION` the version of the names.
+// The desk as it stands in the text of /desk.txt: the lines of `show`, and behind `end VERSION` the names' version.
 function parseDesk(text) {
   const desk = { rooms: [], rates: new Map(), members: [], sources: [], slots: [], subs: new Map(), mutes: new Set(),
     gains: new Map(), pins: new Map(), floors: new Map(), version: 0, rows: [], named: 0 };
@@ -435,6 +435,56 @@ function groupsIn(text) {
   return areGroups && lines[lines.length - 1] === endOf(groups) ? groups : null;
 }
 
+
+// What the bridge counts, as /stats tells it. No function touches the page.
+
+// A source from which nothing has come for so long is silent, in milliseconds.
+const SILENT = 2000;
+// The payload types of sound: PCMU and the two of L16 (RFC 3551).
+const SOUND_TYPES = [0, 10, 11];
+
+// The counts of sources by address and SSRC, and the senders that are no source.
+function parseStats(text) {
+  const told = JSON.parse(text), keyed = (told.sources ?? []).map((one) => [`${one.address} ${one.ssrc}`, one]);
+  return { sources: new Map(keyed), strangers: told.strangers ?? [] };
+}
+
+// How long ago something came, in words.
+function agoInWords(ms) {
+  if (ms < 1000) return "just now";
+  if (ms < 60000) return `${Math.floor(ms / 1000)} s ago`;
+  return ms < 3600000 ? `${Math.floor(ms / 60000)} min ago` : `${Math.floor(ms / 3600000)} h ago`;
+}
+
+// What came of a declared source, or null where nothing is known. A bridge counts by the address of its member.
+function countOf(stats, desk, ssrc) {
+  if (!stats) return null;
+  const address = memberOf(desk, sourceOf(desk, ssrc)?.member)?.address;
+  return stats.sources.get(`${address} ${ssrc}`) ?? { packets: 0, lost: 0, ago_ms: null };
+}
+function isSilent(stats, desk, ssrc) {
+  const count = countOf(stats, desk, ssrc);
+  return count !== null && (count.ago_ms === null || count.ago_ms >= SILENT);
+}
+function countInWords(count) {
+  if (count === null) return "";
+  if (count.ago_ms === null) return "no packet came";
+  return `${count.packets} packets, ${count.lost} lost, the last one ${agoInWords(count.ago_ms)}`;
+}
+
+// The rooms of the sources that fell silent or are heard again between two counts.
+function turnedRooms(desk, before, after) {
+  const turned = desk.sources.filter(({ ssrc }) => isSilent(before, desk, ssrc) !== isSilent(after, desk, ssrc));
+  return new Set(turned.map(({ member }) => memberOf(desk, member)?.room));
+}
+
+// An unknown sender, with what a form to add it as a source is filled in with: its SSRC, the kind that its payload type
+// hints at, and the member of its address if there is one.
+function strangerOf(desk, { address, ssrc, payload_type: type, packets }) {
+  const member = desk.members.find((one) => one.address === address)?.member ?? null;
+  return { address, ssrc, type, packets, member, kind: SOUND_TYPES.includes(type) ? "audio" : "video" };
+}
+
 // The history of calls, as the bridge tells it. No function touches the page.
 
 // The calls in force and those that can be redone, in the order of the text: each with its number, its operator and its
@@ -496,6 +546,6 @@ if (typeof module !== "undefined") {
     memberLine, roomLine, overview, parseNames, renamed, labelled, sourceName, cut, grouped, toggled, othersMuted,
     movedAll, goesAlong, changedRooms, nameRefusal, parseDesk, isMusic, roomsFor, codecOf, seen, videosFor, heard,
     lines, dropped, free, suggested, inWords, replyInWords, noDeskInWords, parseHistory, worded, wayTo, wayWords,
-    changes, keptText, groupsIn };
+    changes, keptText, groupsIn, parseStats, agoInWords, isSilent, countOf, countInWords, turnedRooms, strangerOf };
 }
 "##;

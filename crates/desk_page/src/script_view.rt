@@ -115,7 +115,8 @@ function memberRow({ model, room }) {
   const { member, name, floor, muted, odd, hasAudio, isOpen, isChosen, isHere } = model;
   const who = spoken(name, "member", member);
   const sent = model.sends.flatMap((s, place) => [place ? ", " : null,
-    el("span", { class: `source${s.muted ? " muted" : ""}`, draggable: s.kind === "video" ? "true" : null,
+    el("span", { class: `source${s.muted ? " muted" : ""}${s.isSilent ? " silent" : ""}`,
+      title: s.isSilent ? "no packet comes" : null, draggable: s.kind === "video" ? "true" : null,
       "data-source": s.ssrc }, `${s.kind} ${labelled(s.name, s.ssrc)}`)]);
   const seenWords = model.sees.map((s) => (s.source === null ? "nothing" : s.label)).join(", ");
   return el("div", { class: `member${odd ? " odd" : ""}${isOpen ? " open" : ""}`, role: "listitem", draggable: "true",
@@ -169,11 +170,12 @@ function gainRow(member, who, { ssrc, gain, label }) {
       "data-gain": line, "aria-label": `Gain of ${label} for ${who}`, title: `${line}${gain}` }),
     sends("Reset", lines.setGain(member, ssrc, 256), `the gain of ${label} for ${who}`));
 }
-function sourceRow(room, { ssrc, kind, muted, name, isPinned }) {
+function sourceRow(room, { ssrc, kind, muted, name, isPinned, count, isSilent: silent }) {
   const what = `${kind} ${labelled(name, ssrc)}`;
   return el("div", { class: "row", "data-key": `source row ${ssrc}` },
-    el("span", { class: `what grow source${muted ? " muted" : ""}`, "data-source": ssrc,
+    el("span", { class: `what grow source${muted ? " muted" : ""}${silent ? " silent" : ""}`, "data-source": ssrc,
       draggable: kind === "video" ? "true" : null }, `${kind} `, bdi(labelled(name, ssrc))),
+    count ? el("span", { class: "soft counted" }, count) : "",
     muted ? sends("Unmute", lines.unmute(ssrc), what) : sends("Mute", lines.mute(ssrc), what),
     kind === "video" && !isPinned ? sends("Pin", lines.pin(room, ssrc), what) : "",
     does("Name", "name", `source ${ssrc}`, what),
@@ -207,6 +209,13 @@ function detailPanel(model) {
     model.hears ? chooses("Set gain of", `for ${who}`, `gain-of ${member}`) : "");
 }
 
+// An unknown sender, and a button that fills in the form to add it.
+function strangerItem({ model: { address, ssrc, type, packets, member } }) {
+  const known = member === null ? "no member has this address" : `the address of member ${member}`;
+  return el("li", {}, `${address} `, soft(`SSRC ${ssrc}, type ${type}, ${packets} packets, ${known}`), " ",
+    does("Add as a source", "take-stranger", ssrc, `${ssrc} from ${address}`));
+}
+
 // A call of the history, and below the one that is clicked what leads to it.
 function callItem({ model: { number, operator, text, isUndone, isWalked, isOnWay, way } }) {
   return el("li", { class: `${isUndone ? "undone" : ""}${isOnWay ? " way" : ""}` },
@@ -223,11 +232,12 @@ function wayOf(way) {
 
 // Asking the page's program, and what clicks, keys and drags do.
 const token = () => document.querySelector('meta[name="desk-token"]').content;
-const EVERY = 250, TRIES = 3, PATIENCE = 4000, REST = 400, FEW_ROOMS = 8, FEW_MEMBERS = 4, ROW_HEIGHT = 25;
+const EVERY = 250, COUNTED_EVERY = 2000, TRIES = 3, PATIENCE = 4000, REST = 400;
+const FEW_ROOMS = 8, FEW_MEMBERS = 4, ROW_HEIGHT = 25;
 const folded = new Map(), picked = new Set(), here = new Map();
 const widened = new Set(), resting = new Map(), suggestions = new Map();
 let desk = null, shownText = null, drag = null, group = [], timer = null, asking = false, opened = null, past = null;
-let names = {}, namesVersion = -1, since = null, walked = null;
+let names = {}, namesVersion = -1, since = null, walked = null, stats = null, counted = -COUNTED_EVERY;
 
 function notice(text, good) {
   at("notice").textContent = text;
@@ -337,7 +347,7 @@ async function show() {
   asking = true;
   clearTimeout(timer);
   try {
-    const reply = await get("/desk");
+    const reply = await get("/desk.txt");
     const text = await reply.text();
     if (reply.ok) await take(text);
     else gone(noDeskInWords(text));
@@ -386,10 +396,30 @@ async function takeDesk(text) {
 
 // The history, as the bridge tells it. Where it fails, it is asked for with the next desk.
 async function takeHistory() {
-  const reply = await get("/history");
+  const reply = await get("/history.txt");
   if (!reply.ok) return;
   past = parseHistory(await reply.text());
   renderHistory();
+}
+
+// Asks what the bridge counts, while somebody can see the page. Where the bridge doesn't know the question, the status
+// is no success, and nothing is shown of it.
+async function count() {
+  if (document.visibilityState !== "visible" || performance.now() - counted < COUNTED_EVERY) return;
+  counted = performance.now();
+  let next = null;
+  try {
+    const reply = await ask("/stats");
+    if (reply.ok) next = parseStats(await reply.text());
+  } catch (error) {
+    if (error instanceof SyntaxError) console.error(error);
+  }
+  takeStats(next);
+}
+function takeStats(next) {
+  const before = stats;
+  stats = next;
+  if (desk && (before || next)) render(turnedRooms(desk, before, next), false);
 }
 
 // Names, as the page's program keeps them.
@@ -451,6 +481,7 @@ const acts = {
     if (opened !== null) at("detail").scrollIntoView({ block: "nearest" });
   },
   close: () => { opened = null; render(); },
+  "take-stranger": (of) => fillSource(Number(of)),
   walk: (of) => { walked = walked === Number(of) ? null : Number(of); renderHistory(); },
   go: (of) => { const way = past && wayTo(past, Number(of)); if (way) goes(way); },
   fold: (of) => { folded.set(Number(of), !isFolded(Number(of))); render(); },
@@ -554,10 +585,12 @@ function renderRooms(changed) {
   at("fold").textContent = desk.rooms.every(isFolded) ? "Unfold all" : "Fold all";
 }
 
+const withCount = (s) => ({ ...s, isSilent: isSilent(stats, desk, s.ssrc) });
 function memberItem(room, member, members) {
   const first = members.some((m) => m.member === here.get(room)) ? here.get(room) : members[0].member;
-  return { key: member.member, room, model: { ...memberLine(desk, names, member), isOpen: opened === member.member,
-    isChosen: picked.has(member.member), isHere: first === member.member } };
+  const line = memberLine(desk, names, member);
+  return { key: member.member, room, model: { ...line, sends: line.sends.map(withCount),
+    isOpen: opened === member.member, isChosen: picked.has(member.member), isHere: first === member.member } };
 }
 
 function renderSelected() {
@@ -577,7 +610,8 @@ function detailOf(member) {
   const isShown = (s) => s.gain !== 256 || widened.has(`${member.member} ${s.ssrc}`);
   return { member: member.member, name: nameOf(names, "member", member.member), room, floor, address: member.address,
     codec: member.codec, mix: member.mix, roomLabel: `room ${labelled(nameOf(names, "room", room), room)}`,
-    sources: sources.map((s) => ({ ...s, isPinned: desk.pins.get(room) === s.ssrc })),
+    sources: sources.map((s) => ({ ...withCount(s), isPinned: desk.pins.get(room) === s.ssrc,
+      count: countInWords(countOf(stats, desk, s.ssrc)) })),
     slots: slotsOf(desk, member.member).map((slot) => {
       const { source, by: rule, why } = seen(desk, slot);
       return { slot: slot.ssrc, index: slot.index, source, by: rule, why, isSubscribed: desk.subs.has(slot.ssrc),
@@ -609,6 +643,25 @@ function renderHistory() {
   at("no-calls").hidden = !past || past.done.length + past.undone.length > 0;
   drawList(at("calls"), [...undone, ...(past?.done ?? []).map((one) => item(one, false)).reverse()], callItem);
 }
+// The senders that are no source, where the bridge tells of any.
+function renderStrangers() {
+  const found = (stats?.strangers ?? []).filter(({ ssrc }) => !sourceOf(desk, ssrc));
+  const items = found.map((one) => ({ key: `${one.address} ${one.ssrc}`, model: strangerOf(desk, one) }));
+  at("unknown").hidden = items.length === 0;
+  drawList(at("strangers"), items, strangerItem);
+}
+
+// Fills in the form that adds a source. Which member it is of is the operator's choice.
+function fillSource(ssrc) {
+  const told = stats?.strangers.find((one) => one.ssrc === ssrc);
+  if (!told) return;
+  const { member, kind } = strangerOf(desk, told), fields = at("add-source").elements;
+  fields.ssrc.value = ssrc;
+  fields.kind.value = kind;
+  if (member !== null) fields.member.value = member;
+  fields.member.focus();
+}
+
 function renderForms() {
   const rooms = desk.rooms.map(roomOption);
   const people = desk.members.map(({ member }) => [member, labelled(nameOf(names, "member", member), member)]);
@@ -626,6 +679,7 @@ function render(changed = null, hasForms = true) {
   renderRooms(changed);
   renderSelected();
   renderDetail();
+  renderStrangers();
   renderHistory();
   if (!changed || hasForms) renderForms();
   const title = `Desk, version ${desk.version}`;
@@ -789,5 +843,7 @@ at("send-group").addEventListener("click", () => {
   dropGroup();
   call(line);
 });
+setInterval(count, COUNTED_EVERY / 4);
+document.addEventListener("visibilitychange", count);
 show();
 "##;

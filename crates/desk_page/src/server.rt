@@ -1,12 +1,12 @@
 //! The event loop: browsers' connections, and the client of the bridge.
 
 use crate::bridge_client::BridgeClient;
-use crate::clients::Clients;
+use crate::clients::{Clients, responder_to};
 use crate::names_store::NamesStore;
 use crate::query_timer::QueryTimer;
 use crate::server_config::ServerConfig;
 use crate::setup::{router_at, server_config};
-use desk_http::{Addresses, BridgeReply, Query, Responder, Router};
+use desk_http::{Addresses, BridgeReply, Query, Router};
 use mio::net::{TcpListener, TcpStream};
 use mio::{Events, Interest, Poll, Registry, Token};
 use std::alloc::{AllocError, AllocGlobal, Global};
@@ -107,6 +107,7 @@ pub(crate) struct Server {
     bridge: BridgeClient,
     desk: QueryTimer,
     history: QueryTimer,
+    stats: QueryTimer,
     /// The buffer of all reads.
     chunk: Vec<u8>,
 }
@@ -136,6 +137,7 @@ impl Server {
             bridge: BridgeClient::new(alloc),
             desk: QueryTimer::new(Query::Desk),
             history: QueryTimer::new(Query::History),
+            stats: QueryTimer::new(Query::Stats),
             chunk: Vec::new(alloc),
         };
         let served = server.run(rt, address);
@@ -239,7 +241,10 @@ impl Server {
         if let Some(line) = Self::next_query(&mut self.clients, &mut self.desk, now) {
             return Some(line);
         }
-        Self::next_query(&mut self.clients, &mut self.history, now)
+        if let Some(line) = Self::next_query(&mut self.clients, &mut self.history, now) {
+            return Some(line);
+        }
+        Self::next_query(&mut self.clients, &mut self.stats, now)
     }
 
     fn begin_request<R: Net>(&mut self, rt: &R, now: u64) -> io::Result<()> {
@@ -254,8 +259,11 @@ impl Server {
 
     fn complete(&mut self, line: &[u8], reply: &BridgeReply, now: u64) {
         let site = &self.router.site;
-        self.clients
-            .complete(self.config, Responder { site, line, reply }, now);
+        self.clients.complete(
+            self.config,
+            responder_to(self.config, site, line, reply),
+            now,
+        );
     }
 
     fn complete_queued(&mut self, reply: &BridgeReply, now: u64) {
@@ -283,7 +291,7 @@ impl Server {
             if let BridgeReply::Text(text) = reply {
                 self.store.names.append_heading(self.config.alloc, text)?;
             }
-        } else if line != Query::History.line() {
+        } else if line != Query::History.line() && line != Query::Stats.line() {
             self.desk.reset();
             self.history.reset();
         }

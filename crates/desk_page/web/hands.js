@@ -47,10 +47,12 @@ function renderRooms(changed) {
   at("fold").textContent = desk.rooms.every(isFolded) ? "Unfold all" : "Fold all";
 }
 
+const withCount = (s) => ({ ...s, isSilent: isSilent(stats, desk, s.ssrc) });
 function memberItem(room, member, members) {
   const first = members.some((m) => m.member === here.get(room)) ? here.get(room) : members[0].member;
-  return { key: member.member, room, model: { ...memberLine(desk, names, member), isOpen: opened === member.member,
-    isChosen: picked.has(member.member), isHere: first === member.member } };
+  const line = memberLine(desk, names, member);
+  return { key: member.member, room, model: { ...line, sends: line.sends.map(withCount),
+    isOpen: opened === member.member, isChosen: picked.has(member.member), isHere: first === member.member } };
 }
 
 function renderSelected() {
@@ -70,7 +72,8 @@ function detailOf(member) {
   const isShown = (s) => s.gain !== 256 || widened.has(`${member.member} ${s.ssrc}`);
   return { member: member.member, name: nameOf(names, "member", member.member), room, floor, address: member.address,
     codec: member.codec, mix: member.mix, roomLabel: `room ${labelled(nameOf(names, "room", room), room)}`,
-    sources: sources.map((s) => ({ ...s, isPinned: desk.pins.get(room) === s.ssrc })),
+    sources: sources.map((s) => ({ ...withCount(s), isPinned: desk.pins.get(room) === s.ssrc,
+      count: countInWords(countOf(stats, desk, s.ssrc)) })),
     slots: slotsOf(desk, member.member).map((slot) => {
       const { source, by: rule, why } = seen(desk, slot);
       return { slot: slot.ssrc, index: slot.index, source, by: rule, why, isSubscribed: desk.subs.has(slot.ssrc),
@@ -102,6 +105,25 @@ function renderHistory() {
   at("no-calls").hidden = !past || past.done.length + past.undone.length > 0;
   drawList(at("calls"), [...undone, ...(past?.done ?? []).map((one) => item(one, false)).reverse()], callItem);
 }
+// The senders that are no source, where the bridge tells of any.
+function renderStrangers() {
+  const found = (stats?.strangers ?? []).filter(({ ssrc }) => !sourceOf(desk, ssrc));
+  const items = found.map((one) => ({ key: `${one.address} ${one.ssrc}`, model: strangerOf(desk, one) }));
+  at("unknown").hidden = items.length === 0;
+  drawList(at("strangers"), items, strangerItem);
+}
+
+// Fills in the form that adds a source. Which member it is of is the operator's choice.
+function fillSource(ssrc) {
+  const told = stats?.strangers.find((one) => one.ssrc === ssrc);
+  if (!told) return;
+  const { member, kind } = strangerOf(desk, told), fields = at("add-source").elements;
+  fields.ssrc.value = ssrc;
+  fields.kind.value = kind;
+  if (member !== null) fields.member.value = member;
+  fields.member.focus();
+}
+
 function renderForms() {
   const rooms = desk.rooms.map(roomOption);
   const people = desk.members.map(({ member }) => [member, labelled(nameOf(names, "member", member), member)]);
@@ -119,6 +141,7 @@ function render(changed = null, hasForms = true) {
   renderRooms(changed);
   renderSelected();
   renderDetail();
+  renderStrangers();
   renderHistory();
   if (!changed || hasForms) renderForms();
   const title = `Desk, version ${desk.version}`;
@@ -282,4 +305,6 @@ at("send-group").addEventListener("click", () => {
   dropGroup();
   call(line);
 });
+setInterval(count, COUNTED_EVERY / 4);
+document.addEventListener("visibilitychange", count);
 show();

@@ -4,7 +4,7 @@
 // The rates of rooms, in Hz.
 const SPEECH = 8000, MUSIC = 44100;
 
-// The desk as it stands in the text of /desk: the lines of `show`, and behind `end VERSION` the version of the names.
+// The desk as it stands in the text of /desk.txt: the lines of `show`, and behind `end VERSION` the names' version.
 function parseDesk(text) {
   const desk = { rooms: [], rates: new Map(), members: [], sources: [], slots: [], subs: new Map(), mutes: new Set(),
     gains: new Map(), pins: new Map(), floors: new Map(), version: 0, rows: [], named: 0 };

@@ -1,10 +1,11 @@
 // Asking the page's program, and what clicks, keys and drags do.
 const token = () => document.querySelector('meta[name="desk-token"]').content;
-const EVERY = 250, TRIES = 3, PATIENCE = 4000, REST = 400, FEW_ROOMS = 8, FEW_MEMBERS = 4, ROW_HEIGHT = 25;
+const EVERY = 250, COUNTED_EVERY = 2000, TRIES = 3, PATIENCE = 4000, REST = 400;
+const FEW_ROOMS = 8, FEW_MEMBERS = 4, ROW_HEIGHT = 25;
 const folded = new Map(), picked = new Set(), here = new Map();
 const widened = new Set(), resting = new Map(), suggestions = new Map();
 let desk = null, shownText = null, drag = null, group = [], timer = null, asking = false, opened = null, past = null;
-let names = {}, namesVersion = -1, since = null, walked = null;
+let names = {}, namesVersion = -1, since = null, walked = null, stats = null, counted = -COUNTED_EVERY;
 
 function notice(text, good) {
   at("notice").textContent = text;
@@ -114,7 +115,7 @@ async function show() {
   asking = true;
   clearTimeout(timer);
   try {
-    const reply = await get("/desk");
+    const reply = await get("/desk.txt");
     const text = await reply.text();
     if (reply.ok) await take(text);
     else gone(noDeskInWords(text));
@@ -163,10 +164,30 @@ async function takeDesk(text) {
 
 // The history, as the bridge tells it. Where it fails, it is asked for with the next desk.
 async function takeHistory() {
-  const reply = await get("/history");
+  const reply = await get("/history.txt");
   if (!reply.ok) return;
   past = parseHistory(await reply.text());
   renderHistory();
+}
+
+// Asks what the bridge counts, while somebody can see the page. Where the bridge doesn't know the question, the status
+// is no success, and nothing is shown of it.
+async function count() {
+  if (document.visibilityState !== "visible" || performance.now() - counted < COUNTED_EVERY) return;
+  counted = performance.now();
+  let next = null;
+  try {
+    const reply = await ask("/stats");
+    if (reply.ok) next = parseStats(await reply.text());
+  } catch (error) {
+    if (error instanceof SyntaxError) console.error(error);
+  }
+  takeStats(next);
+}
+function takeStats(next) {
+  const before = stats;
+  stats = next;
+  if (desk && (before || next)) render(turnedRooms(desk, before, next), false);
 }
 
 // Names, as the page's program keeps them.
@@ -228,6 +249,7 @@ const acts = {
     if (opened !== null) at("detail").scrollIntoView({ block: "nearest" });
   },
   close: () => { opened = null; render(); },
+  "take-stranger": (of) => fillSource(Number(of)),
   walk: (of) => { walked = walked === Number(of) ? null : Number(of); renderHistory(); },
   go: (of) => { const way = past && wayTo(past, Number(of)); if (way) goes(way); },
   fold: (of) => { folded.set(Number(of), !isFolded(Number(of))); render(); },

@@ -111,7 +111,8 @@ function memberRow({ model, room }) {
   const { member, name, floor, muted, odd, hasAudio, isOpen, isChosen, isHere } = model;
   const who = spoken(name, "member", member);
   const sent = model.sends.flatMap((s, place) => [place ? ", " : null,
-    el("span", { class: `source${s.muted ? " muted" : ""}`, draggable: s.kind === "video" ? "true" : null,
+    el("span", { class: `source${s.muted ? " muted" : ""}${s.isSilent ? " silent" : ""}`,
+      title: s.isSilent ? "no packet comes" : null, draggable: s.kind === "video" ? "true" : null,
       "data-source": s.ssrc }, `${s.kind} ${labelled(s.name, s.ssrc)}`)]);
   const seenWords = model.sees.map((s) => (s.source === null ? "nothing" : s.label)).join(", ");
   return el("div", { class: `member${odd ? " odd" : ""}${isOpen ? " open" : ""}`, role: "listitem", draggable: "true",
@@ -165,11 +166,12 @@ function gainRow(member, who, { ssrc, gain, label }) {
       "data-gain": line, "aria-label": `Gain of ${label} for ${who}`, title: `${line}${gain}` }),
     sends("Reset", lines.setGain(member, ssrc, 256), `the gain of ${label} for ${who}`));
 }
-function sourceRow(room, { ssrc, kind, muted, name, isPinned }) {
+function sourceRow(room, { ssrc, kind, muted, name, isPinned, count, isSilent: silent }) {
   const what = `${kind} ${labelled(name, ssrc)}`;
   return el("div", { class: "row", "data-key": `source row ${ssrc}` },
-    el("span", { class: `what grow source${muted ? " muted" : ""}`, "data-source": ssrc,
+    el("span", { class: `what grow source${muted ? " muted" : ""}${silent ? " silent" : ""}`, "data-source": ssrc,
       draggable: kind === "video" ? "true" : null }, `${kind} `, bdi(labelled(name, ssrc))),
+    count ? el("span", { class: "soft counted" }, count) : "",
     muted ? sends("Unmute", lines.unmute(ssrc), what) : sends("Mute", lines.mute(ssrc), what),
     kind === "video" && !isPinned ? sends("Pin", lines.pin(room, ssrc), what) : "",
     does("Name", "name", `source ${ssrc}`, what),
@@ -201,6 +203,13 @@ function detailPanel(model) {
     ...part("Sees", model.slots.map(slotRow), "it has no slot"),
     ...part("Hears", model.gains.map((g) => gainRow(member, who, g)), "all at their own level"),
     model.hears ? chooses("Set gain of", `for ${who}`, `gain-of ${member}`) : "");
+}
+
+// An unknown sender, and a button that fills in the form to add it.
+function strangerItem({ model: { address, ssrc, type, packets, member } }) {
+  const known = member === null ? "no member has this address" : `the address of member ${member}`;
+  return el("li", {}, `${address} `, soft(`SSRC ${ssrc}, type ${type}, ${packets} packets, ${known}`), " ",
+    does("Add as a source", "take-stranger", ssrc, `${ssrc} from ${address}`));
 }
 
 // A call of the history, and below the one that is clicked what leads to it.

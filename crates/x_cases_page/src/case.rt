@@ -4,8 +4,8 @@ use crate::admissions::placement_is;
 use crate::connections::reply_is;
 use crate::request::{octets_of, request_of, spoken};
 use desk_http::{
-    Assets, BridgeReply, BridgeRequest, ReplyProgress, Responder, Router, Site, loopback_addresses,
-    request_limits,
+    Assets, BridgeReply, BridgeRequest, ReplyProgress, Responder, Router, Site, TABLES,
+    loopback_addresses, request_limits,
 };
 use http_server::{Config, Connection, Service};
 use std::alloc::{AllocError, Global};
@@ -195,7 +195,13 @@ impl Page {
         wanted: &str,
     ) -> Option<bool> {
         let site = &self.router.site;
-        let mut responder = Responder { site, line, reply };
+        let mut responder = Responder {
+            alloc: self.alloc,
+            tables: &TABLES,
+            site,
+            line,
+            reply,
+        };
         let response = Self::response_of(
             self.alloc,
             self.keys,

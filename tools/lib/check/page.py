@@ -15,6 +15,7 @@ import concurrent.futures
 import contextlib
 import dataclasses
 import http.client
+import json
 import os
 import pathlib
 import re
@@ -150,13 +151,13 @@ class Page:
 
     def desk(self):
         """The lines of `show`."""
-        lines = self.lines_of("/desk")
+        lines = self.lines_of("/desk.txt")
         check(lines[-1].startswith("names "), f"behind the desk stands {lines[-1]}")
         return lines[:-1]
 
     def history(self):
         """The lines of `history 256`."""
-        return self.lines_of("/history")
+        return self.lines_of("/history.txt")
 
     def lines_of(self, path):
         status, _, text = self.ask("GET", path)
@@ -189,7 +190,25 @@ def is_as_told(page, operator, line):
     past = page.history()
     is_same = past == shown(operator, "history 256")
     check(is_same, f"after `{line}` the page has another history than the bridge: {past}")
+    tells_machines(page)
     return past
+
+
+def tells_machines(page):
+    """The JSON of the desk and of the history has what their lines have."""
+    lines, told = page.desk(), json.loads(page.ask("GET", "/desk")[2])
+    rows = {"room": "rooms", "member": "members", "source": "sources", "slot": "slots", "sub": "subs", "mute": "mutes"}
+    rows |= {"gain": "gains", "pin": "pins", "floor": "floors"}
+    for word, key in rows.items():
+        kind = [line.split(" ")[1:] for line in lines if line.startswith(f"{word} ")]
+        given = [[str(value) for value in row.values() if value is not None] for row in told[key]]
+        check(given == kind, f"the JSON of the desk has the {key} {given}, and its lines {kind}")
+    check(f"end {told['end']['version']}" == lines[-1], f"the JSON of the desk ends by {told['end']}")
+    past, told = page.history(), json.loads(page.ask("GET", "/history")[2])
+    line = lambda one: f"{one['number']} {one['operator']} {one['call']}"  # noqa: E731
+    done, undone = ([line(one) for one in told[key]] for key in ("done", "undone"))
+    given = [*done, *(["undone"] if undone else []), *undone, f"end {told['end']['version']}"]
+    check(given == past, f"the JSON of the history has {given}, and its lines {past}")
 
 
 def seated(bridge, port):
@@ -259,7 +278,11 @@ def refuses(page, operator, version):
         (400, "Reserved", "POST", "/call", b"quit", good),
         (400, "Reserved", "POST", "/call", b"show", good),
         (400, "Reserved", "POST", "/call", b"history 256", good),
+        (400, "Reserved", "POST", "/call", b"stats", good),
+        (400, "Reserved", "POST", "/call", b"watch", good),
         (405, "NotAllowed", "POST", "/history", b"", good),
+        (405, "NotAllowed", "POST", "/metrics", b"", good),
+        (403, "ForeignHost", "GET", "/metrics", None, {"Host": "desk.example"}),
         (400, "NoLine", "POST", "/call", b"a" * 4097, good),
         (400, "Reserved", "POST", "/call", b"names 0", good),
         (403, "NoToken", "POST", "/names", b"names 0\n{}", {"Origin": own}),
@@ -423,7 +446,7 @@ def find_commands(browser):
 
 def try_functions():
     """The functions of the page that choose a click's line, by themselves."""
-    script = "".join((WEB / part).read_text() for part in ("lines.js", "overview.js", "kept.js", "history.js"))
+    script = "".join((WEB / part).read_text() for part in ("lines.js", "overview.js", "kept.js", "stats.js", "history.js"))
     with tempfile.TemporaryDirectory() as folder:
         path = pathlib.Path(folder) / "lines.js"
         path.write_text(script)

@@ -207,4 +207,26 @@ same([kept[1], kept.slice(0, 2).join("\n"), "", "# end: 0 groups of 0 commands\n
 const large = page.parseDesk(Array.from({ length: 130 }, (_, room) => `room ${room}`).join("\n"));
 same(page.groupsIn(page.keptText(large)).map((group) => group.split(" / ").length), [64, 64, 2]);
 
+// What the bridge counts: a source is found by the address of its member, and is silent after two seconds.
+const stats = page.parseStats(JSON.stringify({
+  sources: [{ address: "127.0.0.1:6000", ssrc: 101, packets: 9, lost: 1, ago_ms: 1999 },
+    { address: "127.0.0.1:6000", ssrc: 201, packets: 7, lost: 0, ago_ms: 2000 },
+    { address: "127.0.0.1:6000", ssrc: 202, packets: 5, lost: 0, ago_ms: 3 }],
+  strangers: [{ address: "127.0.0.1:6002", ssrc: 777, payload_type: 0, packets: 3 },
+    { address: "127.0.0.1:9", ssrc: 778, payload_type: 96, packets: 1 }],
+}));
+same([101, 201, 202, 102].map((ssrc) => page.isSilent(stats, desk, ssrc)), [false, true, true, true]);
+same([101, 999].map((ssrc) => page.isSilent(null, desk, ssrc)), [false, false]);
+same([101, 201, 202].map((ssrc) => page.countInWords(page.countOf(stats, desk, ssrc))),
+  ["9 packets, 1 lost, the last one 1 s ago", "7 packets, 0 lost, the last one 2 s ago", "no packet came"]);
+same(page.countInWords(page.countOf(null, desk, 101)), "");
+same([0, 999, 1000, 59999, 60000, 3599999, 3600000].map(page.agoInWords),
+  ["just now", "just now", "1 s ago", "59 s ago", "1 min ago", "59 min ago", "1 h ago"]);
+same(stats.strangers.map((one) => page.strangerOf(desk, one)), [
+  { address: "127.0.0.1:6002", ssrc: 777, type: 0, packets: 3, member: 11, kind: "audio" },
+  { address: "127.0.0.1:9", ssrc: 778, type: 96, packets: 1, member: null, kind: "video" }]);
+same([...page.turnedRooms(desk, null, stats)], [1]);
+same([...page.turnedRooms(desk, stats, stats)], []);
+same([page.parseStats("{}").strangers, page.parseStats("{}").sources.size], [[], 0]);
+
 console.log(`${tried} tries of the page's functions, no fault`);

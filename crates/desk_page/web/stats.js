@@ -1,0 +1,49 @@
+
+// What the bridge counts, as /stats tells it. No function touches the page.
+
+// A source from which nothing has come for so long is silent, in milliseconds.
+const SILENT = 2000;
+// The payload types of sound: PCMU and the two of L16 (RFC 3551).
+const SOUND_TYPES = [0, 10, 11];
+
+// The counts of sources by address and SSRC, and the senders that are no source.
+function parseStats(text) {
+  const told = JSON.parse(text), keyed = (told.sources ?? []).map((one) => [`${one.address} ${one.ssrc}`, one]);
+  return { sources: new Map(keyed), strangers: told.strangers ?? [] };
+}
+
+// How long ago something came, in words.
+function agoInWords(ms) {
+  if (ms < 1000) return "just now";
+  if (ms < 60000) return `${Math.floor(ms / 1000)} s ago`;
+  return ms < 3600000 ? `${Math.floor(ms / 60000)} min ago` : `${Math.floor(ms / 3600000)} h ago`;
+}
+
+// What came of a declared source, or null where nothing is known. A bridge counts by the address of its member.
+function countOf(stats, desk, ssrc) {
+  if (!stats) return null;
+  const address = memberOf(desk, sourceOf(desk, ssrc)?.member)?.address;
+  return stats.sources.get(`${address} ${ssrc}`) ?? { packets: 0, lost: 0, ago_ms: null };
+}
+function isSilent(stats, desk, ssrc) {
+  const count = countOf(stats, desk, ssrc);
+  return count !== null && (count.ago_ms === null || count.ago_ms >= SILENT);
+}
+function countInWords(count) {
+  if (count === null) return "";
+  if (count.ago_ms === null) return "no packet came";
+  return `${count.packets} packets, ${count.lost} lost, the last one ${agoInWords(count.ago_ms)}`;
+}
+
+// The rooms of the sources that fell silent or are heard again between two counts.
+function turnedRooms(desk, before, after) {
+  const turned = desk.sources.filter(({ ssrc }) => isSilent(before, desk, ssrc) !== isSilent(after, desk, ssrc));
+  return new Set(turned.map(({ member }) => memberOf(desk, member)?.room));
+}
+
+// An unknown sender, with what a form to add it as a source is filled in with: its SSRC, the kind that its payload type
+// hints at, and the member of its address if there is one.
+function strangerOf(desk, { address, ssrc, payload_type: type, packets }) {
+  const member = desk.members.find((one) => one.address === address)?.member ?? null;
+  return { address, ssrc, type, packets, member, kind: SOUND_TYPES.includes(type) ? "audio" : "video" };
+}
