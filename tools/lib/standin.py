@@ -146,7 +146,8 @@ def handler_of(standin):
             if self.path == "/names":
                 return self.tell(200, standin.rename(body) + "\n")
             if body.split(" ")[0] in RESERVED:
-                return self.tell(400, "Reserved: show, history, stats, watch, quit, stop and names are not for the page\n")
+                told = "Reserved: show, history, stats, watch, quit, stop and names are not for the page\n"
+                return self.tell(400, told)
             if standin.is_gone:
                 return self.tell(502, "Gone: the bridge is not there, nothing was sent\n")
             return self.tell(200, standin.call(body) + "\n")

@@ -1,6 +1,6 @@
 -- How much of the bridge's reply to a line has come (own).
-use Rattle.std.specs.Prelude.{ℕ, ◌-◌, Bool, not, ◌&&◌, ◌||◌, if◌then◌else◌, nat_eq, nat_lt, nat_le, List, length, take, drop}
-use Rattle.std.specs.Prelude.{slice_index, codes, Option, Some, None}
+use Rattle.std.specs.Prelude.{ℕ, ◌-◌, Bool, not, ◌&&◌, ◌||◌, if◌then◌else◌, nat_eq, nat_lt, nat_le, List, length, take}
+use Rattle.std.specs.Prelude.{drop, slice_index, codes, Option, Some, None}
 use Rattle.std.specs.List.{list_any, suffix_len}
 use Rattle.std.specs.Str.{bytes_eq}
 use Rattle.desk_http.specs.Queries.{is_query, is_stats}

@@ -1,13 +1,14 @@
 -- The responses that hand on what the bridge said (own; the status codes are those of RFC 9110 section 15).
 use Rattle.std.specs.Prelude.{ℕ, not, ◌&&◌, if◌then◌else◌, List, ◌++◌, codes, Option, Some, None, option_map}
+use Rattle.std.specs.Borrow.{Bor}
 use Rattle.std.specs.Str.{is_utf8}
-use Rattle.desk_http.specs.declared.rows.Shape.{Shape}
+use Rattle.desk_http.specs.declared.rows.RowShape.{RowShape}
 use Rattle.desk_http.specs.declared.metrics.Family.{Family}
 use Rattle.desk_http.specs.declared.relaying.Tables.{Tables}
 use Rattle.desk_http.specs.declared.query.Query.{Query}
 use Rattle.desk_http.specs.declared.query.Query.TheVariants.{Desk, History, Stats}
-use Rattle.desk_http.specs.declared.query.Form.{Form}
-use Rattle.desk_http.specs.declared.query.Form.TheVariants.{Lines, Json, Metrics}
+use Rattle.desk_http.specs.declared.query.AnswerForm.{AnswerForm}
+use Rattle.desk_http.specs.declared.query.AnswerForm.TheVariants.{Lines, Json, Metrics}
 use Rattle.desk_http.specs.declared.routing.Route.{Route}
 use Rattle.desk_http.specs.declared.routing.Route.TheVariants as routes
 use Rattle.desk_http.specs.declared.responding.BridgeReply.{BridgeReply}
@@ -25,22 +26,22 @@ abbrev pub metrics_type : List ℕ
 metrics_type = codes "text/plain; version=0.0.4; charset=utf-8"
 
 -- an answer as a text, if it is one and no fault
-abbrev pub told : List ℕ → Option (List ℕ)
-told answer = if not (is_fault answer) && is_utf8 answer then Some answer else None
+abbrev pub readable_text : List ℕ → Option (List ℕ)
+readable_text answer = if not (is_fault answer) && is_utf8 answer then Some answer else None
 
 -- the shapes of the answer to a query
-abbrev pub shapes_of : Tables → Query → List Shape
+abbrev pub shapes_of : Tables → Query → List RowShape
 shapes_of tables Desk = tables.desk.now
 shapes_of tables History = tables.history.now
 shapes_of tables Stats = tables.stats.now
 
 -- an answer as JSON, if it is a text and no fault
-abbrev pub json_body : List Shape → List ℕ → Option (List ℕ)
-json_body shapes answer = option_map (json_text shapes) (told answer)
+abbrev pub json_body : List RowShape → List ℕ → Option (List ℕ)
+json_body shapes answer = option_map (json_text shapes) (readable_text answer)
 
 -- an answer as metrics, if it is a text and no fault
-abbrev pub metrics_body : List Family → List ℕ → Option (List ℕ)
-metrics_body families answer = option_map (metrics_text families) (told answer)
+abbrev pub metrics_body : List (Bor (List Family)) → List ℕ → Option (List ℕ)
+metrics_body families answer = option_map (metrics_text families) (readable_text answer)
 
 -- a text of this type, or the word that the bridge doesn't know the question
 abbrev pub told_response : List ℕ → Option (List ℕ) → PageResponse
@@ -49,7 +50,7 @@ told_response type_told None =
     text_response 501 (codes "Unknown: this bridge doesn't know the question, it is an older one\n")
 
 -- the bridge's answer to a query, handed on in a form
-abbrev pub form_response : Tables → Query → Form → List ℕ → PageResponse
+abbrev pub form_response : Tables → Query → AnswerForm → List ℕ → PageResponse
 form_response tables query Lines answer = text_response 200 answer
 form_response tables query Json answer = told_response json_type (json_body (shapes_of tables query) answer)
 form_response tables query Metrics answer = told_response metrics_type (metrics_body tables.families.now answer)

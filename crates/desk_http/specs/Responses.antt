@@ -81,9 +81,7 @@ refusal_status NoNames = 400
 abbrev pub refusal_text : PageRefusal → List ℕ
 refusal_text ForeignHost = codes "ForeignHost: this page answers to its own address alone\n"
 refusal_text ForeignOrigin = codes "ForeignOrigin: this page takes nothing from other pages\n"
-refusal_text NotFound =
-    codes "NotFound: the paths are / /page.js /page.css /desk /desk.txt "
-    ++ codes "/history /history.txt /stats /metrics /call /names\n"
+refusal_text NotFound = codes "NotFound: there are /, /desk, /history, /stats, /metrics, /call and /names\n"
 refusal_text NotAllowed = codes "NotAllowed: POST to /call, GET or POST to /names, GET elsewhere\n"
 refusal_text NoToken = codes "NoToken: load the page again, its token is of an earlier run\n"
 refusal_text NoLine = codes "NoLine: a call is one line of 1 to 4096 printed octets\n"

@@ -13,7 +13,7 @@ use Rattle.desk_http.specs.declared.routing.Route.TheVariants as routes
 use Rattle.desk_http.specs.declared.routing.PageRefusal.TheVariants.{ForeignHost, ForeignOrigin, NotFound, NotAllowed}
 use Rattle.desk_http.specs.declared.routing.PageRefusal.TheVariants.{NoToken, NoLine, Reserved, NoNames}
 use Rattle.desk_http.specs.declared.query.Query.TheVariants.{Desk, History, Stats}
-use Rattle.desk_http.specs.declared.query.Form.TheVariants.{Lines, Json, Metrics}
+use Rattle.desk_http.specs.declared.query.AnswerForm.TheVariants.{Lines, Json, Metrics}
 use Rattle.desk_http.specs.declared.routing.Resource.{Resource}
 use Rattle.desk_http.specs.declared.routing.Resource.TheVariants as resources
 use Rattle.desk_http.specs.Lines.{is_line, is_reserved, is_change}

@@ -6,14 +6,14 @@ use Rattle.std.specs.Str.{bytes_eq}
 use Rattle.json.specs.Token.{Token, begin_object, end_object, begin_array, end_array, key, string, number, null}
 use Rattle.json.specs.Print.{print}
 use Rattle.json.specs.Written.{Written}
-use Rattle.desk_http.specs.declared.rows.Field.{Field}
-use Rattle.desk_http.specs.declared.rows.Part.{Part}
-use Rattle.desk_http.specs.declared.rows.Part.TheVariants.{All, Done, Undone}
-use Rattle.desk_http.specs.declared.rows.Kind.{Kind}
-use Rattle.desk_http.specs.declared.rows.Kind.TheVariants.{Named, Numbered}
-use Rattle.desk_http.specs.declared.rows.Shape.{Shape}
-use Rattle.desk_http.specs.Readings.{lines_of, words_of, place_of, found}
-use Rattle.desk_http.specs.Metrics.{is_number, begins_with}
+use Rattle.desk_http.specs.declared.rows.RowField.{RowField}
+use Rattle.desk_http.specs.declared.rows.HistoryPart.{HistoryPart}
+use Rattle.desk_http.specs.declared.rows.HistoryPart.TheVariants.{All, Done, Undone}
+use Rattle.desk_http.specs.declared.rows.RowKind.{RowKind}
+use Rattle.desk_http.specs.declared.rows.RowKind.TheVariants.{Named, Numbered}
+use Rattle.desk_http.specs.declared.rows.RowShape.{RowShape}
+use Rattle.desk_http.specs.Readings.{answer_lines, words_of, leading_word, word_place, found}
+use Rattle.desk_http.specs.Metrics.{is_number}
 
 -- a text as a value: a number, nothing for `-`, or else a string
 abbrev pub text_token : List ℕ → Token
@@ -26,37 +26,32 @@ value_token None = null
 value_token (Some text) = text_token text
 
 -- a field of a line with these words
-abbrev pub field_tokens : List ℕ → List (List ℕ) → Field → List Token
+abbrev pub field_tokens : List ℕ → List (List ℕ) → RowField → List Token
 field_tokens line words field = key field.name.now ∷ value_token (found field.place line words) ∷ []
 
 -- a line with these words as an object
-abbrev pub object_tokens : List Field → List ℕ → List (List ℕ) → List Token
+abbrev pub object_tokens : List RowField → List ℕ → List (List ℕ) → List Token
 object_tokens fields line words = begin_object ∷ (flat_map (field_tokens line words) fields ++ end_object ∷ [])
 
--- the word is there, and a number
-abbrev pub is_numbered : Option (List ℕ) → Bool
-is_numbered None = false
-is_numbered (Some word) = is_number word
-
--- a line with these words is of the kind
-abbrev pub is_of : Kind → List (List ℕ) → Bool
-is_of (Named word) words = begins_with word.now (slice_get words 0)
-is_of Numbered words = is_numbered (slice_get words 0)
+-- a line with this first word is of the kind
+abbrev pub is_of : RowKind → List ℕ → Bool
+is_of (Named word) first = bytes_eq first word.now
+is_of Numbered first = is_number first
 
 -- a line as an object, if it is of the kind
-abbrev pub row_tokens : Shape → List ℕ → List Token
+abbrev pub row_tokens : RowShape → List ℕ → List Token
 row_tokens shape line =
-    if is_of shape.kind (words_of line) then object_tokens shape.fields.now line (words_of line) else []
+    if is_of shape.kind (leading_word line) then object_tokens shape.fields.now line (words_of line) else []
 
 -- the first line that is of the kind as an object, or nothing
-abbrev pub first_tokens : Shape → List (List ℕ) → List Token
+abbrev pub first_tokens : RowShape → List (List ℕ) → List Token
 first_tokens shape [] = null ∷ []
 first_tokens shape (line ∷ lines) =
-    if is_of shape.kind (words_of line) then object_tokens shape.fields.now line (words_of line)
+    if is_of shape.kind (leading_word line) then object_tokens shape.fields.now line (words_of line)
     else first_tokens shape lines
 
 -- all lines that are of the kind, as an array
-abbrev pub list_tokens : Shape → List (List ℕ) → List Token
+abbrev pub list_tokens : RowShape → List (List ℕ) → List Token
 list_tokens shape lines = begin_array ∷ (flat_map (row_tokens shape) lines ++ end_array ∷ [])
 
 -- where a line stands, or else how many lines there are
@@ -66,26 +61,27 @@ place_or length (Some at) = at
 
 -- where the line `undone` stands, or else how many lines there are
 abbrev pub undone_at : List (List ℕ) → ℕ
-undone_at lines = place_or (length lines) (place_of (codes "undone") lines)
+undone_at lines = place_or (length lines) (word_place (codes "undone") lines)
 
 -- a part of the lines
-abbrev pub part_of : Part → List (List ℕ) → List (List ℕ)
-part_of All lines = lines
-part_of Done lines = take (undone_at lines) lines
-part_of Undone lines = drop (undone_at lines) lines
+abbrev pub lines_in_part : HistoryPart → List (List ℕ) → List (List ℕ)
+lines_in_part All lines = lines
+lines_in_part Done lines = take (undone_at lines) lines
+lines_in_part Undone lines = drop (undone_at lines) lines
 
 -- the lines of a shape, under its key
-abbrev pub shape_tokens : List (List ℕ) → Shape → List Token
+abbrev pub shape_tokens : List (List ℕ) → RowShape → List Token
 shape_tokens lines shape =
     key shape.key.now
-    ∷ (if shape.is_list then list_tokens shape (part_of shape.part lines) else first_tokens shape (part_of shape.part lines))
+    ∷ (if shape.is_list then list_tokens shape (lines_in_part shape.part lines)
+    else first_tokens shape (lines_in_part shape.part lines))
 
 -- an answer of the bridge as an object
-abbrev pub document_tokens : List Shape → List ℕ → List Token
-document_tokens shapes text = begin_object ∷ (flat_map (shape_tokens (lines_of text)) shapes ++ end_object ∷ [])
+abbrev pub document_tokens : List RowShape → List ℕ → List Token
+document_tokens shapes text = begin_object ∷ (flat_map (shape_tokens (answer_lines text)) shapes ++ end_object ∷ [])
 
 -- an answer of the bridge as JSON
-abbrev pub json_text : List Shape → List ℕ → List ℕ
+abbrev pub json_text : List RowShape → List ℕ → List ℕ
 json_text shapes text = print (document_tokens shapes text)
 
 -- these tokens were written behind the others

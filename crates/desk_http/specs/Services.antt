@@ -47,4 +47,5 @@ pub record Responds (old : Responder) (request : Request (List ℕ)) (response :
   pub kept : new ≡ old
   pub content : IsPageResponse
       (if is_line_wanted old.line.now (bridge_line (route_of old.site.now request) (body_of request))
-      then relayed_response old.tables.now (route_of old.site.now request) old.reply.now else mismatch_response) response
+      then relayed_response old.tables.now (route_of old.site.now request) old.reply.now
+      else mismatch_response) response

@@ -1,266 +1,266 @@
 //! The desk and its history as JSON. A row here is a key.
 
-use crate::reading::Place;
-use crate::rows::{Field, Kind, Part, Shape};
+use crate::reading::WordPlace;
+use crate::rows::{HistoryPart, RowField, RowKind, RowShape};
 
-const ROOM: [Field; 2] = [
-    Field {
+const ROOM: [RowField; 2] = [
+    RowField {
         name: "room",
-        place: Place::Word(1),
+        place: WordPlace::Word(1),
     },
-    Field {
+    RowField {
         name: "rate",
-        place: Place::Word(2),
+        place: WordPlace::Word(2),
     },
 ];
 
-const MEMBER: [Field; 8] = [
-    Field {
+const MEMBER: [RowField; 8] = [
+    RowField {
         name: "place",
-        place: Place::Word(1),
+        place: WordPlace::Word(1),
     },
-    Field {
+    RowField {
         name: "member",
-        place: Place::Word(2),
+        place: WordPlace::Word(2),
     },
-    Field {
+    RowField {
         name: "room",
-        place: Place::Word(3),
+        place: WordPlace::Word(3),
     },
-    Field {
+    RowField {
         name: "address",
-        place: Place::Word(4),
+        place: WordPlace::Word(4),
     },
-    Field {
+    RowField {
         name: "codec",
-        place: Place::Word(5),
+        place: WordPlace::Word(5),
     },
-    Field {
+    RowField {
         name: "out_audio",
-        place: Place::Word(6),
+        place: WordPlace::Word(6),
     },
-    Field {
+    RowField {
         name: "first_seq",
-        place: Place::Word(7),
+        place: WordPlace::Word(7),
     },
-    Field {
+    RowField {
         name: "first_ts",
-        place: Place::Word(8),
+        place: WordPlace::Word(8),
     },
 ];
 
-const SOURCE: [Field; 3] = [
-    Field {
+const SOURCE: [RowField; 3] = [
+    RowField {
         name: "ssrc",
-        place: Place::Word(1),
+        place: WordPlace::Word(1),
     },
-    Field {
+    RowField {
         name: "member",
-        place: Place::Word(2),
+        place: WordPlace::Word(2),
     },
-    Field {
+    RowField {
         name: "kind",
-        place: Place::Word(3),
+        place: WordPlace::Word(3),
     },
 ];
 
-const SLOT: [Field; 5] = [
-    Field {
+const SLOT: [RowField; 5] = [
+    RowField {
         name: "out_ssrc",
-        place: Place::Word(1),
+        place: WordPlace::Word(1),
     },
-    Field {
+    RowField {
         name: "member",
-        place: Place::Word(2),
+        place: WordPlace::Word(2),
     },
-    Field {
+    RowField {
         name: "index",
-        place: Place::Word(3),
+        place: WordPlace::Word(3),
     },
-    Field {
+    RowField {
         name: "first_seq",
-        place: Place::Word(4),
+        place: WordPlace::Word(4),
     },
-    Field {
+    RowField {
         name: "first_ts",
-        place: Place::Word(5),
+        place: WordPlace::Word(5),
     },
 ];
 
-const SUB: [Field; 2] = [
-    Field {
+const SUB: [RowField; 2] = [
+    RowField {
         name: "out_ssrc",
-        place: Place::Word(1),
+        place: WordPlace::Word(1),
     },
-    Field {
+    RowField {
         name: "source",
-        place: Place::Word(2),
+        place: WordPlace::Word(2),
     },
 ];
 
-const MUTE: [Field; 1] = [Field {
+const MUTE: [RowField; 1] = [RowField {
     name: "source",
-    place: Place::Word(1),
+    place: WordPlace::Word(1),
 }];
 
-const GAIN: [Field; 3] = [
-    Field {
+const GAIN: [RowField; 3] = [
+    RowField {
         name: "member",
-        place: Place::Word(1),
+        place: WordPlace::Word(1),
     },
-    Field {
+    RowField {
         name: "source",
-        place: Place::Word(2),
+        place: WordPlace::Word(2),
     },
-    Field {
+    RowField {
         name: "q8",
-        place: Place::Word(3),
+        place: WordPlace::Word(3),
     },
 ];
 
-const PIN: [Field; 2] = [
-    Field {
+const PIN: [RowField; 2] = [
+    RowField {
         name: "room",
-        place: Place::Word(1),
+        place: WordPlace::Word(1),
     },
-    Field {
+    RowField {
         name: "source",
-        place: Place::Word(2),
+        place: WordPlace::Word(2),
     },
 ];
 
-const FLOOR: [Field; 2] = [
-    Field {
+const FLOOR: [RowField; 2] = [
+    RowField {
         name: "room",
-        place: Place::Word(1),
+        place: WordPlace::Word(1),
     },
-    Field {
+    RowField {
         name: "member",
-        place: Place::Word(2),
+        place: WordPlace::Word(2),
     },
 ];
 
-const VERSION: [Field; 1] = [Field {
+const VERSION: [RowField; 1] = [RowField {
     name: "version",
-    place: Place::Word(1),
+    place: WordPlace::Word(1),
 }];
 
-const CALL: [Field; 3] = [
-    Field {
+const CALL: [RowField; 3] = [
+    RowField {
         name: "number",
-        place: Place::Word(0),
+        place: WordPlace::Word(0),
     },
-    Field {
+    RowField {
         name: "operator",
-        place: Place::Word(1),
+        place: WordPlace::Word(1),
     },
-    Field {
+    RowField {
         name: "call",
-        place: Place::Rest(2),
+        place: WordPlace::Rest(2),
     },
 ];
 
 /// What `/desk` has.
-pub const DESK: [Shape; 11] = [
-    Shape {
+pub const DESK: [RowShape; 11] = [
+    RowShape {
         key: "rooms",
-        part: Part::All,
-        kind: Kind::Named("room"),
+        part: HistoryPart::All,
+        kind: RowKind::Named("room"),
         is_list: true,
         fields: &ROOM,
     },
-    Shape {
+    RowShape {
         key: "members",
-        part: Part::All,
-        kind: Kind::Named("member"),
+        part: HistoryPart::All,
+        kind: RowKind::Named("member"),
         is_list: true,
         fields: &MEMBER,
     },
-    Shape {
+    RowShape {
         key: "sources",
-        part: Part::All,
-        kind: Kind::Named("source"),
+        part: HistoryPart::All,
+        kind: RowKind::Named("source"),
         is_list: true,
         fields: &SOURCE,
     },
-    Shape {
+    RowShape {
         key: "slots",
-        part: Part::All,
-        kind: Kind::Named("slot"),
+        part: HistoryPart::All,
+        kind: RowKind::Named("slot"),
         is_list: true,
         fields: &SLOT,
     },
-    Shape {
+    RowShape {
         key: "subs",
-        part: Part::All,
-        kind: Kind::Named("sub"),
+        part: HistoryPart::All,
+        kind: RowKind::Named("sub"),
         is_list: true,
         fields: &SUB,
     },
-    Shape {
+    RowShape {
         key: "mutes",
-        part: Part::All,
-        kind: Kind::Named("mute"),
+        part: HistoryPart::All,
+        kind: RowKind::Named("mute"),
         is_list: true,
         fields: &MUTE,
     },
-    Shape {
+    RowShape {
         key: "gains",
-        part: Part::All,
-        kind: Kind::Named("gain"),
+        part: HistoryPart::All,
+        kind: RowKind::Named("gain"),
         is_list: true,
         fields: &GAIN,
     },
-    Shape {
+    RowShape {
         key: "pins",
-        part: Part::All,
-        kind: Kind::Named("pin"),
+        part: HistoryPart::All,
+        kind: RowKind::Named("pin"),
         is_list: true,
         fields: &PIN,
     },
-    Shape {
+    RowShape {
         key: "floors",
-        part: Part::All,
-        kind: Kind::Named("floor"),
+        part: HistoryPart::All,
+        kind: RowKind::Named("floor"),
         is_list: true,
         fields: &FLOOR,
     },
-    Shape {
+    RowShape {
         key: "end",
-        part: Part::All,
-        kind: Kind::Named("end"),
+        part: HistoryPart::All,
+        kind: RowKind::Named("end"),
         is_list: false,
         fields: &VERSION,
     },
-    Shape {
+    RowShape {
         key: "names",
-        part: Part::All,
-        kind: Kind::Named("names"),
+        part: HistoryPart::All,
+        kind: RowKind::Named("names"),
         is_list: false,
         fields: &VERSION,
     },
 ];
 
 /// What `/history` has.
-pub const HISTORY: [Shape; 3] = [
-    Shape {
+pub const HISTORY: [RowShape; 3] = [
+    RowShape {
         key: "done",
-        part: Part::Done,
-        kind: Kind::Numbered,
+        part: HistoryPart::Done,
+        kind: RowKind::Numbered,
         is_list: true,
         fields: &CALL,
     },
-    Shape {
+    RowShape {
         key: "undone",
-        part: Part::Undone,
-        kind: Kind::Numbered,
+        part: HistoryPart::Undone,
+        kind: RowKind::Numbered,
         is_list: true,
         fields: &CALL,
     },
-    Shape {
+    RowShape {
         key: "end",
-        part: Part::All,
-        kind: Kind::Named("end"),
+        part: HistoryPart::All,
+        kind: RowKind::Named("end"),
         is_list: false,
         fields: &VERSION,
     },

@@ -1,48 +1,24 @@
 //! What a bridge counts, in the text format of Prometheus.
 
-ghost use Rattle.std.specs.Prelude.{◌≡◌, ◌++◌, map, slice_get, OnOk, IfOk, IsTrue, option_map};
+ghost use Rattle.std.specs.Prelude.{◌≡◌, ◌++◌, map, OnOk, IfOk, IsTrue, option_map};
 ghost use Rattle.std.specs.List.{flat_map};
 ghost use Rattle.json.specs.Print.{IsNumber};
 ghost use Rattle.desk_http.specs.Metrics.{
   is_number,
-  escape_octet,
-  escaped,
-  text_or_empty,
   heading,
-  label_text,
   labels_text,
   exponent,
   sample_of,
-  begins_with,
-  sample_by,
   sample,
   family_text,
+  families_text,
   metrics_text,
 };
 ghost use Rattle.desk_http.specs.Readings.{found};
 
-use crate::reading::{Place, lines_of, text_at, words_of};
+use crate::labelling::{Labels, append_labels, append_texts};
+use crate::reading::{WordPlace, answer_lines, leading_word, text_at, words_of};
 use std::alloc::{AllocError, Global};
-
-/// A label of samples.
-#[derive(Clone, Copy)]
-pub struct Label {
-    /// Its name.
-    pub name: &'static str,
-    /// Where its value stands in a line.
-    pub place: Place,
-}
-
-/// The labels of samples.
-#[derive(Clone, Copy)]
-pub enum Labels {
-    /// There are none.
-    Nothing,
-    /// One.
-    One(Label),
-    /// Two.
-    Two(Label, Label),
-}
 
 /// What a number of a line counts.
 #[derive(Clone, Copy)]
@@ -67,7 +43,7 @@ pub struct Family {
     /// The labels of each sample.
     pub labels: Labels,
     /// Where a sample's value stands in a line. A line without a number there has no sample.
-    pub value: Place,
+    pub value: WordPlace,
     /// What the value counts.
     pub unit: Unit,
 }
@@ -78,41 +54,6 @@ pub(crate) fn is_number(word: &str) -> bool
     ensures number { IsTrue result → IsNumber word.now }
 {
     json::is_number(word)
-}
-
-/// Appends texts, one behind another.
-fn append_texts(out: &mut Vec<u8>, texts: &[&str]) -> Result<(), AllocError>
-    ensures { OnOk result (out.new.items ≡ out.old.items ++ flat_map (λ text. text.now) texts.now) }
-{
-    for text in texts {
-        out.extend_from_slice(text.as_bytes())?;
-    }
-    Ok(())
-}
-
-/// Appends what stands in a label's value for an octet.
-fn append_escaped_octet(out: &mut Vec<u8>, octet: u8) -> Result<(), AllocError>
-    ensures { OnOk result (out.new.items ≡ out.old.items ++ escape_octet octet) }
-{
-    if octet == b'\\' {
-        out.extend_from_slice(b"\\\\")
-    } else if octet == b'"' {
-        out.extend_from_slice(b"\\\"")
-    } else if octet == b'\n' {
-        out.extend_from_slice(b"\\n")
-    } else {
-        out.extend_from_slice(&[octet])
-    }
-}
-
-/// Appends a text as the value of a label.
-fn append_escaped(out: &mut Vec<u8>, text: &[u8]) -> Result<(), AllocError>
-    ensures { OnOk result (out.new.items ≡ out.old.items ++ escaped text.now) }
-{
-    for octet in text {
-        append_escaped_octet(out, *octet)?;
-    }
-    Ok(())
 }
 
 /// Appends the lines before the samples of a family.
@@ -137,61 +78,6 @@ fn append_heading(out: &mut Vec<u8>, family: &Family) -> Result<(), AllocError>
             "\n",
         ],
     )
-}
-
-/// A text, or the empty one.
-fn text_or_empty(text: Option<&str>) -> &str
-    ensures { result.now ≡ text_or_empty (option_map (λ x. x.now) text.entry) }
-{
-    match text {
-        Some(text) => text,
-        None => "",
-    }
-}
-
-/// Appends a label with its value.
-fn append_label(
-    out: &mut Vec<u8>,
-    line: &str,
-    words: &[&str],
-    label: Label,
-) -> Result<(), AllocError>
-    ensures { OnOk result
-        (out.new.items ≡ out.old.items ++ label_text line.now (map (λ x. x.now) words.now) label) }
-{
-    append_texts(out, &[label.name, "=\""])?;
-    append_escaped(
-        out,
-        text_or_empty(text_at(line, words, label.place)).as_bytes(),
-    )?;
-    append_texts(out, &["\""])
-}
-
-/// Appends the labels of a sample.
-fn append_labels(
-    out: &mut Vec<u8>,
-    line: &str,
-    words: &[&str],
-    labels: Labels,
-) -> Result<(), AllocError>
-    ensures { OnOk result
-        (out.new.items ≡ out.old.items ++ labels_text line.now (map (λ x. x.now) words.now) labels) }
-{
-    match labels {
-        Labels::Nothing => Ok(()),
-        Labels::One(label) => {
-            append_texts(out, &["{"])?;
-            append_label(out, line, words, label)?;
-            append_texts(out, &["}"])
-        }
-        Labels::Two(first, second) => {
-            append_texts(out, &["{"])?;
-            append_label(out, line, words, first)?;
-            append_texts(out, &[","])?;
-            append_label(out, line, words, second)?;
-            append_texts(out, &["}"])
-        }
-    }
 }
 
 /// What stands behind a number.
@@ -228,33 +114,6 @@ fn append_value(
     }
 }
 
-/// Whether the first of these words is this one.
-pub(crate) fn begins_with(words: &[&str], word: &str) -> bool
-    ensures { result ≡ begins_with word.now (slice_get (map (λ x. x.now) words.now) 0) }
-{
-    match words.get(0) {
-        Some(first) => *first == word,
-        None => false,
-    }
-}
-
-/// Appends the sample of a line with these words, if they are of the family.
-fn append_by_words(
-    out: &mut Vec<u8>,
-    family: &Family,
-    line: &str,
-    words: &[&str],
-) -> Result<(), AllocError>
-    ensures { OnOk result
-        (out.new.items ≡ out.old.items ++ sample_by family.now line.now (map (λ x. x.now) words.now)) }
-{
-    if begins_with(words, family.line) {
-        append_value(out, family, line, words, text_at(line, words, family.value))
-    } else {
-        Ok(())
-    }
-}
-
 /// Appends the sample of a line, if it is of the family and has its value.
 fn append_sample(
     alloc: Global,
@@ -264,8 +123,12 @@ fn append_sample(
 ) -> Result<(), AllocError>
     ensures { OnOk result (out.new.items ≡ out.old.items ++ sample family.now line.now) }
 {
+    if leading_word(line) != family.line {
+        return Ok(());
+    }
     let words = words_of(alloc, line)?;
-    append_by_words(out, family, line, &words)
+    let value = text_at(line, &words, family.value);
+    append_value(out, family, line, &words, value)
 }
 
 /// Appends a family: its heading, and a sample of each line that has one.
@@ -293,7 +156,7 @@ fn append_families(
     lines: &[&str],
 ) -> Result<(), AllocError>
     ensures { OnOk result
-        (out.new.items ≡ out.old.items ++ flat_map (family_text (map (λ x. x.now) lines.now)) families.now) }
+        (out.new.items ≡ out.old.items ++ families_text (map (λ x. x.now) lines.now) families.now) }
 {
     for family in families {
         append_family(alloc, out, family, lines)?;
@@ -301,16 +164,33 @@ fn append_families(
     Ok(())
 }
 
+/// Appends the families of tables, one after another.
+fn append_tables(
+    alloc: Global,
+    out: &mut Vec<u8>,
+    tables: &[&[Family]],
+    lines: &[&str],
+) -> Result<(), AllocError>
+    ensures { OnOk result
+        (out.new.items ≡ out.old.items
+        ++ flat_map (λ families. families_text (map (λ x. x.now) lines.now) families.now) tables.now) }
+{
+    for families in tables {
+        append_families(alloc, out, families, lines)?;
+    }
+    Ok(())
+}
+
 /// What a bridge counts, by the lines of `stats`.
 pub(crate) fn metrics_text(
     alloc: Global,
-    families: &[Family],
+    tables: &[&[Family]],
     text: &str,
 ) -> Result<Vec<u8>, AllocError>
-    ensures { IfOk result (λ told. told.items ≡ metrics_text families.now text.now) }
+    ensures { IfOk result (λ told. told.items ≡ metrics_text tables.now text.now) }
 {
-    let lines = lines_of(alloc, text)?;
+    let lines = answer_lines(alloc, text)?;
     let mut out = Vec::new(alloc);
-    append_families(alloc, &mut out, families, &lines)?;
+    append_tables(alloc, &mut out, tables, &lines)?;
     Ok(out)
 }

@@ -17,7 +17,7 @@ pub enum Query {
 
 /// How an answer of the bridge is handed on.
 #[derive(Clone, Copy)]
-pub enum Form {
+pub enum AnswerForm {
     /// As the bridge's own lines.
     Lines,
     /// As JSON.

@@ -2,13 +2,14 @@
 
 ghost use Rattle.std.specs.Prelude.{◌≡◌, length, map, IfOk, option_map, option_and_then, ◌+◌};
 ghost use Rattle.std.specs.List.{slice_get};
-ghost use Rattle.desk_http.specs.Readings.{lines_of, words_of, behind_first, behind, place_of, found};
+ghost use Rattle.desk_http.specs.Readings.{answer_lines, words_of, leading_word};
+ghost use Rattle.desk_http.specs.Readings.{behind_first, behind, word_place, found};
 
 use std::alloc::{AllocError, Global};
 
 /// Where a text stands in a line.
 #[derive(Clone, Copy)]
-pub enum Place {
+pub enum WordPlace {
     /// It is this word. The first one is 0.
     Word(usize),
     /// It is so many words behind this one.
@@ -20,8 +21,8 @@ pub enum Place {
 }
 
 /// The lines of a text: what stands between LFs.
-pub(crate) fn lines_of<'a>(alloc: Global, text: &'a str) -> Result<Vec<&'a str>, AllocError>
-    ensures { IfOk result (λ lines. map (λ x. x.now) lines.items ≡ lines_of text.now) }
+pub(crate) fn answer_lines<'a>(alloc: Global, text: &'a str) -> Result<Vec<&'a str>, AllocError>
+    ensures { IfOk result (λ lines. map (λ x. x.now) lines.items ≡ answer_lines text.now) }
 {
     text.split('\n').collect(alloc)
 }
@@ -31,6 +32,16 @@ pub(crate) fn words_of<'a>(alloc: Global, line: &'a str) -> Result<Vec<&'a str>,
     ensures { IfOk result (λ words. map (λ x. x.now) words.items ≡ words_of line.now) }
 {
     line.split(' ').collect(alloc)
+}
+
+/// The first word of a line.
+pub(crate) fn leading_word(line: &str) -> &str
+    ensures { result.now ≡ leading_word line.now }
+{
+    match line.split_once(' ') {
+        Some((word, _)) => word,
+        None => line,
+    }
 }
 
 /// The line behind its first word, if it has another one.
@@ -66,8 +77,8 @@ fn word_at<'a>(words: &[&'a str], at: usize) -> Option<&'a str>
 }
 
 /// Where a word stands among others.
-pub(crate) fn place_of(words: &[&str], word: &str) -> Option<usize>
-    ensures { result ≡ place_of word.now (map (λ x. x.now) words.now) }
+pub(crate) fn word_place(words: &[&str], word: &str) -> Option<usize>
+    ensures { result ≡ word_place word.now (map (λ x. x.now) words.now) }
 {
     words.iter().position(|other| *other == word)
 }
@@ -76,22 +87,22 @@ pub(crate) fn place_of(words: &[&str], word: &str) -> Option<usize>
 fn word_behind<'a>(words: &[&'a str], word: &str, count: usize) -> Option<&'a str>
     ensures { option_map (λ x. x.now) result
         ≡ option_and_then (λ at. slice_get (map (λ x. x.now) words.now) (at + count))
-        (place_of word.now (map (λ x. x.now) words.now)) }
+        (word_place word.now (map (λ x. x.now) words.now)) }
 {
-    match place_of(words, word) {
+    match word_place(words, word) {
         Some(at) => word_at(words, at.saturating_add(count)),
         None => None,
     }
 }
 
 /// What stands at a place of a line with these words.
-pub(crate) fn text_at<'a>(line: &'a str, words: &[&'a str], place: Place) -> Option<&'a str>
+pub(crate) fn text_at<'a>(line: &'a str, words: &[&'a str], place: WordPlace) -> Option<&'a str>
     ensures { option_map (λ x. x.now) result ≡ found place line.now (map (λ x. x.now) words.now) }
 {
     match place {
-        Place::Word(at) => word_at(words, at),
-        Place::Behind(word, count) => word_behind(words, word, count),
-        Place::Rest(count) => behind(line, count),
-        Place::Fixed(text) => Some(text),
+        WordPlace::Word(at) => word_at(words, at),
+        WordPlace::Behind(word, count) => word_behind(words, word, count),
+        WordPlace::Rest(count) => behind(line, count),
+        WordPlace::Fixed(text) => Some(text),
     }
 }

@@ -4,7 +4,7 @@ ghost use Rattle.std.specs.Prelude.{◌≡◌, codes, IfOk, OnOk, option_map};
 ghost use Rattle.http_server.specs.Response.{IsBlank};
 ghost use Rattle.desk_http.specs.Responses.{IsPageResponse};
 ghost use Rattle.desk_http.specs.Relays.{
-  told,
+  readable_text,
   shapes_of,
   json_body,
   metrics_body,
@@ -14,14 +14,15 @@ ghost use Rattle.desk_http.specs.Relays.{
   relayed_response,
 };
 
+use crate::bridge_metrics::BRIDGE;
 use crate::bridge_request::is_fault;
 use crate::desk_shapes::{DESK, HISTORY};
-use crate::metric_families::FAMILIES;
+use crate::media_metrics::MEDIA;
 use crate::metrics::{Family, metrics_text};
 use crate::responding::{fill, fill_text};
-use crate::rows::{Shape, json_text};
+use crate::rows::{RowShape, json_text};
 use crate::stats_shapes::STATS;
-use crate::{BridgeReply, Form, Query, Route};
+use crate::{AnswerForm, BridgeReply, Query, Route};
 use bytes::{BufMut, Bytes};
 use http::{HeaderValue, StatusCode};
 use http_server::Response;
@@ -31,14 +32,17 @@ use std::alloc::{AllocError, Global};
 #[derive(Clone, Copy)]
 pub struct Tables {
     /// The metrics, of the answer to `stats`.
-    pub families: &'static [Family],
+    pub families: &'static [&'static [Family]],
     /// The JSON of the answer to `show`.
-    pub desk: &'static [Shape],
+    pub desk: &'static [RowShape],
     /// The JSON of the answer to `history 256`.
-    pub history: &'static [Shape],
+    pub history: &'static [RowShape],
     /// The JSON of the answer to `stats`.
-    pub stats: &'static [Shape],
+    pub stats: &'static [RowShape],
 }
+
+/// All metrics, in the order in which they are told.
+const FAMILIES: [&[Family]; 2] = [&MEDIA, &BRIDGE];
 
 /// The tables of the page.
 pub const TABLES: Tables = Tables {
@@ -49,7 +53,7 @@ pub const TABLES: Tables = Tables {
 };
 
 impl Tables {
-    fn shapes_of(&self, query: Query) -> &'static [Shape]
+    fn shapes_of(&self, query: Query) -> &'static [RowShape]
         ensures { result.now ≡ shapes_of self.now query }
     {
         match query {
@@ -62,8 +66,8 @@ impl Tables {
 
 /// An answer as a text, if it is one and no fault.
 #[tactic(auto, using(crate::proofs::RelayLemmas::utf8_yes, crate::proofs::RelayLemmas::utf8_no))]
-fn told(answer: &[u8]) -> Option<&str>
-    ensures { option_map (λ x. x.now) result ≡ told answer.now }
+fn readable_text(answer: &[u8]) -> Option<&str>
+    ensures { option_map (λ x. x.now) result ≡ readable_text answer.now }
 {
     if is_fault(answer) {
         return None;
@@ -75,10 +79,14 @@ fn told(answer: &[u8]) -> Option<&str>
 }
 
 /// An answer as JSON, if it is a text and no fault.
-fn json_body(alloc: Global, shapes: &[Shape], answer: &[u8]) -> Result<Option<Vec<u8>>, AllocError>
+fn json_body(
+    alloc: Global,
+    shapes: &[RowShape],
+    answer: &[u8],
+) -> Result<Option<Vec<u8>>, AllocError>
     ensures { IfOk result (λ body. option_map (λ v. v.items) body ≡ json_body shapes.now answer.now) }
 {
-    match told(answer) {
+    match readable_text(answer) {
         Some(text) => Ok(Some(json_text(alloc, shapes, text)?)),
         None => Ok(None),
     }
@@ -87,12 +95,12 @@ fn json_body(alloc: Global, shapes: &[Shape], answer: &[u8]) -> Result<Option<Ve
 /// An answer as metrics, if it is a text and no fault.
 fn metrics_body(
     alloc: Global,
-    families: &[Family],
+    families: &[&[Family]],
     answer: &[u8],
 ) -> Result<Option<Vec<u8>>, AllocError>
     ensures { IfOk result (λ body. option_map (λ v. v.items) body ≡ metrics_body families.now answer.now) }
 {
-    match told(answer) {
+    match readable_text(answer) {
         Some(text) => Ok(Some(metrics_text(alloc, families, text)?)),
         None => Ok(None),
     }
@@ -138,23 +146,23 @@ fn fill_form(
     response: &mut Response,
     tables: &Tables,
     query: Query,
-    form: Form,
+    form: AnswerForm,
     answer: &[u8],
 ) -> Result<(), AllocError>
     requires { IsBlank response.old }
     ensures { OnOk result (IsPageResponse (form_response tables.now query form answer.now) response.new) }
 {
     match form {
-        Form::Lines => {
+        AnswerForm::Lines => {
             let content_type = HeaderValue::from_static("text/plain; charset=utf-8");
             fill_body(response, content_type, answer)
         }
-        Form::Json => {
+        AnswerForm::Json => {
             let content_type = HeaderValue::from_static("application/json");
             let body = json_body(alloc, tables.shapes_of(query), answer)?;
             fill_told(response, content_type, body)
         }
-        Form::Metrics => {
+        AnswerForm::Metrics => {
             let content_type = HeaderValue::from_static("text/plain; version=0.0.4; charset=utf-8");
             let body = metrics_body(alloc, tables.families, answer)?;
             fill_told(response, content_type, body)

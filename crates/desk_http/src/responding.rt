@@ -145,7 +145,7 @@ fn refusal_text(refusal: PageRefusal) -> &'static [u8]
         PageRefusal::ForeignHost => b"ForeignHost: this page answers to its own address alone\n",
         PageRefusal::ForeignOrigin => b"ForeignOrigin: this page takes nothing from other pages\n",
         PageRefusal::NotFound =>
-            b"NotFound: the paths are / /page.js /page.css /desk /desk.txt /history /history.txt /stats /metrics /call /names\n",
+            b"NotFound: there are /, /desk, /history, /stats, /metrics, /call and /names\n",
         PageRefusal::NotAllowed =>
             b"NotAllowed: POST to /call, GET or POST to /names, GET elsewhere\n",
         PageRefusal::NoToken => b"NoToken: load the page again, its token is of an earlier run\n",

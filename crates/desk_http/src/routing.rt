@@ -26,7 +26,7 @@ ghost use Rattle.desk_http.specs.Lines.{
   is_line,
 };
 
-use crate::{Form, Query, Site};
+use crate::{AnswerForm, Query, Site};
 use bytes::Bytes;
 use http::{Request, header};
 
@@ -45,7 +45,7 @@ pub enum Route {
     /// The page's style sheet.
     Style,
     /// What the bridge answers to a query, handed on like this.
-    Read(Query, Form),
+    Read(Query, AnswerForm),
     /// A call: the line in its body goes to the bridge.
     Call,
     /// The names that operators gave.
@@ -83,7 +83,7 @@ pub(crate) enum Resource {
     Page,
     Script,
     Style,
-    Read(Query, Form),
+    Read(Query, AnswerForm),
     Call,
     Names,
 }
@@ -98,17 +98,17 @@ fn resource_at(path: &str) -> Option<Resource>
     } else if path == "/page.css" {
         Some(Resource::Style)
     } else if path == "/desk" {
-        Some(Resource::Read(Query::Desk, Form::Json))
+        Some(Resource::Read(Query::Desk, AnswerForm::Json))
     } else if path == "/desk.txt" {
-        Some(Resource::Read(Query::Desk, Form::Lines))
+        Some(Resource::Read(Query::Desk, AnswerForm::Lines))
     } else if path == "/history" {
-        Some(Resource::Read(Query::History, Form::Json))
+        Some(Resource::Read(Query::History, AnswerForm::Json))
     } else if path == "/history.txt" {
-        Some(Resource::Read(Query::History, Form::Lines))
+        Some(Resource::Read(Query::History, AnswerForm::Lines))
     } else if path == "/stats" {
-        Some(Resource::Read(Query::Stats, Form::Json))
+        Some(Resource::Read(Query::Stats, AnswerForm::Json))
     } else if path == "/metrics" {
-        Some(Resource::Read(Query::Stats, Form::Metrics))
+        Some(Resource::Read(Query::Stats, AnswerForm::Metrics))
     } else if path == "/call" {
         Some(Resource::Call)
     } else if path == "/names" {

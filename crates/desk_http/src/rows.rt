@@ -1,42 +1,41 @@
 //! The bridge's answers to queries as JSON.
 
-ghost use Rattle.std.specs.Prelude.{◌≡◌, ◌≤◌, ◌∷◌, [], length, map, slice_get, OnOk, IfOk, option_map};
+ghost use Rattle.std.specs.Prelude.{◌≡◌, ◌≤◌, ◌∷◌, [], length, map, OnOk, IfOk, option_map};
 ghost use Rattle.std.specs.List.{flat_map};
-ghost use Rattle.desk_http.specs.Readings.{words_of, place_of, found};
+ghost use Rattle.desk_http.specs.Readings.{words_of, leading_word, word_place, found};
 ghost use Rattle.desk_http.specs.Rows.{
   text_token,
   value_token,
   field_tokens,
   object_tokens,
-  is_numbered,
   is_of,
   row_tokens,
   first_tokens,
   list_tokens,
   undone_at,
-  part_of,
+  lines_in_part,
   shape_tokens,
   json_text,
   Appends,
 };
 
-use crate::metrics::{begins_with, is_number};
-use crate::reading::{Place, lines_of, place_of, text_at, words_of};
+use crate::metrics::is_number;
+use crate::reading::{WordPlace, answer_lines, leading_word, text_at, word_place, words_of};
 use json::Writer;
 use std::alloc::{AllocError, Global};
 
 /// A field of an object.
 #[derive(Clone, Copy)]
-pub struct Field {
+pub struct RowField {
     /// Its name.
     pub name: &'static str,
     /// Where its value stands in a line.
-    pub place: Place,
+    pub place: WordPlace,
 }
 
 /// Which lines of an answer are looked at.
 #[derive(Clone, Copy)]
-pub enum Part {
+pub enum HistoryPart {
     /// All.
     All,
     /// Those before the line `undone`.
@@ -47,7 +46,7 @@ pub enum Part {
 
 /// Which lines are rows of a shape.
 #[derive(Clone, Copy)]
-pub enum Kind {
+pub enum RowKind {
     /// Those with this first word.
     Named(&'static str),
     /// Those whose first word is a number.
@@ -56,17 +55,17 @@ pub enum Kind {
 
 /// What stands under a key: the lines of a kind, as objects.
 #[derive(Clone, Copy)]
-pub struct Shape {
+pub struct RowShape {
     /// The key.
     pub key: &'static str,
     /// Where the lines stand.
-    pub part: Part,
+    pub part: HistoryPart,
     /// Which lines they are.
-    pub kind: Kind,
+    pub kind: RowKind,
     /// Whether all of them are there, in an array. Else the first one is, or `null`.
     pub is_list: bool,
     /// The fields of each object.
-    pub fields: &'static [Field],
+    pub fields: &'static [RowField],
 }
 
 /// Writes a text: a number, `null` for `-`, or else a string.
@@ -97,7 +96,7 @@ fn write_field(
     writer: &mut Writer,
     line: &str,
     words: &[&str],
-    field: &Field,
+    field: &RowField,
 ) -> Result<(), AllocError>
     ensures { OnOk result
         (Appends writer.old writer.new (field_tokens line.now (map (λ x. x.now) words.now) field.now)) }
@@ -111,7 +110,7 @@ fn write_fields(
     writer: &mut Writer,
     line: &str,
     words: &[&str],
-    fields: &[Field],
+    fields: &[RowField],
 ) -> Result<(), AllocError>
     ensures { OnOk result
         (Appends writer.old writer.new (flat_map (field_tokens line.now (map (λ x. x.now) words.now)) fields.now)) }
@@ -127,7 +126,7 @@ fn write_object(
     writer: &mut Writer,
     line: &str,
     words: &[&str],
-    fields: &[Field],
+    fields: &[RowField],
 ) -> Result<(), AllocError>
     ensures { OnOk result
         (Appends writer.old writer.new (object_tokens fields.now line.now (map (λ x. x.now) words.now))) }
@@ -137,23 +136,13 @@ fn write_object(
     writer.end_object()
 }
 
-/// Whether the first of these words is a number.
-fn is_numbered(words: &[&str]) -> bool
-    ensures { result ≡ is_numbered (slice_get (map (λ x. x.now) words.now) 0) }
-{
-    match words.get(0) {
-        Some(first) => is_number(first),
-        None => false,
-    }
-}
-
-/// Whether a line with these words is of the kind.
-fn is_of(kind: Kind, words: &[&str]) -> bool
-    ensures { result ≡ is_of kind (map (λ x. x.now) words.now) }
+/// Whether a line with this first word is of the kind.
+fn is_of(kind: RowKind, first: &str) -> bool
+    ensures { result ≡ is_of kind first.now }
 {
     match kind {
-        Kind::Named(word) => begins_with(words, word),
-        Kind::Numbered => is_numbered(words),
+        RowKind::Named(word) => first == word,
+        RowKind::Numbered => is_number(first),
     }
 }
 
@@ -161,26 +150,25 @@ fn is_of(kind: Kind, words: &[&str]) -> bool
 fn write_row(
     alloc: Global,
     writer: &mut Writer,
-    shape: &Shape,
+    shape: &RowShape,
     line: &str,
 ) -> Result<bool, AllocError>
     ensures row { OnOk result (Appends writer.old writer.new (row_tokens shape.now line.now)) }
-    ensures is { IfOk result (λ is. is ≡ is_of shape.now.kind (words_of line.now)) }
+    ensures is { IfOk result (λ is. is ≡ is_of shape.now.kind (leading_word line.now)) }
 {
-    let words = words_of(alloc, line)?;
-    if is_of(shape.kind, &words) {
-        write_object(writer, line, &words, shape.fields)?;
-        Ok(true)
-    } else {
-        Ok(false)
+    if !is_of(shape.kind, leading_word(line)) {
+        return Ok(false);
     }
+    let words = words_of(alloc, line)?;
+    write_object(writer, line, &words, shape.fields)?;
+    Ok(true)
 }
 
 /// Writes the lines that are of the kind.
 fn write_rows(
     alloc: Global,
     writer: &mut Writer,
-    shape: &Shape,
+    shape: &RowShape,
     lines: &[&str],
 ) -> Result<(), AllocError>
     ensures { OnOk result
@@ -196,7 +184,7 @@ fn write_rows(
 fn write_list(
     alloc: Global,
     writer: &mut Writer,
-    shape: &Shape,
+    shape: &RowShape,
     lines: &[&str],
 ) -> Result<(), AllocError>
     ensures { OnOk result (Appends writer.old writer.new (list_tokens shape.now (map (λ x. x.now) lines.now))) }
@@ -210,7 +198,7 @@ fn write_list(
 fn write_first(
     alloc: Global,
     writer: &mut Writer,
-    shape: &Shape,
+    shape: &RowShape,
     lines: &[&str],
 ) -> Result<(), AllocError>
     ensures { OnOk result (Appends writer.old writer.new (first_tokens shape.now (map (λ x. x.now) lines.now))) }
@@ -228,20 +216,20 @@ fn undone_at(lines: &[&str]) -> usize
     ensures value { result ≡ undone_at (map (λ x. x.now) lines.now) }
     ensures within { result ≤ length lines.now }
 {
-    match place_of(lines, "undone") {
+    match word_place(lines, "undone") {
         Some(at) => at,
         None => lines.len(),
     }
 }
 
 /// A part of the lines.
-fn part_of<'a, 'b>(part: Part, lines: &'b [&'a str]) -> &'b [&'a str]
-    ensures { map (λ x. x.now) result.now ≡ part_of part (map (λ x. x.now) lines.now) }
+fn lines_in_part<'a, 'b>(part: HistoryPart, lines: &'b [&'a str]) -> &'b [&'a str]
+    ensures { map (λ x. x.now) result.now ≡ lines_in_part part (map (λ x. x.now) lines.now) }
 {
     match part {
-        Part::All => lines,
-        Part::Done => &lines[..undone_at(lines)],
-        Part::Undone => &lines[undone_at(lines)..],
+        HistoryPart::All => lines,
+        HistoryPart::Done => &lines[..undone_at(lines)],
+        HistoryPart::Undone => &lines[undone_at(lines)..],
     }
 }
 
@@ -249,13 +237,13 @@ fn part_of<'a, 'b>(part: Part, lines: &'b [&'a str]) -> &'b [&'a str]
 fn write_shape(
     alloc: Global,
     writer: &mut Writer,
-    shape: &Shape,
+    shape: &RowShape,
     lines: &[&str],
 ) -> Result<(), AllocError>
     ensures { OnOk result (Appends writer.old writer.new (shape_tokens (map (λ x. x.now) lines.now) shape.now)) }
 {
     writer.key(shape.key)?;
-    let part = part_of(shape.part, lines);
+    let part = lines_in_part(shape.part, lines);
     if shape.is_list {
         write_list(alloc, writer, shape, part)
     } else {
@@ -267,7 +255,7 @@ fn write_shape(
 fn write_shapes(
     alloc: Global,
     writer: &mut Writer,
-    shapes: &[Shape],
+    shapes: &[RowShape],
     lines: &[&str],
 ) -> Result<(), AllocError>
     ensures { OnOk result
@@ -280,10 +268,14 @@ fn write_shapes(
 }
 
 /// An answer of the bridge as JSON.
-pub(crate) fn json_text(alloc: Global, shapes: &[Shape], text: &str) -> Result<Vec<u8>, AllocError>
+pub(crate) fn json_text(
+    alloc: Global,
+    shapes: &[RowShape],
+    text: &str,
+) -> Result<Vec<u8>, AllocError>
     ensures { IfOk result (λ told. told.items ≡ json_text shapes.now text.now) }
 {
-    let lines = lines_of(alloc, text)?;
+    let lines = answer_lines(alloc, text)?;
     let mut writer = Writer::new(Vec::new(alloc));
     writer.begin_object()?;
     write_shapes(alloc, &mut writer, shapes, &lines)?;

@@ -1,255 +1,255 @@
 //! What a bridge counts as JSON. A row here is a key.
 
-use crate::reading::Place;
-use crate::rows::{Field, Kind, Part, Shape};
+use crate::reading::WordPlace;
+use crate::rows::{HistoryPart, RowField, RowKind, RowShape};
 
-const DATAGRAMS: [Field; 3] = [
-    Field {
+const DATAGRAMS: [RowField; 3] = [
+    RowField {
         name: "datagrams",
-        place: Place::Word(1),
+        place: WordPlace::Word(1),
     },
-    Field {
+    RowField {
         name: "octets",
-        place: Place::Behind("octets", 1),
+        place: WordPlace::Behind("octets", 1),
     },
-    Field {
+    RowField {
         name: "outcome",
-        place: Place::Rest(4),
+        place: WordPlace::Rest(4),
     },
 ];
 
-const SENDER: [Field; 10] = [
-    Field {
+const SENDER: [RowField; 10] = [
+    RowField {
         name: "address",
-        place: Place::Word(1),
+        place: WordPlace::Word(1),
     },
-    Field {
+    RowField {
         name: "ssrc",
-        place: Place::Word(2),
+        place: WordPlace::Word(2),
     },
-    Field {
+    RowField {
         name: "packets",
-        place: Place::Behind("packets", 1),
+        place: WordPlace::Behind("packets", 1),
     },
-    Field {
+    RowField {
         name: "octets",
-        place: Place::Behind("octets", 1),
+        place: WordPlace::Behind("octets", 1),
     },
-    Field {
+    RowField {
         name: "late",
-        place: Place::Behind("late", 1),
+        place: WordPlace::Behind("late", 1),
     },
-    Field {
+    RowField {
         name: "duplicate",
-        place: Place::Behind("duplicate", 1),
+        place: WordPlace::Behind("duplicate", 1),
     },
-    Field {
+    RowField {
         name: "dropped",
-        place: Place::Behind("dropped", 1),
+        place: WordPlace::Behind("dropped", 1),
     },
-    Field {
+    RowField {
         name: "expected",
-        place: Place::Behind("expected", 1),
+        place: WordPlace::Behind("expected", 1),
     },
-    Field {
+    RowField {
         name: "lost",
-        place: Place::Behind("lost", 1),
+        place: WordPlace::Behind("lost", 1),
     },
-    Field {
+    RowField {
         name: "ago_ms",
-        place: Place::Behind("ago", 1),
+        place: WordPlace::Behind("ago", 1),
     },
 ];
 
-const STRANGER: [Field; 4] = [
-    Field {
+const STRANGER: [RowField; 4] = [
+    RowField {
         name: "address",
-        place: Place::Word(1),
+        place: WordPlace::Word(1),
     },
-    Field {
+    RowField {
         name: "ssrc",
-        place: Place::Word(2),
+        place: WordPlace::Word(2),
     },
-    Field {
+    RowField {
         name: "payload_type",
-        place: Place::Behind("type", 1),
+        place: WordPlace::Behind("type", 1),
     },
-    Field {
+    RowField {
         name: "packets",
-        place: Place::Behind("packets", 1),
+        place: WordPlace::Behind("packets", 1),
     },
 ];
 
-const LEFT_OUT: [Field; 2] = [
-    Field {
+const LEFT_OUT: [RowField; 2] = [
+    RowField {
         name: "sources",
-        place: Place::Behind("sources", 1),
+        place: WordPlace::Behind("sources", 1),
     },
-    Field {
+    RowField {
         name: "strangers",
-        place: Place::Behind("strangers", 1),
+        place: WordPlace::Behind("strangers", 1),
     },
 ];
 
-const STREAM: [Field; 5] = [
-    Field {
+const STREAM: [RowField; 5] = [
+    RowField {
         name: "out_ssrc",
-        place: Place::Word(1),
+        place: WordPlace::Word(1),
     },
-    Field {
+    RowField {
         name: "fraction",
-        place: Place::Behind("fraction", 1),
+        place: WordPlace::Behind("fraction", 1),
     },
-    Field {
+    RowField {
         name: "lost",
-        place: Place::Behind("lost", 1),
+        place: WordPlace::Behind("lost", 1),
     },
-    Field {
+    RowField {
         name: "highest_ssrc",
-        place: Place::Behind("highest", 1),
+        place: WordPlace::Behind("highest", 1),
     },
-    Field {
+    RowField {
         name: "highest",
-        place: Place::Behind("highest", 2),
+        place: WordPlace::Behind("highest", 2),
     },
 ];
 
-const LANE: [Field; 13] = [
-    Field {
+const LANE: [RowField; 13] = [
+    RowField {
         name: "lane",
-        place: Place::Word(1),
+        place: WordPlace::Word(1),
     },
-    Field {
+    RowField {
         name: "items",
-        place: Place::Behind("items", 1),
+        place: WordPlace::Behind("items", 1),
     },
-    Field {
+    RowField {
         name: "dropped",
-        place: Place::Behind("dropped", 1),
+        place: WordPlace::Behind("dropped", 1),
     },
-    Field {
+    RowField {
         name: "waiting",
-        place: Place::Behind("waiting", 1),
+        place: WordPlace::Behind("waiting", 1),
     },
-    Field {
+    RowField {
         name: "packets",
-        place: Place::Behind("packets", 1),
+        place: WordPlace::Behind("packets", 1),
     },
-    Field {
+    RowField {
         name: "octets",
-        place: Place::Behind("octets", 1),
+        place: WordPlace::Behind("octets", 1),
     },
-    Field {
+    RowField {
         name: "waited",
-        place: Place::Behind("waited", 1),
+        place: WordPlace::Behind("waited", 1),
     },
-    Field {
+    RowField {
         name: "not_ready",
-        place: Place::Behind("not-ready", 1),
+        place: WordPlace::Behind("not-ready", 1),
     },
-    Field {
+    RowField {
         name: "denied",
-        place: Place::Behind("denied", 1),
+        place: WordPlace::Behind("denied", 1),
     },
-    Field {
+    RowField {
         name: "refused",
-        place: Place::Behind("refused", 1),
+        place: WordPlace::Behind("refused", 1),
     },
-    Field {
+    RowField {
         name: "unreachable",
-        place: Place::Behind("unreachable", 1),
+        place: WordPlace::Behind("unreachable", 1),
     },
-    Field {
+    RowField {
         name: "too_long",
-        place: Place::Behind("too-long", 1),
+        place: WordPlace::Behind("too-long", 1),
     },
-    Field {
+    RowField {
         name: "other",
-        place: Place::Behind("other", 1),
+        place: WordPlace::Behind("other", 1),
     },
 ];
 
-const LIMITED: [Field; 3] = [
-    Field {
+const LIMITED: [RowField; 3] = [
+    RowField {
         name: "nacks",
-        place: Place::Behind("nacks", 1),
+        place: WordPlace::Behind("nacks", 1),
     },
-    Field {
+    RowField {
         name: "blocks",
-        place: Place::Behind("blocks", 1),
+        place: WordPlace::Behind("blocks", 1),
     },
-    Field {
+    RowField {
         name: "plis",
-        place: Place::Behind("plis", 1),
+        place: WordPlace::Behind("plis", 1),
     },
 ];
 
-const SEATS: [Field; 2] = [
-    Field {
+const SEATS: [RowField; 2] = [
+    RowField {
         name: "used",
-        place: Place::Word(1),
+        place: WordPlace::Word(1),
     },
-    Field {
+    RowField {
         name: "of",
-        place: Place::Behind("of", 1),
+        place: WordPlace::Behind("of", 1),
     },
 ];
 
 /// What `/stats` has.
-pub const STATS: [Shape; 8] = [
-    Shape {
+pub const STATS: [RowShape; 8] = [
+    RowShape {
         key: "datagrams",
-        part: Part::All,
-        kind: Kind::Named("datagrams"),
+        part: HistoryPart::All,
+        kind: RowKind::Named("datagrams"),
         is_list: true,
         fields: &DATAGRAMS,
     },
-    Shape {
+    RowShape {
         key: "sources",
-        part: Part::All,
-        kind: Kind::Named("source"),
+        part: HistoryPart::All,
+        kind: RowKind::Named("source"),
         is_list: true,
         fields: &SENDER,
     },
-    Shape {
+    RowShape {
         key: "strangers",
-        part: Part::All,
-        kind: Kind::Named("stranger"),
+        part: HistoryPart::All,
+        kind: RowKind::Named("stranger"),
         is_list: true,
         fields: &STRANGER,
     },
-    Shape {
+    RowShape {
         key: "left_out",
-        part: Part::All,
-        kind: Kind::Named("left-out"),
+        part: HistoryPart::All,
+        kind: RowKind::Named("left-out"),
         is_list: false,
         fields: &LEFT_OUT,
     },
-    Shape {
+    RowShape {
         key: "streams",
-        part: Part::All,
-        kind: Kind::Named("stream"),
+        part: HistoryPart::All,
+        kind: RowKind::Named("stream"),
         is_list: true,
         fields: &STREAM,
     },
-    Shape {
+    RowShape {
         key: "lanes",
-        part: Part::All,
-        kind: Kind::Named("lane"),
+        part: HistoryPart::All,
+        kind: RowKind::Named("lane"),
         is_list: true,
         fields: &LANE,
     },
-    Shape {
+    RowShape {
         key: "limited",
-        part: Part::All,
-        kind: Kind::Named("limited"),
+        part: HistoryPart::All,
+        kind: RowKind::Named("limited"),
         is_list: false,
         fields: &LIMITED,
     },
-    Shape {
+    RowShape {
         key: "seats",
-        part: Part::All,
-        kind: Kind::Named("seats"),
+        part: HistoryPart::All,
+        kind: RowKind::Named("seats"),
         is_list: false,
         fields: &SEATS,
     },

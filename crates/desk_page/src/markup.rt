@@ -1,5 +1,5 @@
 //! The page in HTML, as far as its token and behind it.
-//! `tools/bridge make page` writes this file from web/page.html.
+//! `tools/bridge make page` writes this file from page.html in web/.
 
 /// The page as far as its token.
 pub(crate) const HTML_BEFORE: &[u8] = br##"<!doctype html>

@@ -1,5 +1,5 @@
 //! What the page makes of the bridge's texts, and the lines that clicks send.
-//! `tools/bridge make page` writes this file from web/lines.js, web/overview.js, web/kept.js, web/stats.js, web/history.js.
+//! `tools/bridge make page` writes this file from lines.js, overview.js, kept.js, stats.js, history.js in web/.
 
 /// The first part of the page's script.
 pub(crate) const LINES: &[u8] = br##""use strict";
@@ -479,10 +479,18 @@ function turnedRooms(desk, before, after) {
 }
 
 // An unknown sender, with what a form to add it as a source is filled in with: its SSRC, the kind that its payload type
-// hints at, and the member of its address if there is one.
+// hints at, and the member of its address if there is one. One whose SSRC is a source sends from elsewhere.
 function strangerOf(desk, { address, ssrc, payload_type: type, packets }) {
   const member = desk.members.find((one) => one.address === address)?.member ?? null;
-  return { address, ssrc, type, packets, member, kind: SOUND_TYPES.includes(type) ? "audio" : "video" };
+  const kind = SOUND_TYPES.includes(type) ? "audio" : "video";
+  return { address, ssrc, type, packets, member, kind, isElsewhere: sourceOf(desk, ssrc) !== undefined };
+}
+
+// The unknown senders, but for those that have become sources meanwhile.
+function strangersIn(stats, desk) {
+  const isOf = (ssrc, address) => memberOf(desk, sourceOf(desk, ssrc)?.member)?.address === address;
+  const unknown = (stats?.strangers ?? []).filter(({ ssrc, address }) => !isOf(ssrc, address));
+  return unknown.map((one) => strangerOf(desk, one));
 }
 
 // The history of calls, as the bridge tells it. No function touches the page.
@@ -546,6 +554,6 @@ if (typeof module !== "undefined") {
     memberLine, roomLine, overview, parseNames, renamed, labelled, sourceName, cut, grouped, toggled, othersMuted,
     movedAll, goesAlong, changedRooms, nameRefusal, parseDesk, isMusic, roomsFor, codecOf, seen, videosFor, heard,
     lines, dropped, free, suggested, inWords, replyInWords, noDeskInWords, parseHistory, worded, wayTo, wayWords,
-    changes, keptText, groupsIn, parseStats, agoInWords, isSilent, countOf, countInWords, turnedRooms, strangerOf };
+    changes, keptText, groupsIn, parseStats, agoInWords, isSilent, countOf, countInWords, turnedRooms, strangersIn };
 }
 "##;

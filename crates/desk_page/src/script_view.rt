@@ -1,5 +1,5 @@
 //! How the page shows the desk, and what is done at it.
-//! `tools/bridge make page` writes this file from web/view.js, web/page.js, web/hands.js.
+//! `tools/bridge make page` writes this file from view.js, page.js, counts.js, hands.js in web/.
 
 /// The rest of the page's script.
 pub(crate) const VIEW: &[u8] = br##"// Drawing.
@@ -210,10 +210,11 @@ function detailPanel(model) {
 }
 
 // An unknown sender, and a button that fills in the form to add it.
-function strangerItem({ model: { address, ssrc, type, packets, member } }) {
-  const known = member === null ? "no member has this address" : `the address of member ${member}`;
+function strangerItem({ model: { address, ssrc, type, packets, member, isElsewhere } }) {
+  const whose = member === null ? "no member has this address" : `the address of member ${member}`;
+  const known = isElsewhere ? `source ${ssrc} is declared at another address` : whose;
   return el("li", {}, `${address} `, soft(`SSRC ${ssrc}, type ${type}, ${packets} packets, ${known}`), " ",
-    does("Add as a source", "take-stranger", ssrc, `${ssrc} from ${address}`));
+    isElsewhere ? "" : does("Add as a source", "take-stranger", ssrc, `${ssrc} from ${address}`));
 }
 
 // A call of the history, and below the one that is clicked what leads to it.
@@ -402,26 +403,6 @@ async function takeHistory() {
   renderHistory();
 }
 
-// Asks what the bridge counts, while somebody can see the page. Where the bridge doesn't know the question, the status
-// is no success, and nothing is shown of it.
-async function count() {
-  if (document.visibilityState !== "visible" || performance.now() - counted < COUNTED_EVERY) return;
-  counted = performance.now();
-  let next = null;
-  try {
-    const reply = await ask("/stats");
-    if (reply.ok) next = parseStats(await reply.text());
-  } catch (error) {
-    if (error instanceof SyntaxError) console.error(error);
-  }
-  takeStats(next);
-}
-function takeStats(next) {
-  const before = stats;
-  stats = next;
-  if (desk && (before || next)) render(turnedRooms(desk, before, next), false);
-}
-
 // Names, as the page's program keeps them.
 async function takeNames() {
   const reply = await get("/names");
@@ -536,6 +517,46 @@ function setHere(member) {
   if (row) here.set(row.room, member);
 }
 
+
+// What the bridge counts: asking for it, and the senders that are no source.
+// Asks what the bridge counts, while somebody can see the page. Where the bridge doesn't know the question, the status
+// is no success, and nothing is shown of it.
+async function count() {
+  if (document.visibilityState !== "visible" || performance.now() - counted < COUNTED_EVERY) return;
+  counted = performance.now();
+  let next = null;
+  try {
+    const reply = await ask("/stats");
+    if (reply.ok) next = parseStats(await reply.text());
+  } catch (error) {
+    if (error instanceof SyntaxError) console.error(error);
+  }
+  takeStats(next);
+}
+function takeStats(next) {
+  const before = stats;
+  stats = next;
+  if (desk && (before || next)) render(turnedRooms(desk, before, next), false);
+}
+
+// The senders that are no source, where the bridge tells of any.
+function renderStrangers() {
+  const items = strangersIn(stats, desk).map((model) => ({ key: `${model.address} ${model.ssrc}`, model }));
+  at("unknown").hidden = items.length === 0;
+  drawList(at("strangers"), items, strangerItem);
+}
+
+// Fills in the form that adds a source. Which member it is of is the operator's choice.
+function fillSource(ssrc) {
+  const found = strangersIn(stats, desk).find((one) => one.ssrc === ssrc);
+  if (!found) return;
+  const { member, kind } = found, fields = at("add-source").elements;
+  fields.ssrc.value = ssrc;
+  fields.kind.value = kind;
+  if (member !== null) fields.member.value = member;
+  fields.member.focus();
+}
+
 // Drawing the desk, and what keys, clicks and drags do.
 // Undo and Redo name the call that they take. Their line has the version at which that is so.
 function button(id, word, top) {
@@ -643,25 +664,6 @@ function renderHistory() {
   at("no-calls").hidden = !past || past.done.length + past.undone.length > 0;
   drawList(at("calls"), [...undone, ...(past?.done ?? []).map((one) => item(one, false)).reverse()], callItem);
 }
-// The senders that are no source, where the bridge tells of any.
-function renderStrangers() {
-  const found = (stats?.strangers ?? []).filter(({ ssrc }) => !sourceOf(desk, ssrc));
-  const items = found.map((one) => ({ key: `${one.address} ${one.ssrc}`, model: strangerOf(desk, one) }));
-  at("unknown").hidden = items.length === 0;
-  drawList(at("strangers"), items, strangerItem);
-}
-
-// Fills in the form that adds a source. Which member it is of is the operator's choice.
-function fillSource(ssrc) {
-  const told = stats?.strangers.find((one) => one.ssrc === ssrc);
-  if (!told) return;
-  const { member, kind } = strangerOf(desk, told), fields = at("add-source").elements;
-  fields.ssrc.value = ssrc;
-  fields.kind.value = kind;
-  if (member !== null) fields.member.value = member;
-  fields.member.focus();
-}
-
 function renderForms() {
   const rooms = desk.rooms.map(roomOption);
   const people = desk.members.map(({ member }) => [member, labelled(nameOf(names, "member", member), member)]);

@@ -1,5 +1,5 @@
 //! The page's style sheet.
-//! `tools/bridge make page` writes this file from web/page.css.
+//! `tools/bridge make page` writes this file from page.css in web/.
 
 /// The page's style sheet.
 pub(crate) const STYLE: &[u8] = br##":root {

@@ -105,25 +105,6 @@ function renderHistory() {
   at("no-calls").hidden = !past || past.done.length + past.undone.length > 0;
   drawList(at("calls"), [...undone, ...(past?.done ?? []).map((one) => item(one, false)).reverse()], callItem);
 }
-// The senders that are no source, where the bridge tells of any.
-function renderStrangers() {
-  const found = (stats?.strangers ?? []).filter(({ ssrc }) => !sourceOf(desk, ssrc));
-  const items = found.map((one) => ({ key: `${one.address} ${one.ssrc}`, model: strangerOf(desk, one) }));
-  at("unknown").hidden = items.length === 0;
-  drawList(at("strangers"), items, strangerItem);
-}
-
-// Fills in the form that adds a source. Which member it is of is the operator's choice.
-function fillSource(ssrc) {
-  const told = stats?.strangers.find((one) => one.ssrc === ssrc);
-  if (!told) return;
-  const { member, kind } = strangerOf(desk, told), fields = at("add-source").elements;
-  fields.ssrc.value = ssrc;
-  fields.kind.value = kind;
-  if (member !== null) fields.member.value = member;
-  fields.member.focus();
-}
-
 function renderForms() {
   const rooms = desk.rooms.map(roomOption);
   const people = desk.members.map(({ member }) => [member, labelled(nameOf(names, "member", member), member)]);

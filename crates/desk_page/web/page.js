@@ -170,26 +170,6 @@ async function takeHistory() {
   renderHistory();
 }
 
-// Asks what the bridge counts, while somebody can see the page. Where the bridge doesn't know the question, the status
-// is no success, and nothing is shown of it.
-async function count() {
-  if (document.visibilityState !== "visible" || performance.now() - counted < COUNTED_EVERY) return;
-  counted = performance.now();
-  let next = null;
-  try {
-    const reply = await ask("/stats");
-    if (reply.ok) next = parseStats(await reply.text());
-  } catch (error) {
-    if (error instanceof SyntaxError) console.error(error);
-  }
-  takeStats(next);
-}
-function takeStats(next) {
-  const before = stats;
-  stats = next;
-  if (desk && (before || next)) render(turnedRooms(desk, before, next), false);
-}
-
 // Names, as the page's program keeps them.
 async function takeNames() {
   const reply = await get("/names");

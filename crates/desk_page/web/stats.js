@@ -42,8 +42,16 @@ function turnedRooms(desk, before, after) {
 }
 
 // An unknown sender, with what a form to add it as a source is filled in with: its SSRC, the kind that its payload type
-// hints at, and the member of its address if there is one.
+// hints at, and the member of its address if there is one. One whose SSRC is a source sends from elsewhere.
 function strangerOf(desk, { address, ssrc, payload_type: type, packets }) {
   const member = desk.members.find((one) => one.address === address)?.member ?? null;
-  return { address, ssrc, type, packets, member, kind: SOUND_TYPES.includes(type) ? "audio" : "video" };
+  const kind = SOUND_TYPES.includes(type) ? "audio" : "video";
+  return { address, ssrc, type, packets, member, kind, isElsewhere: sourceOf(desk, ssrc) !== undefined };
+}
+
+// The unknown senders, but for those that have become sources meanwhile.
+function strangersIn(stats, desk) {
+  const isOf = (ssrc, address) => memberOf(desk, sourceOf(desk, ssrc)?.member)?.address === address;
+  const unknown = (stats?.strangers ?? []).filter(({ ssrc, address }) => !isOf(ssrc, address));
+  return unknown.map((one) => strangerOf(desk, one));
 }

@@ -206,10 +206,11 @@ function detailPanel(model) {
 }
 
 // An unknown sender, and a button that fills in the form to add it.
-function strangerItem({ model: { address, ssrc, type, packets, member } }) {
-  const known = member === null ? "no member has this address" : `the address of member ${member}`;
+function strangerItem({ model: { address, ssrc, type, packets, member, isElsewhere } }) {
+  const whose = member === null ? "no member has this address" : `the address of member ${member}`;
+  const known = isElsewhere ? `source ${ssrc} is declared at another address` : whose;
   return el("li", {}, `${address} `, soft(`SSRC ${ssrc}, type ${type}, ${packets} packets, ${known}`), " ",
-    does("Add as a source", "take-stranger", ssrc, `${ssrc} from ${address}`));
+    isElsewhere ? "" : does("Add as a source", "take-stranger", ssrc, `${ssrc} from ${address}`));
 }
 
 // A call of the history, and below the one that is clicked what leads to it.

@@ -43,12 +43,26 @@ fn progress_name(progress: ReplyProgress) -> &'static str {
     }
 }
 
+/// Whether a text has this part.
+fn has_part(text: &str, part: &[u8]) -> Option<bool> {
+    Some(text.contains(str::from_utf8(part).ok()?))
+}
+
 /// Whether a response has this status, and after it this text.
-fn is_response(response: &[u8], wanted: &str) -> Option<bool> {
+fn is_response(alloc: Global, response: &[u8], wanted: &str) -> Option<bool> {
     let text = str::from_utf8(response).ok()?;
     let (status, part) = wanted.split_once(" ")?;
     let rest = text.strip_prefix("HTTP/1.1 ")?;
-    Some(rest.starts_with(status) && rest.contains(part))
+    Some(rest.starts_with(status) && has_part(rest, &spoken(alloc, part)?)?)
+}
+
+/// Whether a response has this status, and this body.
+fn is_told(alloc: Global, response: &[u8], wanted: &str) -> Option<bool> {
+    let text = str::from_utf8(response).ok()?;
+    let (status, body) = wanted.split_once(" ")?;
+    let rest = text.strip_prefix("HTTP/1.1 ")?;
+    let (_, told) = rest.split_once("\r\n\r\n")?;
+    Some(rest.starts_with(status) && told.as_bytes() == spoken(alloc, body)?.as_slice())
 }
 
 fn give(connection: &mut Connection, request: &[u8]) -> Option<()> {
@@ -91,10 +105,10 @@ fn router_at(alloc: Global, port: u16) -> Result<Router, AllocError> {
 }
 
 /// Whether a request has this line for the bridge, or got this response.
-fn is_routed(router: &Router, response: &[u8], wanted: &str) -> Option<bool> {
+fn is_routed(alloc: Global, router: &Router, response: &[u8], wanted: &str) -> Option<bool> {
     match (&router.line, wanted.strip_prefix("sends ")) {
         (Some(line), Some(wanted)) => Some(line.as_slice() == wanted.as_bytes()),
-        (None, None) => is_response(response, wanted),
+        (None, None) => is_response(alloc, response, wanted),
         _ => Some(false),
     }
 }
@@ -173,7 +187,7 @@ impl Page {
     ) -> Option<bool> {
         drop(router.line.take());
         let response = Self::response_of(alloc, keys, config, router, request)?;
-        is_routed(router, &response, wanted)
+        is_routed(alloc, router, &response, wanted)
     }
 
     /// Whether a request to the page at this port has this line for the bridge, or gets this response.
@@ -186,14 +200,8 @@ impl Page {
         }
     }
 
-    /// Whether this reply to this line makes this response to a request.
-    fn is_relayed(
-        &self,
-        line: &[u8],
-        reply: &BridgeReply,
-        request: &str,
-        wanted: &str,
-    ) -> Option<bool> {
+    /// The response to a request by this reply to this line.
+    fn relayed(&self, line: &[u8], reply: &BridgeReply, request: &str) -> Option<Vec<u8>> {
         let site = &self.router.site;
         let mut responder = Responder {
             alloc: self.alloc,
@@ -202,23 +210,16 @@ impl Page {
             line,
             reply,
         };
-        let response = Self::response_of(
-            self.alloc,
-            self.keys,
-            self.config,
-            &mut responder,
-            request,
-        )?;
-        is_response(&response, wanted)
+        Self::response_of(self.alloc, self.keys, self.config, &mut responder, request)
     }
 
-    /// Whether a reply to a line makes this response to a request: `LINE ; REPLY ; REQUEST`.
-    fn responds(&self, text: &str, wanted: &str) -> Option<bool> {
+    /// The response that a reply to a line makes to a request: `LINE ; REPLY ; REQUEST`.
+    fn response_to(&self, text: &str) -> Option<Vec<u8>> {
         let (line, text) = text.split_once(" ; ")?;
         let (reply, request) = text.split_once(" ; ")?;
         let line = spoken(self.alloc, line)?;
         let reply = reply_of(self.alloc, reply)?;
-        self.is_relayed(&line, &reply, request, wanted)
+        self.relayed(&line, &reply, request)
     }
 
     /// Whether pieces of a reply make this progress: `LINE ; PIECE ; ..`.
@@ -240,7 +241,8 @@ impl Page {
             "start" => may_start(text, wanted),
             "connection" => reply_is(self.alloc, text, wanted),
             "admit" => placement_is(self.alloc, text, wanted),
-            "respond" => self.responds(text, wanted),
+            "respond" => is_response(self.alloc, &self.response_to(text)?, wanted),
+            "tell" => is_told(self.alloc, &self.response_to(text)?, wanted),
             "feed" => self.receives(text, wanted),
             _ => None,
         }

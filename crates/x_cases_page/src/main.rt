@@ -7,6 +7,7 @@
 //! - `route-80`: the same of a page at 127.0.0.1:80.
 //! - `respond LINE ; REPLY ; REQUEST > STATUS TEXT`: the reply to a line is `text TEXT`, `busy`, `gone` or `lost`. The
 //!   response to the request has this status and this text.
+//! - `tell LINE ; REPLY ; REQUEST > STATUS BODY`: the same, and the response has this body and no more.
 //! - `feed LINE ; PIECE ; PIECE .. > PROGRESS`: pieces of a reply to a line come, and the progress after the last is
 //!   `partial`, `complete`, `busy` or `malformed`.
 //! - `connection MS ; LINE ; STEP ; STEP .. > open REPLY`, or `closed REPLY`: a request begins at 0 ms over an open

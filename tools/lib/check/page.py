@@ -8,7 +8,7 @@ chromium, two browsers go through a call by clicks, forms and a drag: after each
 the second one within half a second. Sliders, keys, names, many members at once, a bridge that is gone, a room of 64 and
 64 rooms of 16 are tried by hand. Names are kept in a file, and bad ones are told. With --http-only neither node nor
 chromium is needed, and nothing tries the page's script. With --model no program is needed: the page is served over the
-plain desk of the models.
+plain desk of the models, and what a bridge counts is handed to it, too.
 """
 
 import concurrent.futures
@@ -27,6 +27,7 @@ import subprocess
 import tempfile
 import time
 
+from lib.counting import shows_counts
 from lib.driving import drive, opened
 from lib.handling import handle, names_things, stays_small
 from lib.lasting import finds_another, keeps_the_desk, shows_stale
@@ -446,7 +447,8 @@ def find_commands(browser):
 
 def try_functions():
     """The functions of the page that choose a click's line, by themselves."""
-    script = "".join((WEB / part).read_text() for part in ("lines.js", "overview.js", "kept.js", "stats.js", "history.js"))
+    parts = "lines.js", "overview.js", "kept.js", "stats.js", "history.js"
+    script = "".join((WEB / part).read_text() for part in parts)
     with tempfile.TemporaryDirectory() as folder:
         path = pathlib.Path(folder) / "lines.js"
         path.write_text(script)
@@ -559,6 +561,8 @@ def by_model(args, folder):
     go, come = lambda: sets(True), lambda: sets(False)
     serves_many(page, Told(one))
     try_by_hand(args, folder, address, Bridge(one.ask, one.shown, one.history, go, come, other, names))
+    with contextlib.closing(opened(args.browser, folder, address)) as browser:
+        shows_counts(browser, one.ask, lambda counted: setattr(one, "counted", counted))
     print("a session at the page over a plain desk, no fault")
 
 

@@ -213,7 +213,9 @@ const stats = page.parseStats(JSON.stringify({
     { address: "127.0.0.1:6000", ssrc: 201, packets: 7, lost: 0, ago_ms: 2000 },
     { address: "127.0.0.1:6000", ssrc: 202, packets: 5, lost: 0, ago_ms: 3 }],
   strangers: [{ address: "127.0.0.1:6002", ssrc: 777, payload_type: 0, packets: 3 },
-    { address: "127.0.0.1:9", ssrc: 778, payload_type: 96, packets: 1 }],
+    { address: "127.0.0.1:9", ssrc: 778, payload_type: 96, packets: 1 },
+    { address: "127.0.0.1:9", ssrc: 202, payload_type: 96, packets: 1 },
+    { address: "127.0.0.1:6002", ssrc: 202, payload_type: 0, packets: 8 }],
 }));
 same([101, 201, 202, 102].map((ssrc) => page.isSilent(stats, desk, ssrc)), [false, true, true, true]);
 same([101, 999].map((ssrc) => page.isSilent(null, desk, ssrc)), [false, false]);
@@ -222,9 +224,11 @@ same([101, 201, 202].map((ssrc) => page.countInWords(page.countOf(stats, desk, s
 same(page.countInWords(page.countOf(null, desk, 101)), "");
 same([0, 999, 1000, 59999, 60000, 3599999, 3600000].map(page.agoInWords),
   ["just now", "just now", "1 s ago", "59 s ago", "1 min ago", "59 min ago", "1 h ago"]);
-same(stats.strangers.map((one) => page.strangerOf(desk, one)), [
-  { address: "127.0.0.1:6002", ssrc: 777, type: 0, packets: 3, member: 11, kind: "audio" },
-  { address: "127.0.0.1:9", ssrc: 778, type: 96, packets: 1, member: null, kind: "video" }]);
+same(page.strangersIn(stats, desk), [
+  { address: "127.0.0.1:6002", ssrc: 777, type: 0, packets: 3, member: 11, kind: "audio", isElsewhere: false },
+  { address: "127.0.0.1:9", ssrc: 778, type: 96, packets: 1, member: null, kind: "video", isElsewhere: false },
+  { address: "127.0.0.1:9", ssrc: 202, type: 96, packets: 1, member: null, kind: "video", isElsewhere: true }]);
+same(page.strangersIn(null, desk), []);
 same([...page.turnedRooms(desk, null, stats)], [1]);
 same([...page.turnedRooms(desk, stats, stats)], []);
 same([page.parseStats("{}").strangers, page.parseStats("{}").sources.size], [[], 0]);

@@ -10,7 +10,7 @@ NEEDS = "nothing"
 
 WEB, SOURCES = CRATES / "desk_page/web", CRATES / "desk_page/src"
 TOKEN = "TOKEN"
-MADE = "`tools/bridge make page` writes this file from {}."
+MADE = "`tools/bridge make page` writes this file from {} in web/."
 # Each source with what it is, and its constants: a name, what that is, a web file, and the part of it.
 PARTS = [
     ("markup.rt", "The page in HTML, as far as its token and behind it.", [
@@ -21,7 +21,7 @@ PARTS = [
         ("LINES", "The first part of the page's script.", "lines.js overview.js kept.js stats.js history.js", 0),
     ]),
     ("script_view.rt", "How the page shows the desk, and what is done at it.", [
-        ("VIEW", "The rest of the page's script.", "view.js page.js hands.js", 0),
+        ("VIEW", "The rest of the page's script.", "view.js page.js counts.js hands.js", 0),
     ]),
     ("style.rt", "The page's style sheet.", [("STYLE", "The page's style sheet.", "page.css", 0)]),
 ]  # fmt: skip
@@ -41,7 +41,7 @@ def text_of(name, part):
 
 def source_of(title, constants):
     """A source with its constants."""
-    files = ", ".join(f"web/{name}" for name in constants[0][2].split())
+    files = ", ".join(constants[0][2].split())
     lines = [f"//! {title}", f"//! {MADE.format(files)}"]
     for name, what, file, part in constants:
         lines += ["", f"/// {what}", f'pub(crate) const {name}: &[u8] = br##"{text_of(file, part)}"##;']

@@ -1,6 +1,6 @@
 use Rattle.std.proofs.Common.{◌-◌, length, take, drop, map, ℕ, List, Bor, sym, ap, ◌∙◌, arith}
 use Rattle.std.proofs.lemmas.List.{take-map, drop-map, take_all, length-drop}
-use Rattle.desk_http.proofs.rows.part_of.Goals as goal
+use Rattle.desk_http.proofs.rows.lines_in_part.Goals as goal
 
 pub returns-in-Done : goal.returns-in-Done
 returns-in-Done c =

@@ -2,7 +2,7 @@ use Rattle.std.proofs.Common.{sym, ◌∙◌, rules, tests, bytes_eq}
 use Rattle.std.proofs.lemmas.Iterator.{YieldsList-from_slice}
 use Rattle.std.proofs.lemmas.Iterator.Search.{position_from_yields_List}
 use Rattle.desk_http.proofs.ReadingLemmas.{position_map}
-use Rattle.desk_http.proofs.reading.place_of.Goals as goal
+use Rattle.desk_http.proofs.reading.word_place.Goals as goal
 
 pub returns : goal.returns
 returns c =
