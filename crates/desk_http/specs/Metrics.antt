@@ -1,9 +1,9 @@
 -- What a bridge counts, in the text format of Prometheus, version 0.0.4 (own; the format is that of
 -- https://prometheus.io/docs/instrumenting/exposition_formats).
-use Rattle.std.specs.Prelude.{ℕ, ◌==◌, Bool, true, false, ◌&&◌, if◌then◌else◌, List, [], ◌∷◌, ◌++◌, codes, length}
+use Rattle.std.specs.Prelude.{ℕ, ◌==◌, Bool, true, false, if◌then◌else◌, List, [], ◌∷◌, ◌++◌, codes, length}
 use Rattle.std.specs.Prelude.{Option, Some, None}
 use Rattle.std.specs.Borrow.{Bor}
-use Rattle.std.specs.List.{flat_map, slice_get}
+use Rattle.std.specs.List.{flat_map}
 use Rattle.std.specs.Str.{bytes_eq}
 use Rattle.json.specs.Word.{after_number}
 use Rattle.desk_http.specs.declared.labelling.Label.{Label}

@@ -1,5 +1,5 @@
 -- The responses that hand on what the bridge said (own; the status codes are those of RFC 9110 section 15).
-use Rattle.std.specs.Prelude.{ℕ, not, ◌&&◌, if◌then◌else◌, List, ◌++◌, codes, Option, Some, None, option_map}
+use Rattle.std.specs.Prelude.{ℕ, not, ◌&&◌, if◌then◌else◌, List, codes, Option, Some, None, option_map}
 use Rattle.std.specs.Borrow.{Bor}
 use Rattle.std.specs.Str.{is_utf8}
 use Rattle.desk_http.specs.declared.rows.RowShape.{RowShape}
@@ -16,7 +16,7 @@ use Rattle.desk_http.specs.declared.responding.BridgeReply.TheVariants.{Text, Bu
 use Rattle.desk_http.specs.BridgeRequests.{is_fault}
 use Rattle.desk_http.specs.Metrics.{metrics_text}
 use Rattle.desk_http.specs.Rows.{json_text}
-use Rattle.desk_http.specs.Responses.{PageResponse, text_type, text_response}
+use Rattle.desk_http.specs.Responses.{PageResponse, text_response}
 
 -- the content types (RFC 8259 section 11, and the text format of Prometheus)
 abbrev pub json_type : List ℕ

@@ -1,5 +1,5 @@
 -- No line so far was of the kind.
-use Rattle.std.proofs.Common.{◌≡◌, ◌++◌, drop, map}
+use Rattle.std.proofs.Common.{◌≡◌, drop, map}
 use Rattle.desk_http.specs.Rows.{first_tokens}
 use Rattle.desk_http.proofs.rows.write_first.Given as goal
 
