@@ -4,7 +4,7 @@ use crate::client::Client;
 use crate::names_store::NamesStore;
 use crate::server_config::ServerConfig;
 use desk_http::{
-    BridgeReply, ClientActivity, Placement, Query, Responder, Router, Site, TABLES, admit,
+    BridgeReply, ClientActivity, Placement, Query, Responder, Router, Site, TABLES, Tables, admit,
 };
 use mio::net::TcpStream;
 use std::alloc::{AllocError, Global};
@@ -14,13 +14,14 @@ use std::io;
 /// What responds to a line by a reply.
 pub(crate) fn responder_to<'a>(
     config: ServerConfig,
+    tables: &'a Tables,
     site: &'a Site,
     line: &'a [u8],
     reply: &'a BridgeReply,
 ) -> Responder<'a> {
     Responder {
         alloc: config.alloc,
-        tables: &TABLES,
+        tables,
         site,
         line,
         reply,
@@ -139,7 +140,11 @@ impl Clients {
             if let Some(line) = client.take_names() {
                 let reply = &store.reply_to(rt, config.alloc, &line)?;
                 let line = line.as_slice();
-                client.complete(config, responder_to(config, site, line, reply), now);
+                client.complete(
+                    config,
+                    responder_to(config, &TABLES, site, line, reply),
+                    now,
+                );
             }
         }
         Ok(())
@@ -156,7 +161,11 @@ impl Clients {
         for client in &mut self.connected {
             if let Some(line) = client.take_line() {
                 let line = line.as_slice();
-                client.complete(config, responder_to(config, site, line, reply), now);
+                client.complete(
+                    config,
+                    responder_to(config, &TABLES, site, line, reply),
+                    now,
+                );
             }
         }
     }

@@ -6,7 +6,7 @@ use crate::names_store::NamesStore;
 use crate::query_timer::QueryTimer;
 use crate::server_config::ServerConfig;
 use crate::setup::{router_at, server_config};
-use desk_http::{Addresses, BridgeReply, Query, Router};
+use desk_http::{Addresses, BridgeReply, Query, Router, TABLES};
 use mio::net::{TcpListener, TcpStream};
 use mio::{Events, Interest, Poll, Registry, Token};
 use std::alloc::{AllocError, AllocGlobal, Global};
@@ -261,7 +261,7 @@ impl Server {
         let site = &self.router.site;
         self.clients.complete(
             self.config,
-            responder_to(self.config, site, line, reply),
+            responder_to(self.config, &TABLES, site, line, reply),
             now,
         );
     }
