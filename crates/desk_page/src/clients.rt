@@ -4,29 +4,12 @@ use crate::client::Client;
 use crate::names_store::NamesStore;
 use crate::server_config::ServerConfig;
 use desk_http::{
-    BridgeReply, ClientActivity, Placement, Query, Responder, Router, Site, TABLES, Tables, admit,
+    BridgeReply, ClientActivity, Placement, Query, Responder, Router, Site, TABLES, admit,
 };
 use mio::net::TcpStream;
 use std::alloc::{AllocError, Global};
 use std::fs::Files;
 use std::io;
-
-/// What responds to a line by a reply.
-pub(crate) fn responder_to<'a>(
-    config: ServerConfig,
-    tables: &'a Tables,
-    site: &'a Site,
-    line: &'a [u8],
-    reply: &'a BridgeReply,
-) -> Responder<'a> {
-    Responder {
-        alloc: config.alloc,
-        tables,
-        site,
-        line,
-        reply,
-    }
-}
 
 /// The browsers' connections.
 #[derive(Drop)]
@@ -139,12 +122,15 @@ impl Clients {
         for client in &mut self.connected {
             if let Some(line) = client.take_names() {
                 let reply = &store.reply_to(rt, config.alloc, &line)?;
-                let line = line.as_slice();
-                client.complete(
-                    config,
-                    responder_to(config, &TABLES, site, line, reply),
-                    now,
-                );
+                let (alloc, tables, line) = (config.alloc, &TABLES, line.as_slice());
+                let responder = Responder {
+                    alloc,
+                    tables,
+                    site,
+                    line,
+                    reply,
+                };
+                client.complete(config, responder, now);
             }
         }
         Ok(())
@@ -160,12 +146,15 @@ impl Clients {
     ) {
         for client in &mut self.connected {
             if let Some(line) = client.take_line() {
-                let line = line.as_slice();
-                client.complete(
-                    config,
-                    responder_to(config, &TABLES, site, line, reply),
-                    now,
-                );
+                let (alloc, tables, line) = (config.alloc, &TABLES, line.as_slice());
+                let responder = Responder {
+                    alloc,
+                    tables,
+                    site,
+                    line,
+                    reply,
+                };
+                client.complete(config, responder, now);
             }
         }
     }

@@ -1,6 +1,8 @@
 //! When the bridge may be asked a query.
 
 use desk_http::Query;
+use std::io;
+use std::time::{Clock, Instant};
 
 /// How many milliseconds are between two requests with the same query at least. All browsers share a reply.
 const INTERVAL: u64 = 100;
@@ -32,4 +34,9 @@ impl QueryTimer {
     pub(crate) fn reset(&mut self) {
         self.next = 0;
     }
+}
+
+/// How many milliseconds have gone by since a moment.
+pub(crate) fn millis_since<R: Clock>(rt: &R, begun: Instant) -> io::Result<u64> {
+    Ok(u64::try_from(begun.elapsed(rt)?.as_millis()).unwrap_or(u64::MAX))
 }

@@ -1,12 +1,12 @@
 //! The event loop: browsers' connections, and the client of the bridge.
 
 use crate::bridge_client::BridgeClient;
-use crate::clients::{Clients, responder_to};
+use crate::clients::Clients;
 use crate::names_store::NamesStore;
-use crate::query_timer::QueryTimer;
+use crate::query_timer::{QueryTimer, millis_since};
 use crate::server_config::ServerConfig;
 use crate::setup::{router_at, server_config};
-use desk_http::{Addresses, BridgeReply, Query, Router, TABLES};
+use desk_http::{Addresses, BridgeReply, Query, Responder, Router, TABLES};
 use mio::net::{TcpListener, TcpStream};
 use mio::{Events, Interest, Poll, Registry, Token};
 use std::alloc::{AllocError, AllocGlobal, Global};
@@ -87,11 +87,6 @@ impl PageSockets {
             }
         }
     }
-}
-
-/// How many milliseconds have gone by since a moment.
-fn millis_since<R: Clock>(rt: &R, begun: Instant) -> io::Result<u64> {
-    Ok(u64::try_from(begun.elapsed(rt)?.as_millis()).unwrap_or(u64::MAX))
 }
 
 /// The page's server.
@@ -258,12 +253,14 @@ impl Server {
     }
 
     fn complete(&mut self, line: &[u8], reply: &BridgeReply, now: u64) {
-        let site = &self.router.site;
-        self.clients.complete(
-            self.config,
-            responder_to(self.config, &TABLES, site, line, reply),
-            now,
-        );
+        let responder = Responder {
+            alloc: self.config.alloc,
+            tables: &TABLES,
+            site: &self.router.site,
+            line,
+            reply,
+        };
+        self.clients.complete(self.config, responder, now);
     }
 
     fn complete_queued(&mut self, reply: &BridgeReply, now: u64) {
