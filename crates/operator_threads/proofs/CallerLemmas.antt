@@ -9,6 +9,7 @@ use Rattle.operator_threads.specs.declared.greeting.Greeted.TheVariants as greet
 use Rattle.operator_threads.specs.declared.talking.Standing.{Standing}
 use Rattle.operator_threads.specs.Connection.{Connection}
 use Rattle.operator_threads.specs.Deeds.{Deed, SeatedDeed, alone, AreDeeds, AreSeatedDeeds, HasHeard, HasWritten}
+use Rattle.operator_threads.specs.Deeds.{HasToldNews}
 use Rattle.operator_threads.specs.Deeds.{Beginning, deeds_begun, moment_of, greeted_at, heard_at, round_alone}
 use Rattle.operator_threads.specs.Deeds.{round_seated}
 use Rattle.operator_threads.specs.Greeting.{GreetsFirst, GreetsSome}
@@ -62,17 +63,17 @@ round_cut replies shows b d old new h e =
     (seated_both replies shows (map alone (deeds_begun b)) [] (d, old) (d, new) (d, new)
     (seated_alone replies shows (deeds_begun b) d old new h) refl)
 
-pub round_whole : {D : Type 0} (replies : Replying D) (shows : Showing D) (b : Beginning) (moment : ℕ) (d d' : D)
-    (old mid more new : Connection)
+pub round_whole : {D : Type 0} (replies : Replying D) (shows : Showing D) (b : Beginning) (moment : ℕ) (d d' d'' : D)
+    (old mid more most new : Connection)
     → AreDeeds (deeds_begun b) old mid → moment_of b ≡ Some moment → HasHeard replies shows moment d d' mid more
-    → HasWritten moment more new
-    → AreSeatedDeeds replies shows (round_seated b) (d, old) (d', new)
-round_whole replies shows b moment d d' old mid more new h e heard written =
-    subst (λ (m : Option ℕ). AreSeatedDeeds replies shows (map alone (deeds_begun b) ++ heard_at m) (d, old) (d', new))
+    → HasToldNews replies d' d'' more most → HasWritten moment most new
+    → AreSeatedDeeds replies shows (round_seated b) (d, old) (d'', new)
+round_whole replies shows b moment d d' d'' old mid more most new h e heard told written =
+    subst (λ (m : Option ℕ). AreSeatedDeeds replies shows (map alone (deeds_begun b) ++ heard_at m) (d, old) (d'', new))
     (sym e)
-    (seated_both replies shows (map alone (deeds_begun b)) (heard_at (Some moment)) (d, old) (d, mid) (d', new)
+    (seated_both replies shows (map alone (deeds_begun b)) (heard_at (Some moment)) (d, old) (d, mid) (d'', new)
     (seated_alone replies shows (deeds_begun b) d old mid h)
-    ((d', more), heard, ((d', new), (refl, written), refl)))
+    ((d', more), heard, ((d'', most), told, ((d'', new), (refl, written), refl))))
 
 pub alone_cut : (b : Beginning) (old new : Connection) → AreDeeds (deeds_begun b) old new → moment_of b ≡ None
     → AreDeeds (round_alone b) old new

@@ -17,7 +17,8 @@ use Rattle.operator_threads.specs.Deeds.{HasOffered, HasWritten, GreetsPiece, Lo
 use Rattle.operator_threads.specs.Deeds.{RefusesSeat}
 use Rattle.operator_threads.specs.Deeds.{AnswersPiece, LosesPiece, HasHeard, AnswersHeeded, HasAnswered}
 use Rattle.operator_threads.specs.Deeds.{Deed, waits, looks, stops, greets, refuses, writes, IsDeed, AreDeeds}
-use Rattle.operator_threads.specs.Deeds.{SeatedDeed, alone, answers, hears, IsSeatedDeed, AreSeatedDeeds}
+use Rattle.operator_threads.specs.Deeds.{SeatedDeed, alone, answers, hears, tells, IsSeatedDeed, AreSeatedDeeds}
+use Rattle.operator_threads.specs.Deeds.{TellsOpen, HasToldNews}
 use Rattle.operator_threads.specs.Greeting.{GreetsLines, GreetsFirst, GreetsAll, BreaksGreeting}
 use Rattle.operator_threads.specs.Talking.{AnswersLines, AnswersAll, AnswersOctets, AnswersSome, BreaksOff, Refuses}
 use Rattle.operator_threads.specs.Talking.{after_stop, after_read, after_write, left_after, is_open}
@@ -373,6 +374,20 @@ writes_goes_on : (moment : ℕ) (old new : Connection) → IsStream old → HasW
 writes_goes_on moment old new s h = cases (old.ready.writable && is_owed old) h
     (λ e w. offered_goes_on moment old new s w) (λ e q. same_goes_on old new s q)
 
+news_grow : {D : Type 0} (replies : Replying D) (d d' : D) (old new : Connection) → TellsOpen replies d d' old new
+    → Grown old.waiting new.waiting
+news_grow replies d d' old new (inl t) = (t.0.0, t.0.1)
+news_grow replies d d' old new (inr t) = grown_none _ _ t.0
+
+tells_goes_on : {D : Type 0} (replies : Replying D) (d d' : D) (old new : Connection) → IsStream old
+    → HasToldNews replies d d' old new → GoesOn old new
+tells_goes_on replies d d' old new s t = cases (is_open old.standing) t.told
+    (λ e p.
+    quiet old new s (λ still. open_is old.standing e) t.kept (ap all_read t.acts) (ap all_written t.acts)
+    (news_grow replies d d' old new p))
+    (λ e q.
+    quiet old new s (λ still. sym q.2 ∙ still) t.kept (ap all_read t.acts) (ap all_written t.acts) (grown_none _ _ q.1))
+
 -- ---- any number of things that are done
 
 deed_goes_on : (deed : Deed) (old new : Connection) → IsStream old → IsDeed old deed new → GoesOn old new
@@ -395,6 +410,7 @@ seated_goes_on replies shows (alone deed) old new s h = deed_goes_on deed old.1 
 seated_goes_on replies shows (answers moment) old new s h =
     answers_goes_on replies shows moment old.1.heeded old.0 new.0 old.1 new.1 s h
 seated_goes_on replies shows (hears moment) old new s h = hears_goes_on replies shows moment old.0 new.0 old.1 new.1 s h
+seated_goes_on replies shows tells old new s h = tells_goes_on replies old.0 new.0 old.1 new.1 s h
 
 pub seated_go_on : {D : Type 0} (replies : Replying D) (shows : Showing D) (deeds : List SeatedDeed)
     (old new : D × Connection)
@@ -479,6 +495,9 @@ seated_ends replies shows (answers moment) old new e h =
     answer_ends replies shows moment old.1.heeded old.0 new.0 old.1 new.1 e h
 seated_ends replies shows (hears moment) old new e h = cases (old.1.ready.readable && is_heard old.1) h
     (λ may r. closed old.1 e may) (λ may q. (q.0, ended_same old.1 new.1 e q.1))
+seated_ends replies shows tells old new e t = cases (is_open old.1.standing) t.told
+    (λ opened p. absurd (let u : true ≡ false = sym opened ∙ e in (search rules)))
+    (λ opened q. (q.0, ended_as old.1 new.1 old.1.standing q.2 e (ap all_read t.acts)))
 
 pub seated_end : {D : Type 0} (replies : Replying D) (shows : Showing D) (deeds : List SeatedDeed)
     (old new : D × Connection)

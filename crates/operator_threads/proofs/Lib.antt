@@ -3,3 +3,4 @@ mod FreeLemmas
 mod LawLemmas
 mod SittingLemmas
 mod TalkLemmas
+mod WatchLemmas

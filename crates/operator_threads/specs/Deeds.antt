@@ -5,7 +5,9 @@ use Rattle.std.specs.Bool.{MatchBool}
 use Rattle.std.specs.List.{FoldsTo}
 use Rattle.operator_lines.specs.Fed.{StandsFor, Brings}
 use Rattle.operator_lines.specs.Outbound.{piece}
-use Rattle.operator_lines.specs.Operators.{Replying, Showing, busy_line}
+use Rattle.operator_lines.specs.DeskAsk.{news}
+use Rattle.operator_lines.specs.Operators.{Replying, Showing, AppendsReply, busy_line}
+use Rattle.operator_lines.specs.declared.answering.Next.TheVariants.{Stay}
 use Rattle.operator_threads.specs.declared.talking.Came.{Came}
 use Rattle.operator_threads.specs.declared.talking.Standing.{Standing}
 use Rattle.operator_threads.specs.declared.talking.Standing.TheVariants.{Ending, Lost}
@@ -15,7 +17,7 @@ use Rattle.operator_threads.specs.Acts.{wrote, octet_count}
 use Rattle.operator_threads.specs.Connection.{Heeded, Connection, is_heard, is_owed, unless_stopped}
 use Rattle.operator_threads.specs.Connection.{HasWaited, HasLooked, NotesStop, HasRead, IsHeardAt}
 use Rattle.operator_threads.specs.Readiness.{not_after}
-use Rattle.operator_threads.specs.Talking.{is_open, after_write, since_write, left_after}
+use Rattle.operator_threads.specs.Talking.{is_open, after_line, after_write, since_write, left_after}
 use Rattle.operator_threads.specs.Talking.{AnswersOctets, AnswersAll, AnswersSome, BreaksOff}
 use Rattle.operator_threads.specs.Greeting.{GreetsAll, BreaksGreeting}
 
@@ -192,6 +194,22 @@ abbrev pub HasAnswered :
 HasAnswered replies shows moment (Some heeded) d d' old new = TakesHeeded replies shows moment heeded d d' old new
 HasAnswered replies shows moment None d d' old new = (d' ≡ d) × (new ≡ old)
 
+-- The news of a watch were appended, unless memory ran out, which loses the connection.
+abbrev pub TellsOpen : {D : Type 0} → Replying D → (d d' : D) → Connection → Connection → Type 0
+TellsOpen replies d d' old new =
+    (AppendsReply replies d d' news old.waiting new.waiting × (new.standing ≡ after_line Stay new.waiting))
+    ⊎ ((new.waiting ≡ old.waiting) × (new.standing ≡ Lost))
+
+-- The desk was asked for news if the connection is open.
+pub record HasToldNews {D : Type 0} (replies : Replying D) (d d' : D) (old new : Connection) : Type 0 where
+  pub told : MatchBool (is_open old.standing) (TellsOpen replies d d' old new)
+      ((d' ≡ d) × (new.waiting ≡ old.waiting) × (new.standing ≡ old.standing))
+  pub acts : new.acts ≡ old.acts
+  pub ready : new.ready ≡ old.ready
+  pub since : new.since ≡ old.since
+  pub kept : new.kept ≡ old.kept
+  pub heeded : new.heeded ≡ old.heeded
+
 -- one thing that is done on a connection with a seat
 pub data SeatedDeed : Type 0 where
   -- what is done without a desk
@@ -200,6 +218,8 @@ pub data SeatedDeed : Type 0 where
   answers : (moment : ℕ) → SeatedDeed
   -- what may have come was read and answered
   hears : (moment : ℕ) → SeatedDeed
+  -- the news of a watch were told
+  tells : SeatedDeed
 
 -- this was done on a connection and its desk, and nothing else
 abbrev pub IsSeatedDeed :
@@ -208,6 +228,7 @@ IsSeatedDeed replies shows old (alone deed) new = (new.0 ≡ old.0) × IsDeed ol
 IsSeatedDeed replies shows old (answers moment) new =
     HasAnswered replies shows moment old.1.heeded old.0 new.0 old.1 new.1
 IsSeatedDeed replies shows old (hears moment) new = HasHeard replies shows moment old.0 new.0 old.1 new.1
+IsSeatedDeed replies shows old tells new = HasToldNews replies old.0 new.0 old.1 new.1
 
 -- these were done, one after another, and nothing else
 abbrev pub AreSeatedDeeds :
@@ -250,7 +271,7 @@ round_alone beginning = deeds_begun beginning ++ greeted_at (moment_of beginning
 -- what a round does with a seat once it has begun
 abbrev pub heard_at : Option ℕ → List SeatedDeed
 heard_at None = []
-heard_at (Some moment) = hears moment ∷ alone (writes moment) ∷ []
+heard_at (Some moment) = hears moment ∷ tells ∷ alone (writes moment) ∷ []
 
 -- a round with a seat
 abbrev pub round_seated : Beginning → List SeatedDeed

@@ -9,3 +9,4 @@ pub mod Readiness
 pub mod Talking
 pub mod Talks
 pub mod Told
+pub mod Watches

@@ -7,13 +7,14 @@ use Rattle.desk_edit.specs.Asked.{CallOf}
 use Rattle.bridge_core.specs.declared.reply.Reply.TheVariants as replies
 use Rattle.call_text.specs.HistoryText.{history_text}
 use Rattle.operator_lines.specs.declared.line_desk.View.{View}
-use Rattle.operator_lines.specs.declared.line_desk.View.TheVariants.{Rows, History}
+use Rattle.operator_lines.specs.declared.line_desk.View.TheVariants.{Rows, History, Stats}
 use Rattle.script_text.specs.RowLines.{show_text}
 use Rattle.script_text.specs.Text.{reply_text, refused_text}
 use Rattle.versions.specs.Published.{NoticeOf}
 use Rattle.operator_desk.specs.declared.answer.Answer.{Answer}
 use Rattle.operator_desk.specs.declared.answer.Answer.TheVariants.{Accepted, Refused}
 use Rattle.operator_desk.specs.Answers.{IsAnswered, IsCopy, IsNotice, why_told}
+use Rattle.operator_desk.specs.Opening.{most_operators}
 use Rattle.operator_desk.specs.PastCalls.{PastOf, IsPast}
 use Rattle.operator_desk.specs.Seats.{SeatOf}
 
@@ -57,7 +58,9 @@ abbrev pub SeatTellsPast : Desk → (least most : ℕ) → SeatOf → List ℕ �
 SeatTellsPast start least most seat text =
     (past : PastOf) × IsPrefix seat.seen past.log × (least ≤ length past.log) × TellsPast start most past text
 
--- what a seat is told of a desk, by what it asks for, after so many calls at least
-abbrev pub SeatViews : Desk → (least : ℕ) → SeatOf → View → List ℕ → Type 0
-SeatViews start least seat Rows text = SeatShows start least text
-SeatViews start least seat (History most) text = SeatTellsPast start least most seat text
+-- what a seat is told of a desk, by what it asks for, after so many calls at least; or of what the bridge counts, with
+-- so many seats in use
+abbrev pub SeatViews : Desk → (counts : ℕ → List ℕ → Type 0) → (least : ℕ) → SeatOf → View → List ℕ → Type 0
+SeatViews start counts least seat Rows text = SeatShows start least text
+SeatViews start counts least seat (History most) text = SeatTellsPast start least most seat text
+SeatViews start counts least seat Stats text = (used : ℕ) × (used ≤ most_operators) × counts used text

@@ -3,7 +3,8 @@
 ghost use Rattle.std.specs.Prelude.{◌≡◌, ◌≤◌, ◌++◌, ℕ, List, drop, IfOk, OnOk, OnErr, vec_len};
 ghost use Rattle.script_text.specs.declared.fault.Fault.TheVariants.{LineTooLong};
 ghost use Rattle.operator_lines.specs.Fed.{StandsFor, texts};
-ghost use Rattle.operator_lines.specs.Operators.{AnswersLine, fault_line};
+ghost use Rattle.operator_lines.specs.DeskAsk.{news};
+ghost use Rattle.operator_lines.specs.Operators.{AnswersLine, AppendsReply, fault_line};
 ghost use Rattle.operator_threads.specs.Talking.{after_line, refuses, Refuses};
 ghost use Rattle.operator_threads.specs.Talking.{AnswersFirst, AnswersAll, AnswersOctets, AnswersSome, BreaksOff};
 
@@ -160,6 +161,46 @@ impl Talk {
                 self.or_lost(Err(error))
             }
         }
+    }
+
+    /// Appends the news of a watch to what waits. An `Err` appends nothing.
+    fn append_news<D: LineDesk>(
+        &mut self,
+        alloc: Global,
+        desk: &mut D,
+        text: &mut Vec<u8>,
+    ) -> Result<(), AllocError>
+        ensures news { OnOk result
+            (AppendsReply D.replies desk.old desk.new news self.old.outgoing self.new.outgoing) }
+        ensures standing { OnOk result (self.new.standing ≡ after_line Next.Stay self.new.outgoing) }
+        ensures err { OnErr result (self.new.outgoing ≡ self.old.outgoing) }
+        ensures lines { self.new.lines ≡ self.old.lines }
+        ensures since { self.new.since ≡ self.old.since }
+    {
+        text.clear();
+        desk.tell_news(alloc, text)?;
+        self.outgoing.append(text)?;
+        self.standing = self.after(Next::Stay);
+        Ok(())
+    }
+
+    /// Tells the news of a watch. An `Err` appends nothing, and loses the connection.
+    pub fn tell_news<D: LineDesk>(
+        &mut self,
+        alloc: Global,
+        desk: &mut D,
+        text: &mut Vec<u8>,
+    ) -> Result<(), AllocError>
+        ensures news { OnOk result
+            (AppendsReply D.replies desk.old desk.new news self.old.outgoing self.new.outgoing) }
+        ensures standing { OnOk result (self.new.standing ≡ after_line Next.Stay self.new.outgoing) }
+        ensures lost { OnErr result (self.new.standing ≡ Standing.Lost) }
+        ensures err { OnErr result (self.new.outgoing ≡ self.old.outgoing) }
+        ensures lines { self.new.lines ≡ self.old.lines }
+        ensures since { self.new.since ≡ self.old.since }
+    {
+        let told = self.append_news(alloc, desk, text);
+        self.or_lost(told)
     }
 
     /// Answers what was heard before the connection had its seat, from the good line at this place on. Returns whether

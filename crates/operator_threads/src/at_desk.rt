@@ -1,6 +1,6 @@
 //! An operator at a shared desk.
 
-ghost use Rattle.std.specs.Prelude.{◌≡◌, ◌++◌, ℕ, List, IfOk, OnOk, OnErr};
+ghost use Rattle.std.specs.Prelude.{◌≡◌, ◌≤◌, ◌++◌, ℕ, List, length, IfOk, OnOk, OnErr};
 ghost use Rattle.desk_edit.specs.Asked.{asked_by};
 ghost use Rattle.operator_desk.specs.Answers.{IsAnswered};
 ghost use Rattle.operator_threads.specs.Told.{IsKnown, IsTelling, SeatShows, SeatTellsPast};
@@ -11,6 +11,7 @@ use crate::printed_past::PrintedPast;
 use crate::printing::print_answer;
 use crate::seats::TakenSeat;
 use crate::wake::Wake;
+use call_text::print_end;
 use desk_edit::Call;
 use operator_desk::{Answer, CallFault, DeskBrand};
 use operator_lines::{LineDesk, View};
@@ -29,6 +30,8 @@ pub struct AtDesk<'b, 'a, H: DeskBrand, R: Wait, F: Wake> {
     pub(crate) taken: TakenSeat<'a, H>,
     /// The latest notice, as of the last accepted call.
     pub(crate) known: Notice,
+    /// Of a watch: how many calls of the log it has told, or were accepted before it.
+    pub(crate) told: Option<usize>,
 }
 
 impl<'b, 'a, H: DeskBrand, R: Wait, F: Wake> AtDesk<'b, 'a, H, R, F> {
@@ -40,6 +43,7 @@ impl<'b, 'a, H: DeskBrand, R: Wait, F: Wake> AtDesk<'b, 'a, H, R, F> {
             front: _,
             taken,
             known: _,
+            told: _,
         } = self;
         operators.give(rt, taken);
     }
@@ -50,6 +54,7 @@ impl<'b, 'a, H: DeskBrand, R: Wait, F: Wake> AtDesk<'b, 'a, H, R, F> {
         ensures said { IfOk result (λ answer.
             IsAnswered H.start H.publisher self.old.taken.seat self.new.taken.seat (asked_by call) answer) }
         ensures known { IfOk result (λ answer. IsKnown answer self.new.known) }
+        ensures told { self.new.told ≡ self.old.told }
     {
         let desk = &self.operators.desk;
         let answer = desk.call(self.rt, alloc, &mut self.taken.seat, call)?;
@@ -98,6 +103,14 @@ impl<'b, 'a, H: DeskBrand, R: Wait, F: Wake> AtDesk<'b, 'a, H, R, F> {
         printed.append(out)
     }
 
+    /// The version that is shown at least: the published one, which is the known one or a later one.
+    fn asked(&self) -> u64
+        ensures { length self.now.known.lists ≤ result }
+    {
+        let published = self.operators.desk.notice(self.rt).version();
+        published.max(self.known.version())
+    }
+
     /// Appends the rows in the operator's turn. An `Err` appends nothing.
     fn show_rows(&self, alloc: Global, asked: u64, out: &mut Vec<u8>) -> Result<(), AllocError>
         ensures ok { OnOk result ((text : List ℕ)
@@ -129,7 +142,7 @@ impl<'b, 'a, H: DeskBrand, R: Wait, F: Wake> AtDesk<'b, 'a, H, R, F> {
     }
 
     /// Ends the bridge, whose desk has no answer. What is returned ends the connection.
-    fn give_up(&self) -> AllocError {
+    pub(crate) fn give_up(&self) -> AllocError {
         self.operators.fail();
         self.front.wake();
         AllocError
@@ -140,6 +153,7 @@ impl<'b, 'a, H: DeskBrand, R: Wait, F: Wake> AtDesk<'b, 'a, H, R, F> {
         requires tells { IsTelling H.start H.publisher answer.now }
         ensures known { IsKnown answer.now self.new.known }
         ensures seat { self.new.taken ≡ self.old.taken }
+        ensures told { self.new.told ≡ self.old.told }
     {
         if let Answer::Accepted { notice, .. } = answer {
             self.known = self.operators.learn(self.rt, notice);
@@ -150,12 +164,16 @@ impl<'b, 'a, H: DeskBrand, R: Wait, F: Wake> AtDesk<'b, 'a, H, R, F> {
 
 impl<'b, 'a, H: DeskBrand, R: Wait, F: Wake> LineDesk for AtDesk<'b, 'a, H, R, F> {
     ghost use Rattle.std.specs.Prelude.{length};
-    ghost use Rattle.operator_threads.specs.Told.{SeatReplies, SeatViews};
+    ghost use Rattle.operator_threads.specs.Told.{SeatViews};
+    ghost use Rattle.operator_threads.specs.Watches.{SeatAnswers};
 
-    ghost replies = { λ old new call text.
-        SeatReplies H.start H.publisher old.taken.seat new.taken.seat new.known call text };
+    ghost replies = { λ old new ask text. SeatAnswers H.start H.publisher
+        (record { seat = old.taken.seat; known = old.known; told = old.told })
+        (record { seat = new.taken.seat; known = new.known; told = new.told })
+        ask text };
 
-    ghost shows = { λ desk view text. SeatViews H.start (length desk.known.lists) desk.taken.seat view text };
+    ghost shows = { λ desk view text.
+        SeatViews H.start (F.counts desk.front.now) (length desk.known.lists) desk.taken.seat view text };
 
     fn reply(&mut self, alloc: Global, call: Call, out: &mut Vec<u8>) -> Result<(), AllocError> {
         match self.answer_call(alloc, call) {
@@ -164,12 +182,28 @@ impl<'b, 'a, H: DeskBrand, R: Wait, F: Wake> LineDesk for AtDesk<'b, 'a, H, R, F
         }
     }
 
+    fn watch(&mut self, _alloc: Global, out: &mut Vec<u8>) -> Result<(), AllocError> {
+        match self.told {
+            Some(told) => print_end(told as u64, out),
+            None => self.begin_watch(out),
+        }
+    }
+
+    fn tell_news(&mut self, alloc: Global, out: &mut Vec<u8>) -> Result<(), AllocError> {
+        match self.told {
+            Some(told) => self.tell_behind(alloc, told, out),
+            None => Ok(()),
+        }
+    }
+
     fn show(&self, alloc: Global, view: View, out: &mut Vec<u8>) -> Result<(), AllocError> {
-        let published = self.operators.desk.notice(self.rt).version();
-        let asked = published.max(self.known.version());
         match view {
-            View::Rows => self.show_rows(alloc, asked, out),
-            View::History { most } => self.show_past(alloc, asked, most, out),
+            View::Rows => self.show_rows(alloc, self.asked(), out),
+            View::History { most } => self.show_past(alloc, self.asked(), most, out),
+            View::Stats => {
+                let used = self.operators.used(self.rt);
+                self.front.tell_stats(self.rt, alloc, used, out)
+            }
         }
     }
 }

@@ -223,7 +223,8 @@ impl<L: CallerLine + Drop> Caller<L> {
         }
     }
 
-    /// One round with a seat: waits 50 ms at most, reads a piece, answers its lines, and writes a piece.
+    /// One round with a seat: waits 50 ms at most, reads a piece, answers its lines, tells the news of a watch, and
+    /// writes a piece.
     pub(crate) fn round<D: LineDesk>(&mut self, alloc: Global, desk: &mut D, stopped: &AtomicBool)
         ensures { (beginning : Beginning) × AreSeatedDeeds D.replies D.shows (round_seated beginning)
             (desk.old, connection (L.acts self.old.line) self.old.talk self.old.ready self.old.heard)
@@ -232,6 +233,7 @@ impl<L: CallerLine + Drop> Caller<L> {
         match self.begin(stopped) {
             Some(now) => {
                 self.read(alloc, desk, now, stopped);
+                self.tell_news(alloc, desk);
                 self.write(now);
             }
             None => {}

@@ -4,7 +4,7 @@ ghost use Rattle.std.specs.Prelude.{◌≡◌, ◌≤◌, ◌&&◌, length, take
 ghost use Rattle.operator_threads.specs.Acts.{octet_count};
 ghost use Rattle.operator_threads.specs.Connection.{connection, heeded_in, heeded_of, is_heard, HasRead};
 ghost use Rattle.operator_threads.specs.Deeds.{GreetsOctets, HasGreeted};
-ghost use Rattle.operator_threads.specs.Deeds.{HearsPiece, HasHeard, AnswersHeeded, HasAnswered};
+ghost use Rattle.operator_threads.specs.Deeds.{HearsPiece, HasHeard, AnswersHeeded, HasAnswered, HasToldNews};
 
 use crate::caller::Caller;
 use crate::greeting::{Brought, Greeted};
@@ -173,6 +173,18 @@ impl<L: CallerLine + Drop> Caller<L> {
         };
         if self.talk.is_open() {
             self.answer_taken(alloc, desk, heard, now, stopped);
+        }
+    }
+
+    /// Appends the news of a watch to what waits, while the connection is open.
+    pub(crate) fn tell_news<D: LineDesk>(&mut self, alloc: Global, desk: &mut D)
+        ensures { HasToldNews D.replies desk.old desk.new
+            (connection (L.acts self.old.line) self.old.talk self.old.ready self.old.heard)
+            (connection (L.acts self.new.line) self.new.talk self.new.ready self.new.heard) }
+    {
+        if self.talk.is_open() {
+            // An `Err` has lost the connection.
+            let _ = self.talk.tell_news(alloc, desk, &mut self.text);
         }
     }
 }

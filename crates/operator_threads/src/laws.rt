@@ -1,10 +1,14 @@
 //! Laws of all that is done on an operator's connection. The functions do nothing when they run.
 
-ghost use Rattle.std.specs.Prelude.{◌≡◌, false, List};
+ghost use Rattle.std.specs.Prelude.{◌≡◌, ◌≤◌, ℕ, false, length, List, Some};
+ghost use Rattle.logbook.specs.Pages.{Book};
+ghost use Rattle.desk_rows.specs.Desk.{Desk};
+ghost use Rattle.operator_lines.specs.DeskAsk.{DeskAsk};
 ghost use Rattle.operator_threads.specs.Connection.{Connection};
 ghost use Rattle.operator_threads.specs.Deeds.{Deed, SeatedDeed, AreDeeds, AreSeatedDeeds};
 ghost use Rattle.operator_threads.specs.Talking.{is_open};
 ghost use Rattle.operator_threads.specs.Talks.{IsStream, GoesOn, StaysEnded};
+ghost use Rattle.operator_threads.specs.Watches.{SittingOf, AreSeatAnswers, WasTold, news_among};
 
 use operator_lines::LineDesk;
 
@@ -22,4 +26,12 @@ pub fn what_is_said_goes_on<D: LineDesk>()
 pub fn nothing_is_said_after_the_end<D: LineDesk>()
     ensures { (deeds : List SeatedDeed) (old new : D × Connection) → AreSeatedDeeds D.replies D.shows deeds old new
         → is_open old.1.standing ≡ false → (new.0 ≡ old.0) × StaysEnded old.1 new.1 }
+{}
+
+/// A watch tells each call once. Whatever an operator at the desk asks, the news on the connection are the lines of the
+/// log's calls behind those that were told or passed over before, in order and without a gap.
+pub fn a_watch_tells_each_call_once()
+    ensures { (start : Desk) (publisher : Book) (asked : List (DeskAsk × List ℕ)) (told : ℕ) (old new : SittingOf)
+        → AreSeatAnswers start publisher asked old new → old.told ≡ Some told → told ≤ length old.seat.seen
+        → WasTold told new (news_among asked) }
 {}

@@ -47,10 +47,13 @@ mod socket_line;
 mod steps;
 mod talking;
 mod wake;
+mod watching;
 
 pub use self::at_desk::AtDesk;
 pub use self::caller::Caller;
-pub use self::laws::{nothing_is_said_after_the_end, what_is_said_goes_on};
+pub use self::laws::{
+    a_watch_tells_each_call_once, nothing_is_said_after_the_end, what_is_said_goes_on,
+};
 pub use self::line::CallerLine;
 pub use self::line_log::LineLog;
 pub use self::operators::Operators;

@@ -1,8 +1,9 @@
 //! The operators of a bridge.
 
-ghost use Rattle.std.specs.Prelude.{◌≡◌};
+ghost use Rattle.std.specs.Prelude.{◌≡◌, ◌≤◌, None};
 ghost use mathlib.Core.List.{IsPrefix};
 ghost use Rattle.operator_desk.specs.Answers.{IsNotice};
+ghost use Rattle.operator_desk.specs.Opening.{most_operators};
 
 use crate::at_desk::AtDesk;
 use crate::latest::Latest;
@@ -11,7 +12,7 @@ use crate::printed::Printed;
 use crate::printed_past::PrintedPast;
 use crate::seats::{FreeSeats, TakenSeat};
 use crate::wake::Wake;
-use operator_desk::{DeskBrand, Seat, SharedDesk};
+use operator_desk::{DeskBrand, MAX_OPERATORS, Seat, SharedDesk};
 use std::alloc::{AllocError, Global};
 use std::sync::atomic::{AtomicBool, Ordering};
 use std::sync::{Mutex, MutexGuard, Wait};
@@ -22,6 +23,8 @@ use versions::Notice;
 /// One reference to it is all that a connection's thread borrows.
 pub struct Operators<'a, H: DeskBrand> {
     pub(crate) desk: SharedDesk<'a, H>,
+    /// How many seats there are.
+    all: usize,
     seats: Mutex<FreeSeats<'a, H>>,
     lobby: Mutex<Lobby>,
     latest: Mutex<Latest<H>>,
@@ -45,6 +48,7 @@ impl<'a, H: DeskBrand> Operators<'a, H> {
         let latest = Latest::new(desk.notice(rt));
         Self {
             desk,
+            all: seats.len(),
             seats: Mutex::new(FreeSeats { seats }),
             lobby: Mutex::new(Lobby::new(alloc)),
             latest: Mutex::new(latest),
@@ -61,6 +65,17 @@ impl<'a, H: DeskBrand> Operators<'a, H> {
         let is_empty = seats.is_empty();
         MutexGuard::unlock(seats);
         !is_empty
+    }
+
+    /// How many seats are in use.
+    pub(crate) fn used<R: Wait>(&self, rt: &R) -> u32
+        ensures { result ≤ most_operators }
+    {
+        let seats = self.seats.lock(rt);
+        let free = seats.count();
+        MutexGuard::unlock(seats);
+        let used = self.all.saturating_sub(free);
+        used.min(MAX_OPERATORS as usize) as u32
     }
 
     /// Enters a new connection among those that have no seat, and returns its number there. Of more than 16 the oldest
@@ -109,7 +124,8 @@ impl<'a, H: DeskBrand> Operators<'a, H> {
         front: &'b F,
         taken: TakenSeat<'a, H>,
     ) -> AtDesk<'b, 'a, H, R, F>
-        ensures { result.taken ≡ taken.entry }
+        ensures taken { result.taken ≡ taken.entry }
+        ensures watch { result.told ≡ None }
     {
         let known = self.latest(rt);
         AtDesk {
@@ -118,6 +134,7 @@ impl<'a, H: DeskBrand> Operators<'a, H> {
             front,
             taken,
             known,
+            told: None,
         }
     }
 
@@ -168,6 +185,7 @@ impl<'a, H: DeskBrand> Operators<'a, H> {
     pub fn end(self) -> (SharedDesk<'a, H>, Vec<Seat<'a, H>>) {
         let Operators {
             desk,
+            all: _,
             seats,
             lobby: _,
             latest: _,

@@ -33,6 +33,13 @@ impl<'a, H: DeskBrand> FreeSeats<'a, H> {
         self.seats.is_empty()
     }
 
+    /// How many seats are free.
+    pub fn count(&self) -> usize
+        ensures { result ≡ vec_len self.now.seats }
+    {
+        self.seats.len()
+    }
+
     /// Where the free seat of the lowest operator is.
     fn lowest(&self) -> Option<usize>
         ensures lowest { IfSome result (λ at. IsLowestAt at self.now.seats.items) }

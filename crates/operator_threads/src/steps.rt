@@ -142,8 +142,9 @@ impl<'a, H: DeskBrand> Operators<'a, H> {
         }
     }
 
-    /// A round of a connection with a seat: answers what was heard before it had one; or else waits 50 ms at most, and
-    /// answers the lines that have come. Returns whether the connection goes on; if not, nothing was done on it.
+    /// A round of a connection with a seat: answers what was heard before it had one; or else waits 50 ms at most,
+    /// answers the lines that have come, and tells the news of a watch. Returns whether the connection goes on; if not,
+    /// nothing was done on it.
     ///
     /// It stops the bridge for an operator who said `stop`, and then wakes the front.
     pub fn serve<F: Wake, L: CallerLine + Drop, D: LineDesk>(

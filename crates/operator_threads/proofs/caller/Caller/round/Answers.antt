@@ -6,8 +6,9 @@ pub returns-in-Some : goal.returns-in-Some
 returns-in-Some g c =
     let b = c.begin.ensures in (
       b.0,
-      round_whole g.D.LineDesk.replies g.D.LineDesk.shows b.0 c.in-Some.now c.args.desk.now c.read.new.desk _ _ _ _ b.2
-          (sym b.1 ∙ c.in-Some.is) c.read.ensures c.write.ensures,
+      round_whole g.D.LineDesk.replies g.D.LineDesk.shows b.0 c.in-Some.now c.args.desk.now c.read.new.desk
+          c.tell_news.new.desk _ _ _ _ _ b.2 (sym b.1 ∙ c.in-Some.is) c.read.ensures c.tell_news.ensures
+          c.write.ensures,
     )
 
 pub returns-in-None : goal.returns-in-None

@@ -1,0 +1,174 @@
+-- What a watch tells, one answer after another.
+use Rattle.std.proofs.Common.{◌≡◌, ◌≤◌, ℕ, ◌+◌, List, [], ◌∷◌, ◌++◌, length, take, drop, Option, Some, None, refl, sym}
+use Rattle.std.proofs.Common.{ap, subst, ◌∙◌, append_assoc, length-append, take-append-drop, arith}
+use Rattle.std.proofs.lemmas.Grind.{flat_map-append}
+use Rattle.std.proofs.lemmas.List.{append-nil, drop-append-le, drop_all, length-take-le, take-take, take_at}
+use Rattle.std.specs.Prelude.{max}
+use mathlib.Core.List.{IsPrefix}
+use Rattle.logbook.specs.Pages.{Book}
+use Rattle.desk_rows.specs.Desk.{Desk}
+use Rattle.desk_edit.specs.Asked.{CallOf}
+use Rattle.call_history.specs.AcceptedCall.{AcceptedOf}
+use Rattle.call_text.specs.NewsText.{news_line, news_text}
+use Rattle.operator_lines.specs.DeskAsk.{DeskAsk, calls, watches, news}
+use Rattle.operator_desk.specs.declared.answer.Answer.{Answer}
+use Rattle.operator_desk.specs.declared.answer.Answer.TheVariants.{Accepted, Refused}
+use Rattle.operator_desk.specs.Answers.{IsAnswered, HasCaughtUp}
+use Rattle.operator_desk.specs.Entry.{EntryOf}
+use Rattle.operator_desk.specs.LegalLogs.{IsLegal}
+use Rattle.operator_desk.specs.PastCalls.{made_from, made_of}
+use Rattle.operator_desk.specs.Seats.{SeatOf}
+use Rattle.operator_desk.proofs.PastLemmas.{made-append, length-made}
+use Rattle.operator_threads.specs.Watches.{SittingOf, SeatAnswers, SeatWatches, SeatNews, AreSeatAnswers, TellsNews}
+use Rattle.operator_threads.specs.Watches.{news_of, news_among, WasTold}
+
+-- a seat that has seen a legal log has caught up with it
+pub stays_caught : (start : Desk) (s : SeatOf) → IsLegal start s.seen → HasCaughtUp start s s
+stays_caught start s legal =
+    record { op = refl; legal = legal; begins = ([], append-nil s.seen); own = refl; count = refl }
+
+-- where all known calls were told, and all that the seat has seen, there are no news
+pub no_news : (start : Desk) (told : ℕ) (s : SittingOf) → IsLegal start s.seat.seen → s.told ≡ Some told
+    → length s.known.lists ≤ told → length s.seat.seen ≤ told → TellsNews start told s s []
+no_news start told s legal is known seen =
+    let most : max told (length s.seat.seen) ≡ told = omega (arith, seen) in
+    let many : length (made_of s.seat.seen) ≡ length s.seat.seen = length-made 1 s.seat.seen in
+    record {
+      caught = stays_caught start s.seat legal;
+      known = refl;
+      all = omega (arith, most, known);
+      told = is ∙ ap Some (sym most);
+      text = ap news_text (sym (drop_all told (made_of s.seat.seen) (omega (arith, many, seen))));
+    }
+
+prefix_same : (xs : List EntryOf) → IsPrefix xs xs
+prefix_same xs = ([], append-nil xs)
+
+prefix_both : (xs ys zs : List EntryOf) → IsPrefix xs ys → IsPrefix ys zs → IsPrefix xs zs
+prefix_both xs ys zs g h =
+    (g.0 ++ h.0, sym (append_assoc xs g.0 h.0) ∙ (ap (λ (l : List EntryOf). l ++ h.0) g.1 ∙ h.1))
+
+prefix_few : (xs ys : List EntryOf) → IsPrefix xs ys → length xs ≤ length ys
+prefix_few xs ys g =
+    let whole : length (xs ++ g.0) ≡ length ys = ap length g.1 in
+    let parts = length-append xs g.0 in
+    omega (arith, whole, parts)
+
+-- what a seat has seen goes on with each call
+replied : (start : Desk) (publisher : Book) (old new : SeatOf) (call : CallOf) (answer : Answer)
+    → IsAnswered start publisher old new call answer → IsPrefix old.seen new.seen
+replied start publisher old new call (Accepted number notice) a = (
+  a.ends.0 ++ record { op = old.op; call = call } ∷ [],
+  sym (append_assoc old.seen a.ends.0 (record { op = old.op; call = call } ∷ [])) ∙ sym a.ends.1,
+)
+replied start publisher old new call (Refused version why) a = a.begins
+
+-- the calls of a log are the first ones of a log that goes on from it
+first_made : (xs ys : List EntryOf) (last : ℕ) → IsPrefix xs ys → length xs ≤ last
+    → take (length xs) (take last (made_of ys)) ≡ made_of xs
+first_made xs ys last g few =
+    take-take (length xs) last (made_of ys) few
+    ∙ (ap (λ (l : List EntryOf). take (length xs) (made_of l)) (sym g.1)
+    ∙ (ap (take (length xs)) (made-append 1 xs g.0)
+    ∙ take_at (made_of xs) (made_from (1 + length xs) g.0) (length xs) (length-made 1 xs)))
+
+-- what was told, and then what comes behind it
+joined : (told most : ℕ) (ms : List AcceptedOf) → told ≤ most → most ≤ length ms
+    → news_text (drop told (take most ms)) ++ news_text (drop most ms) ≡ news_text (drop told ms)
+joined told most ms less few =
+    let many = length-take-le most ms few in
+    sym (flat_map-append news_line (drop told (take most ms)) (drop most ms))
+    ∙ ap news_text
+    (sym (drop-append-le told (take most ms) (drop most ms) (omega (arith, less, many)))
+    ∙ ap (drop told) (take-append-drop most ms))
+
+-- what was told behind a place, and how far the log was seen then
+record Goes (told : ℕ) (old new : SittingOf) (text : List ℕ) : Type 0 where
+  pub was : WasTold told new text
+  pub least : told ≤ was.last
+  pub begins : IsPrefix old.seat.seen new.seat.seen
+
+longest : (told seen : ℕ) → told ≤ seen → max told seen ≡ seen
+longest told seen less = omega (arith, less)
+
+some_is : (a b : ℕ) → Some a ≡ Some b → a ≡ b
+some_is a b same = cc same
+
+-- what is told of a log from here on, whatever is asked
+abbrev GoesOn : Desk → Book → List (DeskAsk × List ℕ) → SittingOf → Type 0
+GoesOn start publisher asked new =
+    (told : ℕ) (old : SittingOf) → AreSeatAnswers start publisher asked old new → old.told ≡ Some told
+    → told ≤ length old.seat.seen → Goes told old new (news_among asked)
+
+step : (start : Desk) (publisher : Book) (asked : List (DeskAsk × List ℕ)) (told : ℕ) (old mid new : SittingOf)
+    (ask : DeskAsk) (text : List ℕ)
+    → SeatAnswers start publisher old mid ask text → AreSeatAnswers start publisher asked mid new
+    → old.told ≡ Some told → told ≤ length old.seat.seen → GoesOn start publisher asked new
+    → Goes told old new (news_of ask text ++ news_among asked)
+step start publisher asked told old mid new (calls call) text a done is few goes =
+    let begins = replied start publisher old.seat mid.seat call a.0.0 a.0.1 in
+    let longer = prefix_few old.seat.seen mid.seat.seen begins in
+    let more = goes told mid done (a.1 ∙ is) (omega (arith, few, longer)) in
+    record {
+      was = more.was;
+      least = more.least;
+      begins = prefix_both old.seat.seen mid.seat.seen new.seat.seen begins more.begins;
+    }
+step start publisher asked told old mid new watches text a done is few goes =
+    let same : mid ≡ old = (subst (λ (o : Option ℕ). SeatWatches start old mid o text) is a).0 in
+    goes told old (subst (λ (s : SittingOf). AreSeatAnswers start publisher asked s new) same done) is few
+step start publisher asked told old mid new news text a done is few goes =
+    let t : TellsNews start told old mid text = subst (λ (o : Option ℕ). SeatNews start old mid o text) is a in
+    let begins = t.caught.begins in
+    let longer = prefix_few old.seat.seen mid.seat.seen begins in
+    let seen = length mid.seat.seen in
+    let less : told ≤ seen = omega (arith, few, longer) in
+    let more = goes seen mid done (t.told ∙ ap Some (longest told seen less)) (omega arith) in
+    let last = more.was.last in
+    let ms = take last (made_of new.seat.seen) in
+    let many : length (made_of new.seat.seen) ≡ length new.seat.seen = length-made 1 new.seat.seen in
+    let there = more.was.few in
+    let all = length-take-le last (made_of new.seat.seen) (omega (arith, there, many)) in
+    let least = more.least in
+    let first = first_made mid.seat.seen new.seat.seen last more.begins least in
+    record {
+      was = record {
+        last = last;
+        told = more.was.told;
+        few = there;
+        text =
+            ap (λ (l : List ℕ). l ++ news_among asked)
+            (t.text ∙ ap (λ (l : List AcceptedOf). news_text (drop told l)) (sym first))
+            ∙ (ap (λ (l : List ℕ). news_text (drop told (take seen ms)) ++ l) more.was.text
+            ∙ joined told seen ms less (omega (arith, least, all)));
+      };
+      least = omega (arith, less, least);
+      begins = prefix_both old.seat.seen mid.seat.seen new.seat.seen begins more.begins;
+    }
+
+goes : (start : Desk) (publisher : Book) (asked : List (DeskAsk × List ℕ)) (new : SittingOf)
+    → GoesOn start publisher asked new
+goes start publisher [] new told old done is few =
+    subst (λ (s : SittingOf). Goes told old s []) done (
+    let many : length (made_of old.seat.seen) ≡ length old.seat.seen = length-made 1 old.seat.seen in
+    let front = length-take-le told (made_of old.seat.seen) (omega (arith, many, few)) in
+    record {
+      was = record {
+        last = told;
+        told = is;
+        few = few;
+        text = ap news_text (sym (drop_all told (take told (made_of old.seat.seen)) (omega (arith, front))));
+      };
+      least = omega arith;
+      begins = prefix_same old.seat.seen;
+    }
+    )
+goes start publisher (one ∷ asked) new told old done is few =
+    step start publisher asked told old done.0 new one.0 one.1 done.1 done.2 is few
+    (goes start publisher asked new)
+
+-- from the beginning of a watch on
+pub was_told : (start : Desk) (publisher : Book) (asked : List (DeskAsk × List ℕ)) (told : ℕ) (old new : SittingOf)
+    → AreSeatAnswers start publisher asked old new → old.told ≡ Some told → told ≤ length old.seat.seen
+    → WasTold told new (news_among asked)
+was_told start publisher asked told old new done is few = (goes start publisher asked new told old done is few).was
