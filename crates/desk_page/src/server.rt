@@ -252,15 +252,19 @@ impl Server {
         Ok(())
     }
 
-    fn complete(&mut self, line: &[u8], reply: &BridgeReply, now: u64) {
-        let responder = Responder {
-            alloc: self.config.alloc,
-            tables: &TABLES,
-            site: &self.router.site,
-            line,
-            reply,
-        };
-        self.clients.complete(self.config, responder, now);
+    fn complete<'x>(&mut self, line: &'x [u8], reply: &'x BridgeReply, now: u64) {
+        let (alloc, tables, site) = (self.config.alloc, &TABLES, &self.router.site);
+        self.clients.complete(
+            self.config,
+            Responder {
+                alloc,
+                tables,
+                site,
+                line,
+                reply,
+            },
+            now,
+        );
     }
 
     fn complete_queued(&mut self, reply: &BridgeReply, now: u64) {
