@@ -1,5 +1,6 @@
 //! A connection of an operator.
 
+use crate::text::is_line;
 use std::alloc::Global;
 use std::io::{ErrorKind, Read, Write};
 use std::net::{Net, Shutdown, SocketAddr, TcpStream};
@@ -69,12 +70,12 @@ impl Operator {
         self.got.starts_with(b"busy\n")
     }
 
-    /// Whether the next line that has come is this one, which is taken off.
+    /// Whether the next line that has come has these words, where `#` stands for any number. It is taken off.
     pub fn takes_line(&mut self, alloc: Global, line: &str) -> Option<bool> {
         let mut parts = self.got.splitn(2, |octet| *octet == b'\n');
         let first = parts.next()?;
         let rest = Vec::from_slice(alloc, parts.next()?).ok()?;
-        let is = first == line.as_bytes();
+        let is = is_line(first, line);
         self.got = rest;
         Some(is)
     }

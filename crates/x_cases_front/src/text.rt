@@ -60,3 +60,25 @@ pub fn are_like(alloc: Global, octets: &[u8], wanted: &str) -> Option<bool> {
     let mut pairs = had.bytes().zip(wanted.bytes());
     Some(had.len() == wanted.len() && pairs.all(|(is, like)| is_like(is, like)))
 }
+
+/// Whether a word is what another one stands for: `#` for any number.
+fn is_word(is: &[u8], like: &str) -> bool {
+    if like == "#" {
+        return !is.is_empty() && is.iter().all(|octet| octet.is_ascii_digit());
+    }
+    is == like.as_bytes()
+}
+
+/// Whether a line has these words, where `#` stands for any number.
+pub fn is_line(line: &[u8], wanted: &str) -> bool {
+    let mut words = line.split(|octet| *octet == b' ');
+    for like in wanted.split(' ') {
+        let Some(is) = words.next() else {
+            return false;
+        };
+        if !is_word(is, like) {
+            return false;
+        }
+    }
+    words.next().is_none()
+}
