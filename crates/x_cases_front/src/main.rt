@@ -16,7 +16,7 @@
 //! - `octets N HEX`: it sends these octets.
 //! - `repeats N TIMES TEXT`: it sends a line so many times and reads nothing, until the bridge takes no more.
 //! - `floods N TIMES`: it sends so many times 8,192 octets without an LF.
-//! - `told N TEXT`: the next line that it is told, where the word `#` stands for any number.
+//! - `told N TEXT`: the next line that it is told, where the word `#` stands for any number or address.
 //! - `closed N`: it is told nothing more, and the bridge closes its connection.
 //! - `ends N`: it is told nothing more, and the bridge, which is stopped, closes its connection within 2 s.
 //! - `cut N`: it goes on sending and reads nothing, until the bridge closes its connection.

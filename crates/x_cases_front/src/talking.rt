@@ -138,7 +138,7 @@ impl Stage {
         Some(false)
     }
 
-    /// Whether the next line that an operator is told has these words, where `#` stands for any number.
+    /// Whether the next line that an operator is told has these words, where `#` stands for any number or address.
     pub fn told(&mut self, rt: &impl Clock, at: usize, line: &str) -> Option<bool> {
         let alloc = self.alloc;
         for _ in 0..TURNS {
