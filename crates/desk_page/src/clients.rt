@@ -2,6 +2,7 @@
 
 use crate::client::Client;
 use crate::names_store::NamesStore;
+use crate::query_timer::QueryTimer;
 use crate::server_config::ServerConfig;
 use desk_http::{
     BridgeReply, ClientActivity, Placement, Query, Responder, Router, Site, TABLES, admit,
@@ -91,7 +92,7 @@ impl Clients {
     }
 
     /// Takes one line of this query, for the bridge. All who ask it get the reply.
-    pub(crate) fn next_query(&mut self, query: Query) -> Option<Vec<u8>> {
+    fn next_query(&mut self, query: Query) -> Option<Vec<u8>> {
         let mut next = None;
         for client in &mut self.connected {
             if let Some(line) = client.dispatch_query(query) {
@@ -101,10 +102,35 @@ impl Clients {
         next
     }
 
-    /// Responds to all who await a reply.
-    pub(crate) fn complete(&mut self, config: ServerConfig, responder: Responder<'_>, now: u64) {
+    /// The line of a query that some browser asks, if it may be asked now.
+    pub(crate) fn due_query(&mut self, timer: &mut QueryTimer, now: u64) -> Option<Vec<u8>> {
+        if !timer.is_due(now) {
+            return None;
+        }
+        let line = self.next_query(timer.query)?;
+        timer.note_asked(now);
+        Some(line)
+    }
+
+    /// Responds to all who await a reply, by the reply to this line.
+    pub(crate) fn complete(
+        &mut self,
+        config: ServerConfig,
+        site: &Site,
+        line: &[u8],
+        reply: &BridgeReply,
+        now: u64,
+    ) {
         for client in &mut self.connected {
             if client.awaits_reply() {
+                let (alloc, tables) = (config.alloc, &TABLES);
+                let responder = Responder {
+                    alloc,
+                    tables,
+                    site,
+                    line,
+                    reply,
+                };
                 client.complete(config, responder, now);
             }
         }

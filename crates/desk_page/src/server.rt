@@ -6,7 +6,7 @@ use crate::names_store::NamesStore;
 use crate::query_timer::{QueryTimer, millis_since};
 use crate::server_config::ServerConfig;
 use crate::setup::{router_at, server_config};
-use desk_http::{Addresses, BridgeReply, Query, Responder, Router, TABLES};
+use desk_http::{Addresses, BridgeReply, Query, Router};
 use mio::net::{TcpListener, TcpStream};
 use mio::{Events, Interest, Poll, Registry, Token};
 use std::alloc::{AllocError, AllocGlobal, Global};
@@ -218,28 +218,18 @@ impl Server {
         Ok(())
     }
 
-    /// The line of a query that some browser asks, if it may be asked now.
-    fn next_query(clients: &mut Clients, timer: &mut QueryTimer, now: u64) -> Option<Vec<u8>> {
-        if !timer.is_due(now) {
-            return None;
-        }
-        let line = clients.next_query(timer.query)?;
-        timer.note_asked(now);
-        Some(line)
-    }
-
     /// The next line for the bridge: the oldest connection's call, or else a query.
     fn next_line(&mut self, now: u64) -> Option<Vec<u8>> {
         if let Some(line) = self.clients.next_call() {
             return Some(line);
         }
-        if let Some(line) = Self::next_query(&mut self.clients, &mut self.desk, now) {
+        if let Some(line) = self.clients.due_query(&mut self.desk, now) {
             return Some(line);
         }
-        if let Some(line) = Self::next_query(&mut self.clients, &mut self.history, now) {
+        if let Some(line) = self.clients.due_query(&mut self.history, now) {
             return Some(line);
         }
-        Self::next_query(&mut self.clients, &mut self.stats, now)
+        self.clients.due_query(&mut self.stats, now)
     }
 
     fn begin_request<R: Net>(&mut self, rt: &R, now: u64) -> io::Result<()> {
@@ -252,19 +242,9 @@ impl Server {
         Ok(())
     }
 
-    fn complete<'x>(&mut self, line: &'x [u8], reply: &'x BridgeReply, now: u64) {
-        let (alloc, tables, site) = (self.config.alloc, &TABLES, &self.router.site);
-        self.clients.complete(
-            self.config,
-            Responder {
-                alloc,
-                tables,
-                site,
-                line,
-                reply,
-            },
-            now,
-        );
+    fn complete(&mut self, line: &[u8], reply: &BridgeReply, now: u64) {
+        let site = &self.router.site;
+        self.clients.complete(self.config, site, line, reply, now);
     }
 
     fn complete_queued(&mut self, reply: &BridgeReply, now: u64) {
