@@ -34,20 +34,20 @@ abbrev pub object_tokens : List RowField → List ℕ → List (List ℕ) → Li
 object_tokens fields line words = begin_object ∷ (flat_map (field_tokens line words) fields ++ end_object ∷ [])
 
 -- a line with this first word is of the kind
-abbrev pub is_of : RowKind → List ℕ → Bool
-is_of (Named word) first = bytes_eq first word.now
-is_of Numbered first = is_number first
+abbrev pub begins_row : RowKind → List ℕ → Bool
+begins_row (Named word) first = bytes_eq first word.now
+begins_row Numbered first = is_number first
 
 -- a line as an object, if it is of the kind
 abbrev pub row_tokens : RowShape → List ℕ → List Token
 row_tokens shape line =
-    if is_of shape.kind (leading_word line) then object_tokens shape.fields.now line (words_of line) else []
+    if begins_row shape.kind (leading_word line) then object_tokens shape.fields.now line (words_of line) else []
 
 -- the first line that is of the kind as an object, or nothing
 abbrev pub first_tokens : RowShape → List (List ℕ) → List Token
 first_tokens shape [] = null ∷ []
 first_tokens shape (line ∷ lines) =
-    if is_of shape.kind (leading_word line) then object_tokens shape.fields.now line (words_of line)
+    if begins_row shape.kind (leading_word line) then object_tokens shape.fields.now line (words_of line)
     else first_tokens shape lines
 
 -- all lines that are of the kind, as an array

@@ -8,7 +8,7 @@ ghost use Rattle.desk_http.specs.Rows.{
   value_token,
   field_tokens,
   object_tokens,
-  is_of,
+  begins_row,
   row_tokens,
   first_tokens,
   list_tokens,
@@ -137,8 +137,8 @@ fn write_object(
 }
 
 /// Whether a line with this first word is of the kind.
-fn is_of(kind: RowKind, first: &str) -> bool
-    ensures { result ≡ is_of kind first.now }
+fn begins_row(kind: RowKind, first: &str) -> bool
+    ensures { result ≡ begins_row kind first.now }
 {
     match kind {
         RowKind::Named(word) => first == word,
@@ -154,9 +154,9 @@ fn write_row(
     line: &str,
 ) -> Result<bool, AllocError>
     ensures row { OnOk result (Appends writer.old writer.new (row_tokens shape.now line.now)) }
-    ensures is { IfOk result (λ is. is ≡ is_of shape.now.kind (leading_word line.now)) }
+    ensures is { IfOk result (λ is. is ≡ begins_row shape.now.kind (leading_word line.now)) }
 {
-    if !is_of(shape.kind, leading_word(line)) {
+    if !begins_row(shape.kind, leading_word(line)) {
         return Ok(false);
     }
     let words = words_of(alloc, line)?;

@@ -70,7 +70,8 @@ impl Operator {
         self.got.starts_with(b"busy\n")
     }
 
-    /// Whether the next line that has come has these words, where `#` stands for any number or address. It is taken off.
+    /// Whether the next line that has come has these words, where `#` stands for any number or address. It is taken
+    /// off.
     pub fn takes_line(&mut self, alloc: Global, line: &str) -> Option<bool> {
         let mut parts = self.got.splitn(2, |octet| *octet == b'\n');
         let first = parts.next()?;

@@ -92,9 +92,8 @@ class Fan:
             [program, "serve", path], stdin=subprocess.DEVNULL, stderr=subprocess.PIPE, text=True
         )
         words = self.bridge.stderr.readline().split()
-        self.udp, tcp = (
-            (host, int(port)) for host, _, port in (word.strip(",").partition(":") for word in words if ":" in word[:-1])
-        )
+        addresses = (word.strip(",").partition(":") for word in words if ":" in word[:-1])
+        self.udp, tcp = ((host, int(port)) for host, _, port in addresses)
         self.operator, self.seq, self.ts = Operator(socket.create_connection(tcp, timeout=PATIENCE)), 0, 0
         self.ask(
             "add-room 1",
