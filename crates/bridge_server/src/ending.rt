@@ -75,11 +75,7 @@ fn media_in<H: DeskBrand + Setup, R: Wait + Clock + Drop>(
 ) -> ServerMedia<H, R>
     ensures { IsSetUp H.who H.lanes H.start H.publisher result }
 {
-    let Running {
-        rounds,
-        counts: _,
-        lanes: _,
-    } = running;
+    let Running { rounds, lanes: _ } = running;
     let Rounds {
         alloc: _,
         inlet: _,

@@ -15,7 +15,7 @@ use crate::causes::{note_desk, note_end, note_round, note_start};
 use crate::ending::{close, gather, give_up};
 use crate::front::Front;
 use crate::listener::OperatorListener;
-use crate::rounds::{Running, ServerMedia};
+use crate::rounds::{LaneCounts, Running, ServerMedia};
 use crate::serving::serve;
 use crate::setup::Setup;
 use crate::sinks::{LaneSocket, counts_for, sinks_for};
@@ -34,7 +34,7 @@ use operator_desk::{DeskBrand, DeskFault, DeskNames, Log, MAX_OPERATORS, Seat, S
 use operator_threads::Operators;
 use picture_requests::PictureRequests;
 use rate_limiter::RateLimiter;
-use std::alloc::Global;
+use std::alloc::{AllocError, Global};
 use std::marker::Brand;
 use std::net::Net;
 use std::sync::Wait;
@@ -139,6 +139,30 @@ fn start_fault(fault: StartFault) -> FrontFault
     }
 }
 
+/// The memory that the front takes at its start: where it reads to, and where it counts.
+#[derive(Drop)]
+struct FrontBuffers {
+    chunk: Vec<u8>,
+    lanes: LaneCounts,
+    stats: BridgeStats,
+}
+
+/// The memory of a front of so many lanes. The only error is out of memory.
+fn buffers_for(alloc: Global, lanes: usize) -> Result<FrontBuffers, AllocError>
+    ensures { IfOk result (λ b. vec_len b.lanes.counts ≡ lanes) }
+{
+    let chunk = chunk(alloc)?;
+    let counts = counts_for(alloc, lanes)?;
+    let rows = Vec::with_capacity(alloc, lanes)?;
+    let stats = BridgeStats::new(alloc)?;
+    let lanes = LaneCounts { counts, rows };
+    Ok(FrontBuffers {
+        chunk,
+        lanes,
+        stats,
+    })
+}
+
 /// Starts the lanes, and returns the front, its waker, and where operators connect.
 fn begin<H, R>(
     rt: &R,
@@ -159,13 +183,14 @@ where
     let own = readers.pop();
     let (sockets, listener, waker, moments, settings) = sockets_of(rt, alloc, front, teller)?;
     let Sockets { inlet, wire, udp } = sockets;
-    let chunk = chunk(alloc)?;
     let watch = SystemWatch::new(rt, moments);
     let start = watch.start();
-    let counts = counts_for(alloc, readers.len())?;
-    let lanes = Vec::with_capacity(alloc, readers.len())?;
-    let stats = BridgeStats::new(alloc)?;
-    let sinks = sinks_for(alloc, &udp, &counts)?;
+    let FrontBuffers {
+        chunk,
+        lanes,
+        stats,
+    } = buffers_for(alloc, readers.len())?;
+    let sinks = sinks_for(alloc, &udp, &lanes.counts)?;
     let reports = ReportTimer::begin(settings.report_ms, start);
     let mut media = media_of(rt, alloc, readers, settings.bridge, sinks, reports, teller)?;
     media.renew();
@@ -185,11 +210,7 @@ where
         wakes: Wakes::begin(start),
         chunk,
     };
-    let running = Running {
-        rounds,
-        counts,
-        lanes,
-    };
+    let running = Running { rounds, lanes };
     Ok((running, waker, listener))
 }
 

@@ -40,16 +40,21 @@ pub(crate) type ServerRounds<H, R> = Rounds<
     SystemWatch<R>,
 >;
 
+/// What each lane has sent so far, and what not, with memory for a row of each.
+#[derive(Drop)]
+pub(crate) struct LaneCounts {
+    pub(crate) counts: Vec<Arc<SharedCounts, Global>>,
+    /// What was shown of the lanes last.
+    pub(crate) rows: Vec<LaneRow>,
+}
+
 /// The front of a bridge that runs.
 ///
 /// Contracts see the lanes as they were handed in. Nothing that a round does changes which they are, or by which name
 /// the bridge signs.
 pub(crate) struct Running<H: DeskBrand + Setup, R: Wait + Clock + Drop> {
     pub(crate) rounds: ServerRounds<H, R>,
-    /// What each lane has sent so far, and what not.
-    pub(crate) counts: Vec<Arc<SharedCounts, Global>>,
-    /// What was shown of the lanes last. It has the capacity for all.
-    pub(crate) lanes: Vec<LaneRow>,
+    pub(crate) lanes: LaneCounts,
 }
 
 /// What a lane did.
@@ -75,15 +80,14 @@ fn lane_row(lane: u32, items: u64, dropped: u64, sent: &SendCounts) -> LaneRow
 /// Writes what each lane did so far, by what each has sent. Rows for which there is no capacity are left out.
 fn show_lanes<H: DeskBrand, R: Wait + Clock + Drop>(
     media: &ServerMedia<H, R>,
-    counts: &[Arc<SharedCounts, Global>],
-    rows: &mut Vec<LaneRow>,
+    lanes: &mut LaneCounts,
 ) {
-    rows.clear();
+    lanes.rows.clear();
     for lane in 0..media.lanes() {
-        if let Some(sent) = counts.get(lane as usize) {
+        if let Some(sent) = lanes.counts.get(lane as usize) {
             let items = media.given(lane);
             let row = lane_row(lane, items, media.dropped(lane), &sent.read());
-            let _ = rows.push(row);
+            let _ = lanes.rows.push(row);
         }
     }
 }
@@ -138,9 +142,9 @@ impl<
             return;
         }
         let rounds = &self.rounds;
-        show_lanes(&rounds.media, &self.counts, &mut self.lanes);
+        show_lanes(&rounds.media, &mut self.lanes);
         let limited = rounds.media.limited();
-        desk.answer(rt, rounds.ticked, &rounds.stats, limited, &self.lanes);
+        desk.answer(rt, rounds.ticked, &rounds.stats, limited, &self.lanes.rows);
     }
 
     /// What failed last at its sockets and its clock.
