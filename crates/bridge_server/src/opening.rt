@@ -15,17 +15,16 @@ use crate::causes::{note_desk, note_end, note_round, note_start};
 use crate::ending::{close, gather, give_up};
 use crate::front::Front;
 use crate::listener::OperatorListener;
-use crate::rounds::{LaneCounts, Running, ServerMedia};
+use crate::rounds::{Running, ServerMedia, fresh_counts};
 use crate::serving::serve;
 use crate::setup::Setup;
-use crate::sinks::{LaneSocket, counts_for, sinks_for};
+use crate::sinks::{LaneSocket, sinks_for};
 use crate::sockets::{Sockets, chunk, sockets_of};
 use crate::stopped::Stopped;
 use crate::telling::Teller;
 use crate::waking::FrontWaker;
 use crate::watching::SystemWatch;
 use bridge_core::{Intake, Settings};
-use bridge_stats::BridgeStats;
 use front_rounds::{RoundStage, Rounds, Wakes};
 use lane_wire::WireSink;
 use media_front::{LaneFeed, MediaFront, pli_octets};
@@ -34,7 +33,7 @@ use operator_desk::{DeskBrand, DeskFault, DeskNames, Log, MAX_OPERATORS, Seat, S
 use operator_threads::Operators;
 use picture_requests::PictureRequests;
 use rate_limiter::RateLimiter;
-use std::alloc::{AllocError, Global};
+use std::alloc::Global;
 use std::marker::Brand;
 use std::net::Net;
 use std::sync::Wait;
@@ -139,30 +138,6 @@ fn start_fault(fault: StartFault) -> FrontFault
     }
 }
 
-/// The memory that the front takes at its start: where it reads to, and where it counts.
-#[derive(Drop)]
-struct FrontBuffers {
-    chunk: Vec<u8>,
-    lanes: LaneCounts,
-    stats: BridgeStats,
-}
-
-/// The memory of a front of so many lanes. The only error is out of memory.
-fn buffers_for(alloc: Global, lanes: usize) -> Result<FrontBuffers, AllocError>
-    ensures { IfOk result (λ b. vec_len b.lanes.counts ≡ lanes) }
-{
-    let chunk = chunk(alloc)?;
-    let counts = counts_for(alloc, lanes)?;
-    let rows = Vec::with_capacity(alloc, lanes)?;
-    let stats = BridgeStats::new(alloc)?;
-    let lanes = LaneCounts { counts, rows };
-    Ok(FrontBuffers {
-        chunk,
-        lanes,
-        stats,
-    })
-}
-
 /// Starts the lanes, and returns the front, its waker, and where operators connect.
 fn begin<H, R>(
     rt: &R,
@@ -185,11 +160,8 @@ where
     let Sockets { inlet, wire, udp } = sockets;
     let watch = SystemWatch::new(rt, moments);
     let start = watch.start();
-    let FrontBuffers {
-        chunk,
-        lanes,
-        stats,
-    } = buffers_for(alloc, readers.len())?;
+    let chunk = chunk(alloc)?;
+    let (lanes, stats) = fresh_counts(alloc, readers.len())?;
     let sinks = sinks_for(alloc, &udp, &lanes.counts)?;
     let reports = ReportTimer::begin(settings.report_ms, start);
     let mut media = media_of(rt, alloc, readers, settings.bridge, sinks, reports, teller)?;

@@ -1,22 +1,22 @@
 //! The front of a bridge that runs: its rounds over the system's sockets and clock.
 
-ghost use Rattle.std.specs.Prelude.{◌≡◌};
+ghost use Rattle.std.specs.Prelude.{◌≡◌, IfOk, vec_len};
 ghost use Rattle.bridge_server.specs.Told.{lane_row};
 
 use crate::setup::Setup;
-use crate::sinks::LaneSocket;
+use crate::sinks::{LaneSocket, counts_for};
 use crate::sockets::{FrontSocket, UdpInlet};
 use crate::stats_desk::StatsDesk;
 use crate::telling::Teller;
 use crate::watching::SystemWatch;
-use bridge_stats::LaneRow;
+use bridge_stats::{BridgeStats, LaneRow};
 use event_lines::{Cause, Event, LaneDrops};
 use front_rounds::Rounds;
 use lane_wire::{SendCounts, SharedCounts, WireSink};
 use media_front::{MediaFront, PublisherOf};
 use media_workers::SleepPace;
 use operator_desk::DeskBrand;
-use std::alloc::Global;
+use std::alloc::{AllocError, Global};
 use std::marker::Model;
 use std::sync::{Arc, Wait};
 use std::time::Clock;
@@ -46,6 +46,19 @@ pub(crate) struct LaneCounts {
     pub(crate) counts: Vec<Arc<SharedCounts, Global>>,
     /// What was shown of the lanes last.
     pub(crate) rows: Vec<LaneRow>,
+}
+
+/// Counts of so many lanes, and of the datagrams that come: nothing was counted. The only error is out of memory.
+pub(crate) fn fresh_counts(
+    alloc: Global,
+    lanes: usize,
+) -> Result<(LaneCounts, BridgeStats), AllocError>
+    ensures { IfOk result (λ r. vec_len r.0.counts ≡ lanes) }
+{
+    let counts = counts_for(alloc, lanes)?;
+    let rows = Vec::with_capacity(alloc, lanes)?;
+    let stats = BridgeStats::new(alloc)?;
+    Ok((LaneCounts { counts, rows }, stats))
 }
 
 /// The front of a bridge that runs.
