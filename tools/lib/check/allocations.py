@@ -23,7 +23,7 @@ PROGRAMS = {
 # How the names of crates begin that have no function of a library.
 NO_LIBRARY = ("worked_", "x_tests_", "x_bench_")
 
-FN = re.compile(r"(?P<vis>pub(?:\(crate\))? |)(?:const )?fn (?P<name>\w+)\s*(?:<[^(]*>)?\(")
+FN = re.compile(r"(?P<vis>pub(?:\(crate\))? |)(?:const )?fn (?P<name>\w+)\s*(?P<generics><[^(]*>)?\(")
 IMPL = re.compile(
     r"^(?:impl|pub trait|trait)\b(?:<[^{]*?>)?\s*(?:(?:\w+::)*(?P<trait>\w+)(?:<[^{]*>)? for )?(?P<owner>\w+)[^{]*\{",
     re.M,
@@ -72,6 +72,7 @@ class Function:
 
     def __init__(self, crate, owner, trait, match, text):
         self.crate, self.owner, self.trait, self.name = crate, owner, trait, match["name"]
+        self.bounds = dict(re.findall(r"(\w+): (\w+)", match["generics"] or ""))
         self.is_public = match["vis"] == "pub "
         self.is_test = "#[test]" in text[max(0, match.start() - 40) : match.start()]
         place = text.index("(", match.end() - 1)
@@ -154,7 +155,9 @@ class Sources:
 
     def locals_of(self, f):
         """The types of a function's arguments and of what it binds."""
-        known = {name: self.type_in(text) for name, text in re.findall(r"(\w+): ([^,)]+(?:<[^)]*>)?)", f.takes)}
+        known = {}
+        for name, text in re.findall(r"(\w+): ([^,)]+(?:<[^)]*>)?)", f.takes):
+            known[name] = self.type_in(text) or f.bounds.get(re.findall(r"\w+", text)[-1])
         known["self"] = f.owner
         for owner, variant, name in VARIANT.findall(f.body):
             if variant in self.fields.get(owner, {}):
