@@ -110,13 +110,19 @@ function titled(name, kind, number) {
 }
 const spoken = (name, kind, number) => (name ? `${name} ${kind} ${number}` : `${kind} ${number}`);
 
+// What stands out of how a source's packets come: a class, and words.
+function fate({ isSilent: silent, isLossy: lossy }) {
+  if (silent) return { mark: " silent", words: "no packet comes" };
+  return lossy ? { mark: " lossy", words: "over 2 percent of the packets are lost" } : { mark: "", words: null };
+}
+
 // A member's line of the overview.
 function memberRow({ model, room }) {
   const { member, name, floor, muted, odd, hasAudio, isOpen, isChosen, isHere } = model;
   const who = spoken(name, "member", member);
   const sent = model.sends.flatMap((s, place) => [place ? ", " : null,
-    el("span", { class: `source${s.muted ? " muted" : ""}${s.isSilent ? " silent" : ""}`,
-      title: s.isSilent ? "no packet comes" : null, draggable: s.kind === "video" ? "true" : null,
+    el("span", { class: `source${s.muted ? " muted" : ""}${fate(s).mark}`,
+      title: fate(s).words, draggable: s.kind === "video" ? "true" : null,
       "data-source": s.ssrc }, `${s.kind} ${labelled(s.name, s.ssrc)}`)]);
   const seenWords = model.sees.map((s) => (s.source === null ? "nothing" : s.label)).join(", ");
   return el("div", { class: `member${odd ? " odd" : ""}${isOpen ? " open" : ""}`, role: "listitem", draggable: "true",
@@ -170,10 +176,11 @@ function gainRow(member, who, { ssrc, gain, label }) {
       "data-gain": line, "aria-label": `Gain of ${label} for ${who}`, title: `${line}${gain}` }),
     sends("Reset", lines.setGain(member, ssrc, 256), `the gain of ${label} for ${who}`));
 }
-function sourceRow(room, { ssrc, kind, muted, name, isPinned, count, isSilent: silent }) {
+function sourceRow(room, source) {
+  const { ssrc, kind, muted, name, isPinned, count } = source;
   const what = `${kind} ${labelled(name, ssrc)}`;
   return el("div", { class: "row", "data-key": `source row ${ssrc}` },
-    el("span", { class: `what grow source${muted ? " muted" : ""}${silent ? " silent" : ""}`, "data-source": ssrc,
+    el("span", { class: `what grow source${muted ? " muted" : ""}${fate(source).mark}`, "data-source": ssrc,
       draggable: kind === "video" ? "true" : null }, `${kind} `, bdi(labelled(name, ssrc))),
     count ? el("span", { class: "soft counted" }, count) : "",
     muted ? sends("Unmute", lines.unmute(ssrc), what) : sends("Mute", lines.mute(ssrc), what),
@@ -527,7 +534,7 @@ async function count() {
   let next = null;
   try {
     const reply = await ask("/stats");
-    if (reply.ok) next = parseStats(await reply.text());
+    if (reply.ok) next = parseStats(await reply.text(), stats);
   } catch (error) {
     if (error instanceof SyntaxError) console.error(error);
   }
@@ -606,7 +613,7 @@ function renderRooms(changed) {
   at("fold").textContent = desk.rooms.every(isFolded) ? "Unfold all" : "Fold all";
 }
 
-const withCount = (s) => ({ ...s, isSilent: isSilent(stats, desk, s.ssrc) });
+const withCount = (s) => ({ ...s, isSilent: isSilent(stats, desk, s.ssrc), isLossy: isLossy(stats, desk, s.ssrc) });
 function memberItem(room, member, members) {
   const first = members.some((m) => m.member === here.get(room)) ? here.get(room) : members[0].member;
   const line = memberLine(desk, names, member);

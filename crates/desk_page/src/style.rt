@@ -93,6 +93,7 @@ input[type="range"] { width: 8rem; padding: 0; }
 #strangers { list-style: none; margin: 0; padding: 0; max-height: 12rem; overflow: auto; }
 #strangers li { padding: .25rem 0; border-top: 1px solid var(--line); overflow-wrap: anywhere; }
 .source.silent::after { content: " \2716"; color: var(--warn); }
+.source.lossy::after { content: " \26A0"; color: var(--warn); }
 #calls { list-style: none; margin: 0; padding: 0; max-height: 15rem; overflow: auto; }
 #calls li, #collected li { padding: .25rem 0; border-top: 1px solid var(--line); overflow-wrap: anywhere; }
 code { font: .92em ui-monospace, "DejaVu Sans Mono", monospace; }

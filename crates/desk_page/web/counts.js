@@ -8,7 +8,7 @@ async function count() {
   let next = null;
   try {
     const reply = await ask("/stats");
-    if (reply.ok) next = parseStats(await reply.text());
+    if (reply.ok) next = parseStats(await reply.text(), stats);
   } catch (error) {
     if (error instanceof SyntaxError) console.error(error);
   }

@@ -47,7 +47,7 @@ function renderRooms(changed) {
   at("fold").textContent = desk.rooms.every(isFolded) ? "Unfold all" : "Fold all";
 }
 
-const withCount = (s) => ({ ...s, isSilent: isSilent(stats, desk, s.ssrc) });
+const withCount = (s) => ({ ...s, isSilent: isSilent(stats, desk, s.ssrc), isLossy: isLossy(stats, desk, s.ssrc) });
 function memberItem(room, member, members) {
   const first = members.some((m) => m.member === here.get(room)) ? here.get(room) : members[0].member;
   const line = memberLine(desk, names, member);

@@ -59,5 +59,6 @@ if (typeof module !== "undefined") {
     memberLine, roomLine, overview, parseNames, renamed, labelled, sourceName, cut, grouped, toggled, othersMuted,
     movedAll, goesAlong, changedRooms, nameRefusal, parseDesk, isMusic, roomsFor, codecOf, seen, videosFor, heard,
     lines, dropped, free, suggested, inWords, replyInWords, noDeskInWords, parseHistory, worded, wayTo, wayWords,
-    changes, keptText, groupsIn, parseStats, agoInWords, isSilent, countOf, countInWords, turnedRooms, strangersIn };
+    changes, keptText, groupsIn, parseStats, agoInWords, isSilent, isLossy, countOf, countInWords, turnedRooms,
+    strangersIn };
 }

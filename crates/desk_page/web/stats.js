@@ -3,12 +3,21 @@
 
 // A source from which nothing has come for so long is silent, in milliseconds.
 const SILENT = 2000;
+// The share of packets that were lost, from which a source loses many.
+const LOSSY = 0.02;
 // The payload types of sound: PCMU and the two of L16 (RFC 3551).
 const SOUND_TYPES = [0, 10, 11];
 
-// The counts of sources by address and SSRC, and the senders that are no source.
-function parseStats(text) {
+// Whether a source has lost many packets since the count before. One that began anew is counted from its beginning.
+function losesMany(one, before) {
+  const since = before && before.expected <= one.expected ? before : { expected: 0, lost: 0 };
+  return one.lost - since.lost > LOSSY * (one.expected - since.expected);
+}
+
+// The counts of sources by address and SSRC, and the senders that are no source. `before` is the count before, if any.
+function parseStats(text, before = null) {
   const told = JSON.parse(text), keyed = (told.sources ?? []).map((one) => [`${one.address} ${one.ssrc}`, one]);
+  for (const [key, one] of keyed) one.isLossy = losesMany(one, before?.sources.get(key));
   return { sources: new Map(keyed), strangers: told.strangers ?? [] };
 }
 
@@ -29,15 +38,19 @@ function isSilent(stats, desk, ssrc) {
   const count = countOf(stats, desk, ssrc);
   return count !== null && (count.ago_ms === null || count.ago_ms >= SILENT);
 }
+function isLossy(stats, desk, ssrc) {
+  return countOf(stats, desk, ssrc)?.isLossy === true;
+}
 function countInWords(count) {
   if (count === null) return "";
   if (count.ago_ms === null) return "no packet came";
   return `${count.packets} packets, ${count.lost} lost, the last one ${agoInWords(count.ago_ms)}`;
 }
 
-// The rooms of the sources that fell silent or are heard again between two counts.
+// The rooms of the sources that fell silent or began to lose many packets between two counts, or ceased to.
 function turnedRooms(desk, before, after) {
-  const turned = desk.sources.filter(({ ssrc }) => isSilent(before, desk, ssrc) !== isSilent(after, desk, ssrc));
+  const turned = desk.sources.filter(({ ssrc }) => isSilent(before, desk, ssrc) !== isSilent(after, desk, ssrc) ||
+    isLossy(before, desk, ssrc) !== isLossy(after, desk, ssrc));
   return new Set(turned.map(({ member }) => memberOf(desk, member)?.room));
 }
 

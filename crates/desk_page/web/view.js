@@ -106,13 +106,19 @@ function titled(name, kind, number) {
 }
 const spoken = (name, kind, number) => (name ? `${name} ${kind} ${number}` : `${kind} ${number}`);
 
+// What stands out of how a source's packets come: a class, and words.
+function fate({ isSilent: silent, isLossy: lossy }) {
+  if (silent) return { mark: " silent", words: "no packet comes" };
+  return lossy ? { mark: " lossy", words: "over 2 percent of the packets are lost" } : { mark: "", words: null };
+}
+
 // A member's line of the overview.
 function memberRow({ model, room }) {
   const { member, name, floor, muted, odd, hasAudio, isOpen, isChosen, isHere } = model;
   const who = spoken(name, "member", member);
   const sent = model.sends.flatMap((s, place) => [place ? ", " : null,
-    el("span", { class: `source${s.muted ? " muted" : ""}${s.isSilent ? " silent" : ""}`,
-      title: s.isSilent ? "no packet comes" : null, draggable: s.kind === "video" ? "true" : null,
+    el("span", { class: `source${s.muted ? " muted" : ""}${fate(s).mark}`,
+      title: fate(s).words, draggable: s.kind === "video" ? "true" : null,
       "data-source": s.ssrc }, `${s.kind} ${labelled(s.name, s.ssrc)}`)]);
   const seenWords = model.sees.map((s) => (s.source === null ? "nothing" : s.label)).join(", ");
   return el("div", { class: `member${odd ? " odd" : ""}${isOpen ? " open" : ""}`, role: "listitem", draggable: "true",
@@ -166,10 +172,11 @@ function gainRow(member, who, { ssrc, gain, label }) {
       "data-gain": line, "aria-label": `Gain of ${label} for ${who}`, title: `${line}${gain}` }),
     sends("Reset", lines.setGain(member, ssrc, 256), `the gain of ${label} for ${who}`));
 }
-function sourceRow(room, { ssrc, kind, muted, name, isPinned, count, isSilent: silent }) {
+function sourceRow(room, source) {
+  const { ssrc, kind, muted, name, isPinned, count } = source;
   const what = `${kind} ${labelled(name, ssrc)}`;
   return el("div", { class: "row", "data-key": `source row ${ssrc}` },
-    el("span", { class: `what grow source${muted ? " muted" : ""}${silent ? " silent" : ""}`, "data-source": ssrc,
+    el("span", { class: `what grow source${muted ? " muted" : ""}${fate(source).mark}`, "data-source": ssrc,
       draggable: kind === "video" ? "true" : null }, `${kind} `, bdi(labelled(name, ssrc))),
     count ? el("span", { class: "soft counted" }, count) : "",
     muted ? sends("Unmute", lines.unmute(ssrc), what) : sends("Mute", lines.mute(ssrc), what),

@@ -233,4 +233,13 @@ same([...page.turnedRooms(desk, null, stats)], [1]);
 same([...page.turnedRooms(desk, stats, stats)], []);
 same([page.parseStats("{}").strangers, page.parseStats("{}").sources.size], [[], 0]);
 
+// A source loses many where over 2 percent were lost since the count before, or since it began anew.
+const lossOf = (expected, lost, before) => page.parseStats(JSON.stringify({
+  sources: [{ address: "127.0.0.1:6000", ssrc: 101, packets: 1, expected, lost, ago_ms: 3 }] }), before);
+const fair = lossOf(100, 2, null), many = lossOf(200, 5, fair);
+same([fair, many, lossOf(300, 5, many), lossOf(300, 8, many), lossOf(50, 1, many), lossOf(50, 2, many)]
+  .map((one) => page.isLossy(one, desk, 101)), [false, true, false, true, false, true]);
+same([[many, desk, 999], [null, desk, 101]].map((one) => page.isLossy(...one)), [false, false]);
+same([...page.turnedRooms(desk, fair, many)], [1]);
+
 console.log(`${tried} tries of the page's functions, no fault`);
