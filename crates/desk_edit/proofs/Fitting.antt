@@ -11,7 +11,7 @@ use Rattle.desk_rows.specs.declared.row.Row.TheVariants as rows
 use Rattle.desk_rows.specs.declared.key.Key.TheVariants as keys
 use Rattle.desk_rows.specs.declared.key.Kind.TheVariants as kinds
 use Rattle.desk_rows.specs.Exchange.{exchanged, fits, after}
-use Rattle.desk_rows.specs.inner.Judged.{is_sound as is_sound_row, stays_sound}
+use Rattle.desk_rows.specs.inner.judging.Judged.{is_sound as is_sound_row, stays_sound}
 use Rattle.desk_edit.proofs.Lists.{at_most, all_both, obeyed}
 
 -- what is to be shown of an edit

@@ -6,7 +6,7 @@ use Rattle.desk_edit.proofs.Words.{is_at, places_rise, take_at, put_at, can_take
 use Rattle.desk_rows.specs.declared.row.Row.TheVariants as rows
 use Rattle.desk_rows.specs.laws.PlaceLaws.{can_put_within, can_put-take_at, can_take_places}
 use Rattle.std.proofs.lemmas.List.Folds.{list_all-map}
-use Rattle.desk_rows.specs.inner.Within.{put_within}
+use Rattle.desk_rows.specs.inner.judging.Within.{put_within}
 
 -- a member changed, at its place
 abbrev pub changed_at : (MemberRow → MemberRow) → Placed → Placed

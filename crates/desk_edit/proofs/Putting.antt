@@ -19,7 +19,7 @@ use Rattle.desk_rows.specs.declared.key.Key.TheVariants as keys
 use Rattle.desk_rows.specs.declared.key.Kind.TheVariants as kinds
 use Rattle.desk_edit.specs.declared.refusal.Reason.TheVariants as reasons
 use Rattle.desk_rows.specs.Exchange.{exchanged}
-use Rattle.desk_rows.specs.inner.Judged.{is_sound as is_sound_row, stays_sound}
+use Rattle.desk_rows.specs.inner.judging.Judged.{is_sound as is_sound_row, stays_sound}
 use Rattle.desk_edit.proofs.Lists.{at_most, most, one_yes, one_no, all_both, any_none, count_alike, count_wider}
 use Rattle.desk_edit.proofs.Lists.{fewer_pass, filter_found, count_other, obeyed}
 use Rattle.desk_edit.proofs.Cases.{NoneHolds}

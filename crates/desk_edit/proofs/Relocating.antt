@@ -23,7 +23,7 @@ use Rattle.desk_rows.specs.declared.row.Row.TheVariants as rows
 use Rattle.desk_rows.specs.declared.key.Key.TheVariants as keys
 use Rattle.desk_rows.specs.declared.claim.Claim.TheVariants as claims
 use Rattle.desk_rows.specs.Exchange.{exchanged}
-use Rattle.desk_rows.specs.inner.Judged.{is_sound as is_sound_row, stays_sound}
+use Rattle.desk_rows.specs.inner.judging.Judged.{is_sound as is_sound_row, stays_sound}
 use Rattle.std.proofs.lemmas.List.Folds.{list_all-map}
 use Rattle.std.proofs.Math.Bool.{and-not_self}
 use Rattle.std.specs.Option.{option_and_then}

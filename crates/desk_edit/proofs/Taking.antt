@@ -10,7 +10,7 @@ use Rattle.desk_edit.proofs.Words.{some_count, count_some, two_alls, before_coun
 use Rattle.desk_edit.proofs.Words.{Depends, goes_with, without, placed_from, takes_all}
 use Rattle.desk_rows.specs.declared.row.Row.TheVariants as rows
 use Rattle.desk_rows.specs.Exchange.{exchanged}
-use Rattle.desk_rows.specs.inner.Judged.{stays_sound}
+use Rattle.desk_rows.specs.inner.judging.Judged.{stays_sound}
 use Rattle.desk_edit.proofs.Lists.{at_most, most, all_both, all_left, none_all, in_filter, filter_alike}
 use Rattle.desk_edit.proofs.Dependence.{key_some, only_dependent, dependent_goes}
 use Rattle.desk_edit.proofs.Placed.{picked, all_rise, taken_all, can_take_all}

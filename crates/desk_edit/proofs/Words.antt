@@ -39,9 +39,10 @@ pub use Rattle.desk_rows.specs.Desk.{room_of_found, room_at, same_room, are_toge
 pub use Rattle.desk_rows.specs.Desk.{has_few_audio, is_named_there, is_bridges, is_made_once, is_alone}
 pub use Rattle.desk_rows.specs.Desk.{is_within_limits, obeys}
 pub use Rattle.desk_rows.specs.Keyed.{IsKeyed}
-pub use Rattle.desk_rows.specs.inner.Found.{finds, is_elsewhere}
-pub use Rattle.desk_rows.specs.inner.Judged.{stay_rows, go_rows, come_rows, go_count, come_count, takes, puts}
-pub use Rattle.desk_rows.specs.inner.Judged.{keeps_names, moves, gains_audio, takes_any, is_shaken, all_come, all_stay}
+pub use Rattle.desk_rows.specs.inner.judging.Found.{finds, is_elsewhere}
+pub use Rattle.desk_rows.specs.inner.judging.Judged.{stay_rows, go_rows, come_rows, go_count, come_count, takes, puts}
+pub use Rattle.desk_rows.specs.inner.judging.Judged.{keeps_names, moves, gains_audio, takes_any, is_shaken, all_come}
+pub use Rattle.desk_rows.specs.inner.judging.Judged.{all_stay}
 pub use Rattle.desk_rows.specs.laws.Equal.{number_itself, same_key_is, key_itself, its_key, same_row_is, row_itself}
 pub use Rattle.desk_rows.specs.laws.OrderLaws.{both_ways, at_each, from_each, in_order-filter, filter_all, is_in-filter}
 pub use Rattle.desk_rows.specs.laws.PlaceLaws.{count_next}
@@ -55,7 +56,7 @@ pub use Rattle.desk_rows.proofs.Finding.{was_there, found_still}
 pub use Rattle.desk_rows.proofs.KeyedLemmas.{found_passes}
 pub use Rattle.desk_rows.proofs.KindLemmas.{plain_others, not_its, skipped}
 pub use Rattle.desk_rows.specs.laws.ListLaws.{all_pass, count_by-filter}
-pub use Rattle.desk_rows.proofs.Judging.{bridge_same, own_claims, each_claim, sound_from, plain_later, sound_good}
+pub use Rattle.desk_rows.proofs.JudgingLemmas.{bridge_same, own_claims, each_claim, sound_from, plain_later, sound_good}
 pub use Rattle.desk_rows.proofs.ExchangeLemmas.{among_others}
 pub use Rattle.desk_edit.specs.Forms.{form_of}
 pub use Rattle.desk_edit.specs.Depends.{Names, Depends, IsDependent, goes_within, goes_with, without}

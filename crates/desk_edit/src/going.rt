@@ -4,7 +4,7 @@ ghost use Rattle.std.specs.Prelude.{◌≡◌, true, ◌&&◌, ℕ, IfSome};
 ghost use Rattle.std.specs.List.{list_any};
 ghost use Rattle.desk_rows.specs.Row.{has_key};
 ghost use Rattle.desk_rows.specs.Desk.{good, rows_of};
-ghost use Rattle.desk_rows.specs.inner.Found.{finds};
+ghost use Rattle.desk_rows.specs.inner.judging.Found.{finds};
 ghost use Rattle.desk_edit.specs.Depends.{goes_within};
 ghost use Rattle.desk_edit.specs.inner.Levels.{level, can_go, is_above};
 ghost use Rattle.desk_edit.specs.Refusals.{has};

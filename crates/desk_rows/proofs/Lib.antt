@@ -3,7 +3,7 @@ pub mod Merging
 pub mod Indexed
 pub mod Halving
 pub mod Unshaken
-pub mod Judging
+pub mod JudgingLemmas
 pub mod Loops
 pub mod ExchangeLemmas
 pub mod KindLemmas

@@ -17,7 +17,7 @@ use Rattle.desk_rows.specs.laws.ListLaws.{true_false, both_ways, count_by-append
 use Rattle.desk_rows.specs.laws.ListLaws.{is_found}
 use Rattle.desk_rows.specs.laws.OrderLaws.{at_each, from_each}
 use Rattle.desk_rows.proofs.Finding.{order_once, keyed_good, before, later, came}
-use Rattle.desk_rows.proofs.Judging.{each_row, sound_parts, sound_from, plain_later, sound_good, good_sound}
+use Rattle.desk_rows.proofs.JudgingLemmas.{each_row, sound_parts, sound_from, plain_later, sound_good, good_sound}
 
 -- rows of one key are of one kind
 no_key : (key : Key) (r : Row) (rs : List Row) → has_key key r ≡ true → is_of kinds.Member r ≡ true

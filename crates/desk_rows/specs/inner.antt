@@ -1,10 +1,3 @@
-pub mod Index
-pub mod Judged
-pub mod Tests
 pub mod Listed
-pub mod Found
-pub mod Parting
-pub mod Grouped
-pub mod Addressed
-pub mod Roomed
-pub mod Within
+pub mod tables
+pub mod judging

@@ -7,7 +7,7 @@ ghost use Rattle.desk_rows.specs.laws.Laws.{inverse_fits, undoes, stays};
 
 use crate::borrowed::EditLists;
 use crate::edit::Edit;
-use crate::exchange::fits;
+use crate::judging::exchange::fits;
 use crate::rows::Rows;
 use std::alloc::{AllocError, Allocator};
 use undo_log::Reversible;

@@ -17,33 +17,28 @@
 //! `absorb`, `part`, `edit` and `find` of worked_desk are these calls, with their answers proved.
 #![tactic(auto)]
 
-mod absorbing;
-mod addressing;
-mod borrowed;
-mod changes;
+// What a row is: its key, its values, and what it shares with no other row.
 mod claim;
 mod comparing;
-mod counting;
-mod edit;
-mod exchange;
 mod few;
-mod following;
-mod grouping;
-mod index;
 mod key;
 mod limits;
-mod looking;
-mod moving;
-mod ordering;
-mod overlay;
-mod places;
 mod row;
-mod rows;
-mod searching;
-mod sliding;
-mod staying;
-mod sweeping;
 mod values;
+
+// Lists of rows in order, and edits of them.
+mod borrowed;
+mod edit;
+mod ordering;
+
+// The desk: its rows, look-ups of them, and edits that it absorbs.
+mod absorbing;
+mod looking;
+mod rows;
+
+// How it keeps its rows, and how it judges an edit.
+mod judging;
+mod tables;
 
 pub use self::claim::Claim;
 pub use self::edit::{Edit, Part, Placed, Replaced};

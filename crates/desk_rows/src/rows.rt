@@ -5,23 +5,23 @@ ghost use Rattle.std.specs.List.Sorted.{IsNonDecreasingBy};
 ghost use Rattle.desk_rows.specs.Kinds.{is_of};
 ghost use Rattle.desk_rows.specs.Naming.{members_in, subs_naming, slots_naming, gains_naming};
 ghost use Rattle.desk_rows.specs.Order.{in_order};
-ghost use Rattle.desk_rows.specs.inner.Index.{IsIndex};
+ghost use Rattle.desk_rows.specs.inner.tables.Index.{IsIndex};
 ghost use Rattle.desk_rows.specs.Places.{place_in};
 ghost use Rattle.desk_rows.specs.Desk.{blank, good, holds, row_at, rows_of_kind, count_of, roster, member_at_address};
 ghost use Rattle.desk_rows.specs.Exchange.{fits, after};
 
-use crate::addressing::find_at;
 use crate::borrowed::EditLists;
-use crate::following::follow;
-use crate::grouping::group_of;
-use crate::index::{IndexEntry, entry_of};
 use crate::key::{Key, Kind};
 use crate::limits::{MAX_MEMBERS, MAX_OTHERS, MAX_SLOTS};
 use crate::looking::Look;
-use crate::moving::{exchange_members, exchange_rows};
 use crate::ordering::{gains_of, rows_of_kind};
 use crate::row::{Member, Row, Slot, Sub};
-use crate::searching::{is_among, member_row, numbers_in, other_row, row_with};
+use crate::tables::addressing::find_at;
+use crate::tables::following::follow;
+use crate::tables::grouping::group_of;
+use crate::tables::index::{IndexEntry, entry_of};
+use crate::tables::moving::{exchange_members, exchange_rows};
+use crate::tables::searching::{is_among, member_row, numbers_in, other_row, row_with};
 use rtp_codec::Address;
 use std::alloc::{AllocError, Allocator, Global};
 use std::marker::Model;
@@ -55,10 +55,10 @@ impl<A: Allocator + Copy> Model for Rows<A> {
     ghost use Rattle.desk_rows.specs.Desk.{Desk, good};
     ghost use Rattle.desk_rows.specs.Naming.{slot_in, sub_in};
     ghost use Rattle.desk_rows.specs.inner.Listed.{desk_of};
-    ghost use Rattle.desk_rows.specs.inner.Index.{IsIndex};
-    ghost use Rattle.desk_rows.specs.inner.Grouped.{IsTableOf};
-    ghost use Rattle.desk_rows.specs.inner.Addressed.{IsByAddress};
-    ghost use Rattle.desk_rows.specs.inner.Roomed.{IsByRoom};
+    ghost use Rattle.desk_rows.specs.inner.tables.Index.{IsIndex};
+    ghost use Rattle.desk_rows.specs.inner.tables.Grouped.{IsTableOf};
+    ghost use Rattle.desk_rows.specs.inner.tables.Addressed.{IsByAddress};
+    ghost use Rattle.desk_rows.specs.inner.tables.Roomed.{IsByRoom};
 
     ghost Value = { Desk };
 

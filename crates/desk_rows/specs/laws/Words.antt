@@ -39,9 +39,9 @@ pub use Rattle.std.specs.Prelude.{count_by, Contains, IfSome, IfNone}
 pub use Rattle.std.specs.Str.{bytes_eq}
 pub use borrow.Author.Tests.{eq-eqb}
 pub use Rattle.desk_rows.specs.declared.claim.Claim.{Claim}
-pub use Rattle.desk_rows.specs.declared.counting.Test.TheVariants.{Makes}
+pub use Rattle.desk_rows.specs.declared.judging.counting.Test.TheVariants.{Makes}
 pub use Rattle.desk_rows.specs.declared.edit.Placed.{Placed}
-pub use Rattle.desk_rows.specs.declared.index.IndexEntry.{IndexEntry}
+pub use Rattle.desk_rows.specs.declared.tables.index.IndexEntry.{IndexEntry}
 pub use Rattle.desk_rows.specs.declared.row.Codec.{Codec}
 pub use Rattle.desk_rows.specs.declared.key.Key.{Key}
 pub use Rattle.desk_rows.specs.declared.key.Kind.{Kind}
@@ -72,16 +72,17 @@ pub use Rattle.desk_rows.specs.Row.{same_row, has_key, rank, kind_of, own_number
 pub use Rattle.desk_rows.specs.Row.{same_key, makes, same_claim, other_claims, claims_of, names, same_media, Want}
 pub use Rattle.desk_rows.specs.Row.{suits, is_in_range, claim_numbers}
 pub use Rattle.desk_rows.specs.Values.{row_values, row_with, codec_number, media_number, same_value, same_values}
-pub use Rattle.desk_rows.specs.inner.Addressed.{ip_and_port, address_cmp, IsByAddress}
-pub use Rattle.desk_rows.specs.inner.Found.{finds, is_elsewhere}
-pub use Rattle.desk_rows.specs.inner.Grouped.{stand_by, in_turn, passes_if, passes_in, IsTableOf}
-pub use Rattle.desk_rows.specs.inner.Index.{entries_from, entry_in, IsIndex}
-pub use Rattle.desk_rows.specs.inner.Judged.{listed_rows, change_rows, come_rows, takes, puts, stay_rows, stay_count}
-pub use Rattle.desk_rows.specs.inner.Judged.{go_count, come_count, all_come, all_stay, go_rows, keeps_names, moves}
-pub use Rattle.desk_rows.specs.inner.Judged.{is_shaken, is_free, comes_once, HasOrders}
-unfoldable pub use Rattle.desk_rows.specs.inner.Judged.{is_sound, stays_sound, keys_are_new, is_sound_beside, judged}
+pub use Rattle.desk_rows.specs.inner.tables.Addressed.{ip_and_port, address_cmp, IsByAddress}
+pub use Rattle.desk_rows.specs.inner.judging.Found.{finds, is_elsewhere}
+pub use Rattle.desk_rows.specs.inner.tables.Grouped.{stand_by, in_turn, passes_if, passes_in, IsTableOf}
+pub use Rattle.desk_rows.specs.inner.tables.Index.{entries_from, entry_in, IsIndex}
+pub use Rattle.desk_rows.specs.inner.judging.Judged.{listed_rows, change_rows, come_rows, takes, puts, stay_rows}
+pub use Rattle.desk_rows.specs.inner.judging.Judged.{stay_count, go_count, come_count, all_come, all_stay, go_rows}
+pub use Rattle.desk_rows.specs.inner.judging.Judged.{keeps_names, moves, is_shaken, is_free, comes_once, HasOrders}
+unfoldable pub use Rattle.desk_rows.specs.inner.judging.Judged.{is_sound, stays_sound, keys_are_new, is_sound_beside}
+unfoldable pub use Rattle.desk_rows.specs.inner.judging.Judged.{judged}
 pub use Rattle.desk_rows.specs.inner.Listed.{desk_of}
-pub use Rattle.desk_rows.specs.inner.Parting.{Parts, is_found_as}
-pub use Rattle.desk_rows.specs.inner.Roomed.{IsByRoom}
-pub use Rattle.desk_rows.specs.inner.Tests.{passes}
-pub use Rattle.desk_rows.specs.inner.Within.{put_within}
+pub use Rattle.desk_rows.specs.inner.tables.Parting.{Parts, is_found_as}
+pub use Rattle.desk_rows.specs.inner.tables.Roomed.{IsByRoom}
+pub use Rattle.desk_rows.specs.inner.judging.Tests.{passes}
+pub use Rattle.desk_rows.specs.inner.judging.Within.{put_within}

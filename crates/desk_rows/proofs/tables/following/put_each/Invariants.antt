@@ -1,0 +1,18 @@
+-- The table is in order, what was put with what is left to put makes the whole, and the capacity suffices for that.
+use Rattle.std.specs.Prelude.{◌≡◌, ◌+◌, ◌≤◌}
+use Rattle.desk_rows.specs.laws.Words.{Bool, true, length, vec_len, vec_capacity, count_by, stand_by, in_turn}
+use Rattle.desk_rows.specs.laws.Words.{passes_in}
+use Rattle.desk_rows.proofs.tables.following.put_each.Given as goal
+
+abbrev pub invariant-loop-row : goal.invariant-loop-row
+invariant-loop-row g l = record {
+  order : stand_by (in_turn g.T.Grouped.group g.T.Grouped.turn) l.table.items ≡ true;
+  put : (p : g.row.T.Denot → Bool)
+      → count_by p l.table.items + count_by (passes_in g.T.Grouped.in_row p) l.rest
+      ≡ count_by p l.fn.table.items + count_by (passes_in g.T.Grouped.in_row p) l.rows;
+  fits : vec_len l.table + count_by (passes_in g.T.Grouped.in_row (λ x. true)) l.rest ≤ vec_capacity l.table;
+  capacity : vec_capacity l.fn.table ≤ vec_capacity l.table;
+}
+
+abbrev pub decreases-loop-row : goal.decreases-loop-row
+decreases-loop-row g l = length l.rest

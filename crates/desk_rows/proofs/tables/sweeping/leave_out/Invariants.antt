@@ -1,0 +1,16 @@
+-- What is there and what is left of the rows that stay make the whole, in the capacity that there was.
+use Rattle.std.specs.Prelude.{◌≡◌, ◌+◌, ◌≤◌, ◌++◌}
+use Rattle.desk_rows.specs.laws.Words.{true, length, vec_len, vec_capacity, in_order, without_rows}
+use Rattle.desk_rows.proofs.tables.sweeping.leave_out.Given as goal
+
+abbrev pub invariant-loop-first : goal.invariant-loop-first
+invariant-loop-first g l = record {
+  so_far : l.out.items ++ without_rows l.left l.rest ≡ l.fn.out.items ++ without_rows l.fn.taken l.fn.rows;
+  rows : in_order l.rest ≡ true;
+  taken : in_order l.left ≡ true;
+  fits : vec_len l.out + length l.rest ≤ vec_capacity l.out;
+  capacity : vec_capacity l.fn.out ≤ vec_capacity l.out;
+}
+
+abbrev pub decreases-loop-first : goal.decreases-loop-first
+decreases-loop-first g l = length l.left

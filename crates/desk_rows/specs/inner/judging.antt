@@ -1,0 +1,4 @@
+pub mod Found
+pub mod Judged
+pub mod Tests
+pub mod Within

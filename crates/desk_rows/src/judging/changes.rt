@@ -1,0 +1,85 @@
+//! Finds what an edit takes and puts, by key.
+
+ghost use Rattle.std.specs.Prelude.{◌≡◌, ◌<◌, ◌^◌, true, map};
+ghost use Rattle.std.specs.List.{find};
+ghost use Rattle.desk_rows.specs.declared.row.Row.TheVariants.{Member as MemberRow};
+ghost use Rattle.desk_rows.specs.Row.{has_key};
+ghost use Rattle.desk_rows.specs.Order.{in_order};
+ghost use Rattle.desk_rows.specs.inner.judging.Tests.{passes};
+ghost use Rattle.desk_rows.specs.inner.judging.Judged.{listed_rows, takes, coming, go_count, come_count};
+
+use crate::edit::{Edit, Placed};
+use crate::judging::counting::{Test, count_placed, count_rows};
+use crate::key::Key;
+use crate::ordering::find_row;
+use crate::row::Row;
+use std::alloc::Allocator;
+
+impl<A: Allocator + Copy> Edit<A> {
+    /// Whether it takes a row with this key.
+    #[tactic(auto, using(crate::proofs::ChangeLemmas::takes_is))]
+    pub(crate) fn takes(&self, key: Key) -> bool
+        requires taken { in_order self.now.taken.others ≡ true }
+        requires old { in_order self.now.replaced.old ≡ true }
+        ensures { result ≡ takes self.now key }
+    {
+        find_change(self.taken_members(), self.taken_others(), self.old(), key).is_some()
+    }
+
+    /// The row with this key that it puts.
+    pub(crate) fn coming(&self, key: Key) -> Option<Row>
+        requires put { in_order self.now.put.others ≡ true }
+        requires new { in_order self.now.replaced.new ≡ true }
+        ensures { result ≡ coming self.now key }
+    {
+        find_change(self.put_members(), self.put_others(), self.new(), key)
+    }
+
+    /// The number of rows that come and pass the test.
+    #[tactic(auto, using(crate::proofs::Counts::two_counts, crate::proofs::Counts::count_of_both))]
+    pub(crate) fn count_coming(&self, test: &Test) -> usize
+        ensures count { result ≡ come_count (passes test.now) self.now }
+        ensures few { result < 2 ^ 62 }
+    {
+        count_placed(self.put_members(), test)
+            + (count_rows(self.put_others(), test) + count_rows(self.new(), test))
+    }
+
+    /// The number of rows that go and pass the test.
+    #[tactic(auto, using(crate::proofs::Counts::two_counts, crate::proofs::Counts::count_of_both))]
+    pub(crate) fn count_going(&self, test: &Test) -> usize
+        ensures count { result ≡ go_count (passes test.now) self.now }
+        ensures few { result < 2 ^ 62 }
+    {
+        count_placed(self.taken_members(), test)
+            + (count_rows(self.taken_others(), test) + count_rows(self.old(), test))
+    }
+}
+
+/// The member row with this key.
+fn find_placed(placed: &[Placed], key: Key) -> Option<Row>
+    ensures { result ≡ find (has_key key) (map (λ p. MemberRow p.row) placed.now) }
+{
+    match key {
+        Key::Member(_) => placed
+            .iter()
+            .map(|one| Row::Member(one.row))
+            .find(|row| row.has_key(key)),
+        _ => None,
+    }
+}
+
+/// The row with this key, a member or among two lists of other rows.
+fn find_change(placed: &[Placed], rows: &[Row], more: &[Row], key: Key) -> Option<Row>
+    requires rows { in_order rows.now ≡ true }
+    requires more { in_order more.now ≡ true }
+    ensures { result ≡ find (has_key key) (listed_rows placed.now rows.now more.now) }
+{
+    if let Some(row) = find_placed(placed, key) {
+        return Some(row);
+    }
+    if let Some(row) = find_row(rows, key) {
+        return Some(row);
+    }
+    find_row(more, key)
+}
