@@ -7,6 +7,7 @@ pub mod Kinds
 pub mod Order
 pub mod Places
 pub mod Desk
+pub mod Getters
 pub mod Edit
 pub mod Keyed
 pub mod Naming

@@ -1,27 +1,13 @@
 -- Rows of one kind by the row that they name.
-use Rattle.std.specs.Prelude.{ℕ, Bool, false, List, filter, nat_eq, Option, None, Some}
+use Rattle.std.specs.Prelude.{ℕ, Bool, false, List, filter, nat_eq}
 use Rattle.std.specs.List.{filter_map}
 use Rattle.desk_rows.specs.declared.row.Row.{Row}
 use Rattle.desk_rows.specs.declared.row.Member.{Member as MemberRow}
-use Rattle.desk_rows.specs.declared.row.Row.TheVariants.{Member, Slot, Sub, Gain}
+use Rattle.desk_rows.specs.declared.row.Row.TheVariants.{Gain}
 use Rattle.desk_rows.specs.declared.row.Slot.{Slot as SlotRow}
 use Rattle.desk_rows.specs.declared.row.Sub.{Sub as SubRow}
 use Rattle.desk_rows.specs.Desk.{Desk}
-
--- the member in a row
-abbrev pub member_in : Row → Option MemberRow
-member_in (Member m) = Some m
-member_in _ = None
-
--- the slot in a row
-abbrev pub slot_in : Row → Option SlotRow
-slot_in (Slot s) = Some s
-slot_in _ = None
-
--- the subscription in a row
-abbrev pub sub_in : Row → Option SubRow
-sub_in (Sub s) = Some s
-sub_in _ = None
+use Rattle.desk_rows.specs.Getters.{slot_in, sub_in}
 
 -- the members of this room, by place
 abbrev pub members_in : Desk → ℕ → List MemberRow

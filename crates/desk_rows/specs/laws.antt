@@ -4,6 +4,7 @@ pub mod PlaceLaws
 pub mod OrderLaws
 pub mod Laws
 pub mod NamingLaws
+pub mod GetterLaws
 pub mod PlacesOnce
 pub mod AddressesOnce
 pub mod Words

@@ -33,6 +33,7 @@ mod ordering;
 
 // The desk: its rows, look-ups of them, and edits that it absorbs.
 mod absorbing;
+mod getters;
 mod looking;
 mod rows;
 

@@ -53,7 +53,7 @@ impl<A: Allocator + Copy> Model for Rows<A> {
     ghost use Rattle.std.specs.Prelude.{◌≡◌, ◌≤◌, true, vec_capacity};
     ghost use Rattle.desk_rows.specs.declared.limits.TheConstants.{MAX_MEMBERS, MAX_SLOTS, MAX_OTHERS};
     ghost use Rattle.desk_rows.specs.Desk.{Desk, good};
-    ghost use Rattle.desk_rows.specs.Naming.{slot_in, sub_in};
+    ghost use Rattle.desk_rows.specs.Getters.{slot_in, sub_in};
     ghost use Rattle.desk_rows.specs.inner.Listed.{desk_of};
     ghost use Rattle.desk_rows.specs.inner.tables.Index.{IsIndex};
     ghost use Rattle.desk_rows.specs.inner.tables.Grouped.{IsTableOf};

@@ -4,7 +4,7 @@ ghost use Rattle.std.specs.Prelude.{◌≡◌, ◌++◌, true, List, map, filter
 ghost use Rattle.std.specs.List.{AllByRecursion};
 ghost use Rattle.rtcp_codec.specs.Report.{FitsLost};
 ghost use Rattle.desk_rows.specs.Desk.{good};
-ghost use Rattle.topology.specs.Looking.{source_in};
+ghost use Rattle.desk_rows.specs.Getters.{source_in};
 ghost use Rattle.topology.specs.Choice.{sources_of};
 ghost use Rattle.intake.specs.Ingested.{datagram_of};
 ghost use Rattle.intake.specs.Sources.{Known as KnownOf};
@@ -21,21 +21,11 @@ use std::alloc::{AllocError, Allocator};
 use topology::member_at;
 use upward::receiver_report;
 
-/// The source in a row.
-fn source_in(row: &Row) -> Option<Source>
-    ensures { result ≡ source_in row.now }
-{
-    match row {
-        Row::Source(source) => Some(*source),
-        _ => None,
-    }
-}
-
 /// The sources in these rows, in their order.
 fn sources_in<A: Allocator>(alloc: A, these: &[Row]) -> Result<Vec<Source, A>, AllocError>
     ensures { IfOk result (λ v. v.items ≡ filter_map source_in these.now) }
 {
-    these.iter().filter_map(|row| source_in(row)).collect(alloc)
+    these.iter().filter_map(|row| row.as_source()).collect(alloc)
 }
 
 /// The sources of the desk, by SSRC.

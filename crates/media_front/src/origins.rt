@@ -26,8 +26,6 @@ fn video_origin(rows: &Rows, source: &Source) -> Option<(Address, u32)>
 pub(crate) fn origin_in(rows: &Rows, row: &Row) -> Option<(Address, u32)>
     ensures { option_map origin_of result ≡ origin_in rows.now row.now }
 {
-    match row {
-        Row::Source(source) => video_origin(rows, source),
-        _ => None,
-    }
+    let source = row.as_source()?;
+    video_origin(rows, &source)
 }

@@ -9,7 +9,7 @@ use Rattle.desk_rows.specs.declared.row.Row.TheVariants.{Room, Member, Source, S
 use Rattle.desk_rows.specs.declared.row.Slot.{Slot as SlotRow}
 use Rattle.desk_rows.specs.declared.key.Kind.TheVariants as kinds
 use Rattle.desk_rows.specs.Kinds.{is_of}
-use Rattle.desk_rows.specs.Naming.{slot_in}
+use Rattle.desk_rows.specs.Getters.{slot_in}
 use Rattle.desk_rows.specs.Desk.{Desk}
 use Rattle.topology.specs.Looking.{slot_at}
 use Rattle.topology.specs.Choice.{chosen}

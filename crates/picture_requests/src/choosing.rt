@@ -2,7 +2,7 @@
 
 ghost use Rattle.std.specs.Prelude.{◌≡◌, IfOk, option_and_then};
 ghost use Rattle.std.specs.List.{filter_map};
-ghost use Rattle.desk_rows.specs.Naming.{slot_in};
+ghost use Rattle.desk_rows.specs.Getters.{slot_in};
 ghost use Rattle.picture_requests.specs.Choices.{chosen_source, choices_of, slot_choice};
 
 use crate::source::VideoSource;
@@ -32,16 +32,12 @@ fn chosen_source<A: Allocator + Copy>(rows: &Rows<A>, out_ssrc: u32) -> Option<V
 fn choice_in<A: Allocator + Copy>(rows: &Rows<A>, row: &Row) -> Option<SlotChoice>
     ensures { result ≡ option_and_then (slot_choice rows.now) (slot_in row.now) }
 {
-    match row {
-        Row::Slot(slot) => {
-            let source = chosen_source(rows, slot.out_ssrc)?;
-            Some(SlotChoice {
-                out_ssrc: slot.out_ssrc,
-                source,
-            })
-        }
-        _ => None,
-    }
+    let slot = row.as_slot()?;
+    let source = chosen_source(rows, slot.out_ssrc)?;
+    Some(SlotChoice {
+        out_ssrc: slot.out_ssrc,
+        source,
+    })
 }
 
 /// The choices of the slots in these rows.

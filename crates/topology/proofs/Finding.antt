@@ -1,10 +1,16 @@
 -- Elements found by their keys, by tests and in groups.
 use Rattle.std.proofs.Common.{◌≡◌, ℕ, ◌+◌, ◌<◌, ◌≤◌, Bool, true, false, cond, nat_eq, zero, suc, List, [], ◌∷◌, ◌++◌}
 use Rattle.std.proofs.Common.{Option, None, Some, refl, sym, ap, subst, ◌∙◌, arith, eqb-true}
-use Rattle.std.specs.Prelude.{filter}
+use Rattle.std.specs.Prelude.{filter, option_map}
 use Rattle.std.specs.List.{find, flat_map, range_with_len, AllByRecursion}
 use Rattle.std.proofs.lemmas.Bool.Decides.{nat_tests}
 use Rattle.topology.proofs.Distinct.{at, Distinct, past, from_past, at-filter}
+
+-- of which it is given
+pub given_by : {X Y : Type 0} (f : X → Y) (o : Option X) (y : Y) → option_map f o ≡ Some y
+    → (x : X) × (o ≡ Some x) × (f x ≡ y)
+given_by f None y h = absurd (cc)
+given_by f (Some x) y h = (x, refl, cc)
 
 -- what is found has the key
 pub found_key : {X : Type 0} (key : X → ℕ) (k : ℕ) (x : X) (xs : List X) → at key k xs ≡ Some x → key x ≡ k

@@ -1,12 +1,12 @@
 -- What a good desk tells of its rows.
 use Rattle.std.proofs.Common.{◌≡◌, ℕ, ◌+◌, ◌<◌, Bool, true, false, cond, not, ◌&&◌, ◌||◌, nat_eq, nat_le, List, [], ◌∷◌}
-use Rattle.std.proofs.Common.{◌++◌, map, Option, None, Some, refl, sym, ap, ◌∙◌, arith, append_assoc, eqb-true}
-use Rattle.std.specs.Prelude.{count_by, option_and_then}
+use Rattle.std.proofs.Common.{◌++◌, map, None, Some, refl, sym, ap, ◌∙◌, arith, append_assoc, eqb-true}
+use Rattle.std.specs.Prelude.{count_by, option_map, option_and_then}
 use Rattle.std.specs.List.{find, list_any, list_all, AllByRecursion}
 use Rattle.std.proofs.lemmas.Bool.{and_parts}
 use Rattle.std.proofs.lemmas.Bool.Decides.{nat_tests}
 use Rattle.desk_rows.specs.declared.row.Row.{Row}
-use Rattle.desk_rows.specs.declared.row.Row.TheVariants.{Room, Member, Source, Slot, Sub, Mute, Gain, Pin, Floor}
+use Rattle.desk_rows.specs.declared.row.Row.TheVariants.{Member, Source, Slot, Sub}
 use Rattle.desk_rows.specs.declared.row.Member.{Member as MemberRow}
 use Rattle.desk_rows.specs.declared.row.Slot.{Slot as SlotRow}
 use Rattle.desk_rows.specs.declared.key.Key.{Key}
@@ -20,8 +20,8 @@ use Rattle.desk_rows.specs.laws.PlaceLaws.{count_next}
 use Rattle.desk_rows.specs.laws.Laws.{claims_key, count_by-append, good_parts, good_order}
 use Rattle.desk_rows.specs.Desk.{Desk, good, is_alone, is_named_there, rows_of, row_at, are_together, all_suit}
 use Rattle.desk_rows.specs.Desk.{has_few_audio, obeys}
-use Rattle.desk_rows.specs.Naming.{member_in, slot_in, sub_in}
-use Rattle.topology.specs.Looking.{source_in, member_at}
+use Rattle.desk_rows.specs.Getters.{member_in, source_in, slot_in, sub_in, member_at}
+use Rattle.desk_rows.specs.laws.GetterLaws.{member_with, under_slot}
 use Rattle.topology.specs.Choice.{sources_of}
 use Rattle.topology.specs.Receivers.{slots_of}
 use Rattle.topology.proofs.Distinct.{at, Distinct, from_past}
@@ -137,27 +137,12 @@ found_any key (x ∷ rs) h = by (has_key key x) h (found_any key rs)
     by true h later = (x, refl)
     by false h later = later h
 
-its_member_row : (k : ℕ) (r : Row) → has_key (keys.Member k) r ≡ true → (m : MemberRow) × (r ≡ Member m)
-its_member_row k (Member m) e = (m, refl)
-its_member_row k (Room r) e = absurd (cc)
-its_member_row k (Source r) e = absurd (cc)
-its_member_row k (Slot r) e = absurd (cc)
-its_member_row k (Sub r) e = absurd (cc)
-its_member_row k (Mute r) e = absurd (cc)
-its_member_row k (Gain r) e = absurd (cc)
-its_member_row k (Pin r) e = absurd (cc)
-its_member_row k (Floor r) e = absurd (cc)
-
 -- ---- slots
 
 -- the row of a slot that is found
 found_slot : (d : Desk) (k : ℕ) (s : SlotRow) → at slot_ssrc k (slots_of d) ≡ Some s
     → row_at d (keys.Slot k) ≡ Some (Slot s)
-found_slot d k s h = by (row_at d (keys.Slot k)) refl (slot_row d k ∙ h)
-  where
-    by : (o : Option Row) → row_at d (keys.Slot k) ≡ o → option_and_then slot_in o ≡ Some s → o ≡ Some (Slot s)
-    by None e f = absurd (cc)
-    by (Some r) e f = ap Some (its_slot r s f)
+found_slot d k s h = under_slot d k ∙ ap (option_map Slot) (slot_row d k ∙ h)
 
 -- a slot of a good desk has an index under 16
 pub index_few : (d : Desk) (k : ℕ) (s : SlotRow) → good d ≡ true → at slot_ssrc k (slots_of d) ≡ Some s → s.index < 16
@@ -185,5 +170,5 @@ its_member d k s h found =
     (and_parts (list_any (has_key (keys.Member s.member)) (rows_of d)) true named).0 in
     let key =
     (of_found (is_named_there d) (keys.Member s.member) there.0 (rows_of d) (good_parts d h).named there.1).1 in
-    let is = its_member_row s.member there.0 key in
+    let is = member_with s.member there.0 key in
     (is.0, ap (option_and_then member_in) (there.1 ∙ ap Some is.1))

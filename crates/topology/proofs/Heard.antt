@@ -5,7 +5,7 @@ use Rattle.std.specs.Prelude.{filter, option_and_then}
 use Rattle.std.specs.Option.{is_some}
 use Rattle.std.specs.List.{All, find, filter_map, cons_option, flat_map}
 use Rattle.desk_rows.specs.declared.row.Row.{Row}
-use Rattle.desk_rows.specs.declared.row.Row.TheVariants.{Room, Member, Source, Slot, Sub, Mute, Gain, Pin, Floor}
+use Rattle.desk_rows.specs.declared.row.Row.TheVariants.{Source, Mute}
 use Rattle.desk_rows.specs.declared.row.Member.{Member as MemberRow}
 use Rattle.desk_rows.specs.declared.row.Source.{Source as SourceRow}
 use Rattle.desk_rows.specs.declared.row.Media.TheVariants.{Audio}
@@ -53,14 +53,7 @@ is_heard d s = same_media s.media Audio && not (is_muted d s.ssrc)
 -- the rows of mutes tell who is muted
 mute_kind : (k : ℕ) (r : Row) → has_key (keys.Mute k) r ≡ true → is_of kinds.Mute r ≡ true
 mute_kind k (Mute r) e = refl
-mute_kind k (Room r) e = absurd (cc)
-mute_kind k (Member r) e = absurd (cc)
-mute_kind k (Source r) e = absurd (cc)
-mute_kind k (Slot r) e = absurd (cc)
-mute_kind k (Sub r) e = absurd (cc)
-mute_kind k (Gain r) e = absurd (cc)
-mute_kind k (Pin r) e = absurd (cc)
-mute_kind k (Floor r) e = absurd (cc)
+mute_kind k _ e = absurd (cc)
 
 abbrev pub mutes_of : Desk → List Row
 mutes_of d = filter (is_of kinds.Mute) d.others

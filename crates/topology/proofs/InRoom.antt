@@ -5,8 +5,7 @@ use Rattle.std.specs.Prelude.{option_map, option_and_then}
 use Rattle.std.specs.Option.{option_or}
 use Rattle.std.specs.List.{list_all}
 use Rattle.std.proofs.lemmas.Bool.{and_parts}
-use Rattle.desk_rows.specs.declared.row.Row.{Row}
-use Rattle.desk_rows.specs.declared.row.Row.TheVariants.{Room, Member, Source, Slot, Sub, Mute, Gain, Pin, Floor}
+use Rattle.desk_rows.specs.declared.row.Row.TheVariants.{Sub}
 use Rattle.desk_rows.specs.declared.row.Source.{Source as SourceRow}
 use Rattle.desk_rows.specs.declared.row.Slot.{Slot as SlotRow}
 use Rattle.desk_rows.specs.declared.row.Sub.{Sub as SubRow}
@@ -18,11 +17,12 @@ use Rattle.desk_rows.specs.laws.Equal.{number_itself}
 use Rattle.desk_rows.specs.laws.Laws.{good_parts}
 use Rattle.desk_rows.specs.Desk.{Desk, good, rows_of, row_at, room_at, same_room, are_together, all_suit, has_few_audio}
 use Rattle.desk_rows.specs.Desk.{obeys}
-use Rattle.desk_rows.specs.Naming.{sub_in}
-use Rattle.topology.specs.Looking.{source_at, slot_at, subscribed, is_muted, is_this, sender_of, room_of_member}
+use Rattle.desk_rows.specs.Getters.{source_at, slot_at, sub_at}
+use Rattle.desk_rows.specs.laws.GetterLaws.{under_sub}
+use Rattle.topology.specs.Looking.{subscribed, is_muted, is_this, sender_of, room_of_member}
 use Rattle.topology.specs.Looking.{room_of_source}
 use Rattle.topology.specs.Choice.{shown, shown_on, wanted, are_in_one_room, is_barred, unless_barred, chosen, choice}
-use Rattle.topology.proofs.Finding.{found_key}
+use Rattle.topology.proofs.Finding.{given_by, found_key}
 use Rattle.topology.proofs.KindRows.{slot_ssrc, slot_row}
 use Rattle.topology.proofs.GoodRows.{of_found}
 use Rattle.topology.proofs.RoomsOf.{room_at_source, room_at_slot}
@@ -82,19 +82,6 @@ record Meets (d : Desk) (k source : ℕ) : Type 0 where
   video : option_map (λ (s : SourceRow). s.media) (source_at d source) ≡ Some Video
   together : same_room (room_at d (keys.Source source)) (room_at d (keys.Slot k)) ≡ true
 
-sub_found : (o : Option Row) (source : ℕ) → option_map (λ s. s.source) (option_and_then sub_in o) ≡ Some source
-    → (s : SubRow) × (o ≡ Some (Sub s)) × (s.source ≡ source)
-sub_found None source h = absurd (cc)
-sub_found (Some (Sub s)) source h = (s, refl, cc)
-sub_found (Some (Room r)) source h = absurd (cc)
-sub_found (Some (Member r)) source h = absurd (cc)
-sub_found (Some (Source r)) source h = absurd (cc)
-sub_found (Some (Slot r)) source h = absurd (cc)
-sub_found (Some (Mute r)) source h = absurd (cc)
-sub_found (Some (Gain r)) source h = absurd (cc)
-sub_found (Some (Pin r)) source h = absurd (cc)
-sub_found (Some (Floor r)) source h = absurd (cc)
-
 -- both are in a room
 in_one : (a b : Option ℕ) → same_room a b ≡ true → (room : ℕ) × (a ≡ Some room)
 in_one None b h = absurd (cc)
@@ -102,9 +89,10 @@ in_one (Some a) b h = (a, refl)
 
 by_sub : (d : Desk) (k source : ℕ) → good d ≡ true → subscribed d k ≡ Some source → Meets d k source
 by_sub d k source h e =
-    let sub = sub_found (row_at d (keys.Sub k)) source e in
+    let sub = given_by (λ (s : SubRow). s.source) (sub_at d k) source e in
     let s = sub.0 in
-    let told = of_found (obeys d) (keys.Sub k) (Sub s) (rows_of d) (good_parts d h).obey sub.1 in
+    let row : row_at d (keys.Sub k) ≡ Some (Sub s) = under_sub d k ∙ ap (option_map Sub) sub.1 in
+    let told = of_found (obeys d) (keys.Sub k) (Sub s) (rows_of d) (good_parts d h).obey row in
     let both =
     and_parts (is_in_range (Sub s) && has_few_audio d (Sub s)) (all_suit d (Sub s) && are_together d (names (Sub s)))
     told.0 in

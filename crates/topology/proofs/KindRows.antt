@@ -6,7 +6,7 @@ use Rattle.std.specs.Option.{is_some}
 use Rattle.std.specs.List.{find, filter_map, cons_option, list_all}
 use Rattle.std.proofs.lemmas.Bool.{and_parts}
 use Rattle.desk_rows.specs.declared.row.Row.{Row}
-use Rattle.desk_rows.specs.declared.row.Row.TheVariants.{Room, Member, Source, Slot, Sub, Mute, Gain, Pin, Floor}
+use Rattle.desk_rows.specs.declared.row.Row.TheVariants.{Member, Source, Slot, Sub}
 use Rattle.desk_rows.specs.declared.row.Member.{Member as MemberRow}
 use Rattle.desk_rows.specs.declared.row.Source.{Source as SourceRow}
 use Rattle.desk_rows.specs.declared.row.Slot.{Slot as SlotRow}
@@ -16,8 +16,8 @@ use Rattle.desk_rows.specs.declared.key.Kind.TheVariants as kinds
 use Rattle.desk_rows.specs.Row.{has_key}
 use Rattle.desk_rows.specs.Kinds.{is_of}
 use Rattle.desk_rows.specs.Desk.{Desk}
-use Rattle.desk_rows.specs.Naming.{member_in, slot_in, sub_in}
-use Rattle.topology.specs.Looking.{source_in, member_at, source_at, slot_at, subscribed}
+use Rattle.desk_rows.specs.Getters.{member_in, source_in, slot_in, sub_in, member_at, source_at, slot_at}
+use Rattle.topology.specs.Looking.{subscribed}
 use Rattle.topology.specs.Choice.{sources_of}
 use Rattle.topology.specs.Receivers.{slots_of}
 use Rattle.topology.proofs.Distinct.{at}
@@ -100,81 +100,32 @@ no_parts part p same (r ∷ rs) h =
 -- ---- by kinds
 
 member_key : (k : ℕ) (r : Row) → has_key (keys.Member k) r ≡ passes (λ (m : MemberRow). nat_eq m.member k) (member_in r)
-member_key k (Room r) = refl
 member_key k (Member r) = refl
-member_key k (Source r) = refl
-member_key k (Slot r) = refl
-member_key k (Sub r) = refl
-member_key k (Mute r) = refl
-member_key k (Gain r) = refl
-member_key k (Pin r) = refl
-member_key k (Floor r) = refl
+member_key k _ = refl
 
 source_key : (k : ℕ) (r : Row) → has_key (keys.Source k) r ≡ passes (λ (s : SourceRow). nat_eq s.ssrc k) (source_in r)
-source_key k (Room r) = refl
-source_key k (Member r) = refl
 source_key k (Source r) = refl
-source_key k (Slot r) = refl
-source_key k (Sub r) = refl
-source_key k (Mute r) = refl
-source_key k (Gain r) = refl
-source_key k (Pin r) = refl
-source_key k (Floor r) = refl
+source_key k _ = refl
 
 slot_key : (k : ℕ) (r : Row) → has_key (keys.Slot k) r ≡ passes (λ (s : SlotRow). nat_eq s.out_ssrc k) (slot_in r)
-slot_key k (Room r) = refl
-slot_key k (Member r) = refl
-slot_key k (Source r) = refl
 slot_key k (Slot r) = refl
-slot_key k (Sub r) = refl
-slot_key k (Mute r) = refl
-slot_key k (Gain r) = refl
-slot_key k (Pin r) = refl
-slot_key k (Floor r) = refl
+slot_key k _ = refl
 
 sub_key : (k : ℕ) (r : Row) → has_key (keys.Sub k) r ≡ passes (λ (s : SubRow). nat_eq s.out_ssrc k) (sub_in r)
-sub_key k (Room r) = refl
-sub_key k (Member r) = refl
-sub_key k (Source r) = refl
-sub_key k (Slot r) = refl
 sub_key k (Sub r) = refl
-sub_key k (Mute r) = refl
-sub_key k (Gain r) = refl
-sub_key k (Pin r) = refl
-sub_key k (Floor r) = refl
+sub_key k _ = refl
 
 is_member : (r : Row) → is_of kinds.Member r ≡ is_some (member_in r)
-is_member (Room r) = refl
 is_member (Member r) = refl
-is_member (Source r) = refl
-is_member (Slot r) = refl
-is_member (Sub r) = refl
-is_member (Mute r) = refl
-is_member (Gain r) = refl
-is_member (Pin r) = refl
-is_member (Floor r) = refl
+is_member _ = refl
 
 pub is_source : (r : Row) → is_of kinds.Source r ≡ is_some (source_in r)
-is_source (Room r) = refl
-is_source (Member r) = refl
 is_source (Source r) = refl
-is_source (Slot r) = refl
-is_source (Sub r) = refl
-is_source (Mute r) = refl
-is_source (Gain r) = refl
-is_source (Pin r) = refl
-is_source (Floor r) = refl
+is_source _ = refl
 
 pub its_source : (r : Row) (s : SourceRow) → source_in r ≡ Some s → r ≡ Source s
-its_source (Room r) s e = absurd (cc)
-its_source (Member r) s e = absurd (cc)
 its_source (Source r) s e = (let same : r ≡ s = cc in ap Source same)
-its_source (Slot r) s e = absurd (cc)
-its_source (Sub r) s e = absurd (cc)
-its_source (Mute r) s e = absurd (cc)
-its_source (Gain r) s e = absurd (cc)
-its_source (Pin r) s e = absurd (cc)
-its_source (Floor r) s e = absurd (cc)
+its_source _ s e = absurd (cc)
 
 -- ---- in a desk
 

@@ -4,7 +4,7 @@ use Rattle.std.specs.Prelude.{replicate}
 use Rattle.std.proofs.lemmas.Bool.{and_parts}
 use Rattle.std.proofs.lemmas.Bool.Decides.{nat_tests}
 use Rattle.desk_rows.specs.declared.row.Row.{Row}
-use Rattle.desk_rows.specs.declared.row.Row.TheVariants.{Room, Member, Source, Slot, Sub, Mute, Gain, Pin, Floor}
+use Rattle.desk_rows.specs.declared.row.Row.TheVariants.{Gain}
 use Rattle.desk_rows.specs.declared.key.Key.TheVariants as keys
 use Rattle.desk_rows.specs.Row.{has_key}
 use Rattle.desk_rows.specs.Order.{in_order}
@@ -20,14 +20,7 @@ use Rattle.topology.proofs.Heard.{found_among}
 
 own_gain : (member source : ℕ) (r : Row) → has_key (keys.Gain member source) r ≡ true → is_gain_of member r ≡ true
 own_gain member source (Gain g) e = (and_parts (nat_eq g.member member) (nat_eq g.source source) e).0
-own_gain member source (Room r) e = absurd (cc)
-own_gain member source (Member r) e = absurd (cc)
-own_gain member source (Source r) e = absurd (cc)
-own_gain member source (Slot r) e = absurd (cc)
-own_gain member source (Sub r) e = absurd (cc)
-own_gain member source (Mute r) e = absurd (cc)
-own_gain member source (Pin r) e = absurd (cc)
-own_gain member source (Floor r) e = absurd (cc)
+own_gain member source _ e = absurd (cc)
 
 pub own_order : (d : Desk) (member : ℕ) → good d ≡ true → in_order (gains_naming d member) ≡ true
 own_order d member g = in_order-filter (is_gain_of member) d.others (good_order d g)

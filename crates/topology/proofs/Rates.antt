@@ -4,8 +4,7 @@ use Rattle.std.proofs.Common.{◌∙◌, eqb-true}
 use Rattle.std.specs.Prelude.{option_map, option_and_then}
 use Rattle.std.specs.List.{list_any}
 use Rattle.std.proofs.lemmas.Bool.{and_parts}
-use Rattle.desk_rows.specs.declared.row.Row.{Row}
-use Rattle.desk_rows.specs.declared.row.Row.TheVariants.{Room, Member, Source, Slot, Sub, Mute, Gain, Pin, Floor}
+use Rattle.desk_rows.specs.declared.row.Row.TheVariants.{Room, Member}
 use Rattle.desk_rows.specs.declared.row.Room.{Room as RoomRow}
 use Rattle.desk_rows.specs.declared.row.Member.{Member as MemberRow}
 use Rattle.desk_rows.specs.declared.row.Codec.TheVariants.{Pcmu}
@@ -14,16 +13,16 @@ use Rattle.desk_rows.specs.Row.{has_key, names, carries, suits, is_in_range}
 use Rattle.desk_rows.specs.Row.Want.{Carries}
 use Rattle.desk_rows.specs.Desk.{Desk, good, rows_of, row_at, is_named_there, are_together, all_suit, has_few_audio}
 use Rattle.desk_rows.specs.Desk.{obeys}
-use Rattle.desk_rows.specs.Naming.{member_in}
+use Rattle.desk_rows.specs.Getters.{room_in, member_at}
 use Rattle.desk_rows.specs.laws.Laws.{good_parts}
-use Rattle.topology.specs.Looking.{member_at, is_music, room_rate, rate_of}
+use Rattle.desk_rows.specs.laws.GetterLaws.{room_with, under_member}
+use Rattle.topology.specs.Looking.{is_music, room_rate, rate_of}
 use Rattle.topology.proofs.GoodRows.{of_found, found_any}
-use Rattle.topology.proofs.SmallRooms.{its_room_row}
 
 -- ---- rooms
 
 -- the rate of a room that was found
-abbrev rate_in : Option Row → ℕ
+abbrev rate_in : Option RoomRow → ℕ
 rate_in o = cond (is_music o) 44100 8000
 
 -- one of the two rates is what it is
@@ -46,21 +45,10 @@ of_row d room r h e =
     let both =
     and_parts (is_in_range (Room r) && has_few_audio d (Room r))
     (all_suit d (Room r) && are_together d (names (Room r))) obeyed in
-    ap rate_in e ∙ one_of_two r.rate (and_parts (is_in_range (Room r)) (has_few_audio d (Room r)) both.0).0
+    ap (λ o. rate_in (option_and_then room_in o)) e
+    ∙ one_of_two r.rate (and_parts (is_in_range (Room r)) (has_few_audio d (Room r)) both.0).0
 
 -- ---- members
-
-found_member : (o : Option Row) (m : MemberRow) → option_and_then member_in o ≡ Some m → o ≡ Some (Member m)
-found_member None m h = absurd (cc)
-found_member (Some (Member r)) m h = (let same : r ≡ m = cc in ap (λ (x : MemberRow). Some (Member x)) same)
-found_member (Some (Room r)) m h = absurd (cc)
-found_member (Some (Source r)) m h = absurd (cc)
-found_member (Some (Slot r)) m h = absurd (cc)
-found_member (Some (Sub r)) m h = absurd (cc)
-found_member (Some (Mute r)) m h = absurd (cc)
-found_member (Some (Gain r)) m h = absurd (cc)
-found_member (Some (Pin r)) m h = absurd (cc)
-found_member (Some (Floor r)) m h = absurd (cc)
 
 -- the room of a member has a row
 its_room : (d : Desk) (member : ℕ) (m : MemberRow) → good d ≡ true → row_at d (keys.Member member) ≡ Some (Member m)
@@ -71,13 +59,14 @@ its_room d member m h e =
     found_any (keys.Room m.room) (rows_of d)
     (and_parts (list_any (has_key (keys.Room m.room)) (rows_of d)) true named).0 in
     let key = (of_found (is_named_there d) (keys.Room m.room) there.0 (rows_of d) (good_parts d h).named there.1).1 in
-    let is = its_room_row m.room there.0 key in
+    let is = room_with m.room there.0 key in
     (is.0, there.1 ∙ ap Some is.1)
 
 pub of_pcmu : (d : Desk) (member : ℕ) (m : MemberRow) → good d ≡ true → member_at d member ≡ Some m → m.codec ≡ Pcmu
     → rate_of d member ≡ Some 8000
 of_pcmu d member m h found is_pcmu =
-    let here = found_member (row_at d (keys.Member member)) m found in
+    let here : row_at d (keys.Member member) ≡ Some (Member m) =
+    under_member d member ∙ ap (option_map Member) found in
     let room = its_room d member m h here in
     let r = room.0 in
     let obeyed = (of_found (obeys d) (keys.Member member) (Member m) (rows_of d) (good_parts d h).obey here).0 in

@@ -5,8 +5,7 @@ use Rattle.std.specs.Prelude.{option_map, option_and_then}
 use Rattle.std.specs.Option.{option_or}
 use Rattle.std.specs.List.{find, list_all}
 use Rattle.std.proofs.lemmas.Bool.{and_parts}
-use Rattle.desk_rows.specs.declared.row.Row.{Row}
-use Rattle.desk_rows.specs.declared.row.Row.TheVariants.{Room, Member, Source, Slot, Sub, Mute, Gain, Pin, Floor}
+use Rattle.desk_rows.specs.declared.row.Row.TheVariants.{Source, Pin, Floor}
 use Rattle.desk_rows.specs.declared.row.Source.{Source as SourceRow}
 use Rattle.desk_rows.specs.declared.row.Pin.{Pin as PinRow}
 use Rattle.desk_rows.specs.declared.row.Floor.{Floor as FloorRow}
@@ -17,9 +16,11 @@ use Rattle.desk_rows.specs.Row.{names, suits, wants, is_in_range, same_media}
 use Rattle.desk_rows.specs.Row.Want.{Sends}
 use Rattle.desk_rows.specs.laws.Laws.{good_parts}
 use Rattle.desk_rows.specs.Desk.{Desk, good, rows_of, row_at, room_at, are_together, all_suit, has_few_audio, obeys}
-use Rattle.topology.specs.Looking.{source_in, pin_in, floor_in, source_at, pinned, holder, sender_of, room_of_member}
+use Rattle.desk_rows.specs.Getters.{source_at, pin_at, floor_at}
+use Rattle.desk_rows.specs.laws.GetterLaws.{under_source, under_pin, under_floor}
+use Rattle.topology.specs.Looking.{pinned, holder, sender_of, room_of_member}
 use Rattle.topology.specs.Choice.{sources_of, is_video_of, first_video, shown}
-use Rattle.topology.proofs.Finding.{of_found as of_found_one}
+use Rattle.topology.proofs.Finding.{given_by, of_found as of_found_one}
 use Rattle.topology.proofs.Rising.{Found, all_found}
 use Rattle.topology.proofs.KindRows.{source_ssrc, source_row}
 use Rattle.topology.proofs.GoodRows.{sources_rise, of_found}
@@ -57,19 +58,10 @@ pub suiting : (d : Desk) (source room : ℕ) → suits (Sends Video) (row_at d (
     → room_at d (keys.Source source) ≡ Some room → (s : SourceRow) × ShownIn d room source s
 suiting d source room suit in_room = by (source_at d source) refl (sym (room_at_source d source) ∙ in_room)
   where
-    from_row : (o : Option Row) (s : SourceRow) → option_and_then source_in o ≡ Some s → suits (Sends Video) o ≡ true
-        → s.media ≡ Video
-    from_row None s e h = absurd (cc)
-    from_row (Some (Source r)) s e h =
-        (let same : r ≡ s = cc in subst (λ (t : SourceRow). t.media ≡ Video) same (is_video r.media h))
-    from_row (Some (Room r)) s e h = absurd (cc)
-    from_row (Some (Member r)) s e h = absurd (cc)
-    from_row (Some (Slot r)) s e h = absurd (cc)
-    from_row (Some (Sub r)) s e h = absurd (cc)
-    from_row (Some (Mute r)) s e h = absurd (cc)
-    from_row (Some (Gain r)) s e h = absurd (cc)
-    from_row (Some (Pin r)) s e h = absurd (cc)
-    from_row (Some (Floor r)) s e h = absurd (cc)
+    video : (s : SourceRow) → source_at d source ≡ Some s → s.media ≡ Video
+    video s found =
+        is_video s.media
+        (sym (ap (suits (Sends Video)) (under_source d source ∙ ap (option_map Source) found)) ∙ suit)
 
     by : (o : Option SourceRow) → source_at d source ≡ o
         → option_and_then (λ (s : SourceRow). room_of_member d s.member) o ≡ Some room
@@ -78,32 +70,20 @@ suiting d source room suit in_room = by (source_at d source) refl (sym (room_at_
     by (Some s) found h = (
       s,
       record {
-        is = record { found = found; sends = from_row (row_at d (keys.Source source)) s found suit };
+        is = record { found = found; sends = video s found };
         room_is = h;
       },
     )
 
 -- ---- pins
 
-pin_found : (o : Option Row) (source : ℕ) → option_map (λ p. p.source) (option_and_then pin_in o) ≡ Some source
-    → (p : PinRow) × (o ≡ Some (Pin p)) × (p.source ≡ source)
-pin_found None source h = absurd (cc)
-pin_found (Some (Pin p)) source h = (p, refl, cc)
-pin_found (Some (Room r)) source h = absurd (cc)
-pin_found (Some (Member r)) source h = absurd (cc)
-pin_found (Some (Source r)) source h = absurd (cc)
-pin_found (Some (Slot r)) source h = absurd (cc)
-pin_found (Some (Sub r)) source h = absurd (cc)
-pin_found (Some (Mute r)) source h = absurd (cc)
-pin_found (Some (Gain r)) source h = absurd (cc)
-pin_found (Some (Floor r)) source h = absurd (cc)
-
 by_pin : (d : Desk) (room source : ℕ) → good d ≡ true → pinned d room ≡ Some source
     → (s : SourceRow) × ShownIn d room source s
 by_pin d room source h e =
-    let pin = pin_found (row_at d (keys.Pin room)) source e in
+    let pin = given_by (λ (p : PinRow). p.source) (pin_at d room) source e in
     let p = pin.0 in
-    let told = of_found (obeys d) (keys.Pin room) (Pin p) (rows_of d) (good_parts d h).obey pin.1 in
+    let row : row_at d (keys.Pin room) ≡ Some (Pin p) = under_pin d room ∙ ap (option_map Pin) pin.1 in
+    let told = of_found (obeys d) (keys.Pin room) (Pin p) (rows_of d) (good_parts d h).obey row in
     let both =
     and_parts (is_in_range (Pin p) && has_few_audio d (Pin p)) (all_suit d (Pin p) && are_together d (names (Pin p)))
     told.0 in
@@ -119,26 +99,14 @@ by_pin d room source h e =
 
 -- ---- floors
 
-floor_found : (o : Option Row) (member : ℕ) → option_map (λ f. f.member) (option_and_then floor_in o) ≡ Some member
-    → (f : FloorRow) × (o ≡ Some (Floor f)) × (f.member ≡ member)
-floor_found None member h = absurd (cc)
-floor_found (Some (Floor f)) member h = (f, refl, cc)
-floor_found (Some (Room r)) member h = absurd (cc)
-floor_found (Some (Member r)) member h = absurd (cc)
-floor_found (Some (Source r)) member h = absurd (cc)
-floor_found (Some (Slot r)) member h = absurd (cc)
-floor_found (Some (Sub r)) member h = absurd (cc)
-floor_found (Some (Mute r)) member h = absurd (cc)
-floor_found (Some (Gain r)) member h = absurd (cc)
-floor_found (Some (Pin r)) member h = absurd (cc)
-
 -- a floor's holder is in the room
 holder_in : (d : Desk) (room member : ℕ) → good d ≡ true → holder d room ≡ Some member
     → room_of_member d member ≡ Some room
 holder_in d room member h e =
-    let floor = floor_found (row_at d (keys.Floor room)) member e in
+    let floor = given_by (λ (f : FloorRow). f.member) (floor_at d room) member e in
     let f = floor.0 in
-    let told = of_found (obeys d) (keys.Floor room) (Floor f) (rows_of d) (good_parts d h).obey floor.1 in
+    let row : row_at d (keys.Floor room) ≡ Some (Floor f) = under_floor d room ∙ ap (option_map Floor) floor.1 in
+    let told = of_found (obeys d) (keys.Floor room) (Floor f) (rows_of d) (good_parts d h).obey row in
     let both =
     and_parts (is_in_range (Floor f) && has_few_audio d (Floor f))
     (all_suit d (Floor f) && are_together d (names (Floor f))) told.0 in

@@ -9,8 +9,7 @@ use Rattle.std.proofs.lemmas.List.{length-append}
 use Rattle.std.proofs.lemmas.List.Elements.{filter-append}
 use Rattle.std.proofs.lemmas.List.Folds.{list_all-append, list_all-map}
 use Rattle.desk_rows.specs.declared.row.Row.{Row}
-use Rattle.desk_rows.specs.declared.row.Row.TheVariants.{Room, Member, Source, Slot, Sub, Mute, Gain, Pin, Floor}
-use Rattle.desk_rows.specs.declared.row.Room.{Room as RoomRow}
+use Rattle.desk_rows.specs.declared.row.Row.TheVariants.{Room, Member, Source, Gain}
 use Rattle.desk_rows.specs.declared.row.Member.{Member as MemberRow}
 use Rattle.desk_rows.specs.declared.row.Source.{Source as SourceRow}
 use Rattle.desk_rows.specs.declared.row.Media.TheVariants.{Audio}
@@ -20,6 +19,7 @@ use Rattle.desk_rows.specs.Desk.{Desk, good, rows_of, row_at, same_room, is_name
 use Rattle.desk_rows.specs.Desk.{all_suit, are_together, obeys}
 use Rattle.desk_rows.specs.laws.PlaceLaws.{count_next}
 use Rattle.desk_rows.specs.laws.Laws.{good_parts}
+use Rattle.desk_rows.specs.laws.GetterLaws.{room_with}
 use Rattle.topology.specs.declared.hearing.AudioSource.{AudioSource}
 use Rattle.topology.specs.Looking.{source_in, is_muted}
 use Rattle.topology.specs.Choice.{sources_of}
@@ -46,15 +46,7 @@ gain_small d member source h = by (row_at d (keys.Gain member source)) refl
         and_parts (is_in_range (Gain g) && has_few_audio d (Gain g))
         (all_suit d (Gain g) && are_together d (names (Gain g))) obeyed in
         at_most g.q8 (and_parts (is_in_range (Gain g)) (has_few_audio d (Gain g)) both.0).0
-    by None e = omega arith
-    by (Some (Room r)) e = omega arith
-    by (Some (Member r)) e = omega arith
-    by (Some (Source r)) e = omega arith
-    by (Some (Slot r)) e = omega arith
-    by (Some (Sub r)) e = omega arith
-    by (Some (Mute r)) e = omega arith
-    by (Some (Pin r)) e = omega arith
-    by (Some (Floor r)) e = omega arith
+    by _ e = omega arith
 
 -- ---- one source is heard from one member
 
@@ -200,14 +192,7 @@ fewer_heard d room g (s ∷ ss) =
 
 no_audio : (d : Desk) (room : ℕ) (r : Row) → source_in r ≡ None → is_audio_in d room r ≡ false
 no_audio d room (Source s) e = absurd (cc)
-no_audio d room (Room r) e = refl
-no_audio d room (Member r) e = refl
-no_audio d room (Slot r) e = refl
-no_audio d room (Sub r) e = refl
-no_audio d room (Mute r) e = refl
-no_audio d room (Gain r) e = refl
-no_audio d room (Pin r) e = refl
-no_audio d room (Floor r) e = refl
+no_audio d room _ e = refl
 
 counted_rows : (d : Desk) (room : ℕ) (rs : List Row)
     → count_by (λ s. is_audio_in d room (Source s)) (filter_map source_in rs) ≡ count_by (is_audio_in d room) rs
@@ -230,17 +215,6 @@ counted_rows d room (r ∷ rs) = by (source_in r) refl (counted_rows d room rs)
         ∙ sym (count_next (is_audio_in d room) r rs)
 
 -- ---- the room of a member has a row
-
-pub its_room_row : (k : ℕ) (r : Row) → has_key (keys.Room k) r ≡ true → (q : RoomRow) × (r ≡ Room q) × (q.room ≡ k)
-its_room_row k (Room q) e = (q, refl, eqb-true q.room k e)
-its_room_row k (Member r) e = absurd (cc)
-its_room_row k (Source r) e = absurd (cc)
-its_room_row k (Slot r) e = absurd (cc)
-its_room_row k (Sub r) e = absurd (cc)
-its_room_row k (Mute r) e = absurd (cc)
-its_room_row k (Gain r) e = absurd (cc)
-its_room_row k (Pin r) e = absurd (cc)
-its_room_row k (Floor r) e = absurd (cc)
 
 -- nobody in the room is heard where no member is in it
 elsewhere : (d : Desk) (room : ℕ) (ss : List SourceRow) (ms : List MemberRow) → find (λ m. nat_eq m.room room) ms ≡ None
@@ -290,7 +264,7 @@ room_small d room g = by (find (λ (m : MemberRow). nat_eq m.room room) d.member
         found_any (keys.Room m.room) (rows_of d)
         (and_parts (list_any (has_key (keys.Room m.room)) (rows_of d)) true told.0).0 in
         let obeyed = of_found (obeys d) (keys.Room m.room) there.0 (rows_of d) (good_parts d g).obey there.1 in
-        let is = its_room_row m.room there.0 obeyed.1 in
+        let is = room_with m.room there.0 obeyed.1 in
         let q = is.0 in
         let rule : obeys d (Room q) ≡ true = sym (ap (obeys d) is.1) ∙ obeyed.0 in
         let both =

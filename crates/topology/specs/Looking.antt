@@ -1,62 +1,30 @@
 -- What a desk has under a number (own).
+pub use Rattle.desk_rows.specs.Getters.{source_in, member_at, source_at, slot_at}
 use Rattle.std.specs.Prelude.{ℕ, Bool, false, if◌then◌else◌, nat_eq, Option, None, Some}
 use Rattle.std.specs.Option.{is_some, option_map, option_and_then}
 use Rattle.std.specs.List.{find}
 use Rattle.rtp_codec.specs.declared.address.Address.{Address}
 use Rattle.rtp_codec.specs.Address.{same_address}
+use Rattle.desk_rows.specs.declared.row.Room.{Room as RoomRow}
 use Rattle.desk_rows.specs.declared.row.Member.{Member as MemberRow}
 use Rattle.desk_rows.specs.declared.row.Source.{Source as SourceRow}
-use Rattle.desk_rows.specs.declared.row.Slot.{Slot as SlotRow}
-use Rattle.desk_rows.specs.declared.row.Pin.{Pin as PinRow}
-use Rattle.desk_rows.specs.declared.row.Floor.{Floor as FloorRow}
-use Rattle.desk_rows.specs.declared.row.Row.{Row}
-use Rattle.desk_rows.specs.declared.row.Row.TheVariants.{Room, Source, Pin, Floor}
 use Rattle.desk_rows.specs.declared.key.Key.TheVariants as keys
 use Rattle.desk_rows.specs.Desk.{Desk, row_at}
-use Rattle.desk_rows.specs.Naming.{member_in, slot_in, sub_in}
+use Rattle.desk_rows.specs.Getters.{room_row_at, sub_at, pin_at, floor_at}
 
--- ---- rows of one kind
-
--- the source in a row
-abbrev pub source_in : Row → Option SourceRow
-source_in (Source s) = Some s
-source_in _ = None
-
--- the pin in a row
-abbrev pub pin_in : Row → Option PinRow
-pin_in (Pin p) = Some p
-pin_in _ = None
-
--- the floor in a row
-abbrev pub floor_in : Row → Option FloorRow
-floor_in (Floor f) = Some f
-floor_in _ = None
-
--- ---- rows by their numbers
-
--- the member of this number
-abbrev pub member_at : Desk → ℕ → Option MemberRow
-member_at d member = option_and_then member_in (row_at d (keys.Member member))
-
--- the source of this SSRC
-abbrev pub source_at : Desk → ℕ → Option SourceRow
-source_at d source = option_and_then source_in (row_at d (keys.Source source))
-
--- the slot of this SSRC
-abbrev pub slot_at : Desk → ℕ → Option SlotRow
-slot_at d out_ssrc = option_and_then slot_in (row_at d (keys.Slot out_ssrc))
+-- ---- what a row says
 
 -- the source that the slot of this SSRC has subscribed to
 abbrev pub subscribed : Desk → ℕ → Option ℕ
-subscribed d out_ssrc = option_map (λ s. s.source) (option_and_then sub_in (row_at d (keys.Sub out_ssrc)))
+subscribed d out_ssrc = option_map (λ s. s.source) (sub_at d out_ssrc)
 
 -- the source that is pinned in a room
 abbrev pub pinned : Desk → ℕ → Option ℕ
-pinned d room = option_map (λ p. p.source) (option_and_then pin_in (row_at d (keys.Pin room)))
+pinned d room = option_map (λ p. p.source) (pin_at d room)
 
 -- the member that has the floor of a room
 abbrev pub holder : Desk → ℕ → Option ℕ
-holder d room = option_map (λ f. f.member) (option_and_then floor_in (row_at d (keys.Floor room)))
+holder d room = option_map (λ f. f.member) (floor_at d room)
 
 -- nobody is to hear or see the source
 abbrev pub is_muted : Desk → ℕ → Bool
@@ -77,16 +45,16 @@ sender_of d source = option_map (λ s. s.member) (source_at d source)
 abbrev pub room_of_member : Desk → ℕ → Option ℕ
 room_of_member d member = option_map (λ m. m.room) (member_at d member)
 
--- the row is of a room for music: its audio is at 44100 Hz, the one rate at which L16 has payload types of its own (RFC
+-- it is a room for music: its audio is at 44100 Hz, the one rate at which L16 has payload types of its own (RFC
 -- 3551 section 6)
-abbrev pub is_music : Option Row → Bool
-is_music (Some (Room r)) = nat_eq r.rate 44100
-is_music _ = false
+abbrev pub is_music : Option RoomRow → Bool
+is_music None = false
+is_music (Some r) = nat_eq r.rate 44100
 
 -- the clock rate of a room's audio, in Hz: 44100 where its row says so, else that of PCMU, 8000 (RFC 3551 section
 -- 4.5.14)
 abbrev pub room_rate : Desk → ℕ → ℕ
-room_rate d room = if is_music (row_at d (keys.Room room)) then 44100 else 8000
+room_rate d room = if is_music (room_row_at d room) then 44100 else 8000
 
 -- the clock rate of a member's audio, in Hz: that of its room; none where there is no such member
 abbrev pub rate_of : Desk → ℕ → Option ℕ

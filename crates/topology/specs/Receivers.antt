@@ -7,7 +7,7 @@ use Rattle.desk_rows.specs.declared.row.Member.{Member as MemberRow}
 use Rattle.desk_rows.specs.declared.row.Slot.{Slot as SlotRow}
 use Rattle.desk_rows.specs.Desk.{Desk}
 use Rattle.topology.specs.declared.receivers.Receiver.{Receiver}
-use Rattle.desk_rows.specs.Naming.{slot_in}
+use Rattle.desk_rows.specs.Getters.{slot_in}
 use Rattle.topology.specs.Looking.{member_at, slot_at, is_this, comes_from}
 use Rattle.topology.specs.Choice.{chosen}
 

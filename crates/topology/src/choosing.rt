@@ -3,7 +3,7 @@
 ghost use Rattle.std.specs.Prelude.{◌≡◌, true};
 ghost use Rattle.std.specs.List.{find, filter_map};
 ghost use Rattle.desk_rows.specs.Desk.{good};
-ghost use Rattle.topology.specs.Looking.{source_in};
+ghost use Rattle.desk_rows.specs.Getters.{source_in};
 ghost use Rattle.topology.specs.Choice.{is_video_of, first_video, shown, shown_on, wanted, are_in_one_room, is_barred};
 ghost use Rattle.topology.specs.Choice.{chosen, choice};
 
@@ -111,7 +111,7 @@ fn first_among(these: &[Row], member: u32) -> Option<Source>
 {
     these
         .iter()
-        .filter_map(|row| source_in(row))
+        .filter_map(|row| row.as_source())
         .find(|source| is_video_of(member, source))
 }
 
@@ -120,14 +120,4 @@ fn is_video_of(member: u32, source: &Source) -> bool
     ensures { result ≡ is_video_of member source.now }
 {
     source.member == member && source.media.is_same(Media::Video)
-}
-
-/// The source in a row.
-fn source_in(row: &Row) -> Option<Source>
-    ensures { result ≡ source_in row.now }
-{
-    match row {
-        Row::Source(source) => Some(*source),
-        _ => None,
-    }
 }

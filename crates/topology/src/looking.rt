@@ -2,12 +2,13 @@
 
 ghost use Rattle.std.specs.Prelude.{◌≡◌, true};
 ghost use Rattle.desk_rows.specs.Desk.{good, same_room};
-ghost use Rattle.topology.specs.Looking.{member_at, slot_at, source_at, subscribed, pinned, holder, is_muted, is_this};
+ghost use Rattle.desk_rows.specs.Getters.{member_at, slot_at};
+ghost use Rattle.topology.specs.Looking.{subscribed, pinned, holder, is_muted, is_this};
 ghost use Rattle.topology.specs.Looking.{sender_of, room_of_member, room_of_source, has_address, source_from};
 ghost use Rattle.topology.specs.Looking.{member_from, is_music, room_rate, rate_of};
 ghost use Rattle.topology.specs.Receivers.{slots_to};
 
-use desk_rows::{DEFAULT_RATE, Key, MUSIC_RATE, Member, Row, Rows, Slot, Source};
+use desk_rows::{DEFAULT_RATE, Key, MUSIC_RATE, Member, Room, Rows, Slot, Source};
 use rtp_codec::Address;
 use std::alloc::Allocator;
 
@@ -16,20 +17,7 @@ pub fn member_at<A: Allocator + Copy>(rows: &Rows<A>, member: u32) -> Option<Mem
     ensures member { result ≡ member_at rows.now member }
     ensures good { good rows.now ≡ true }
 {
-    match rows.find(&Key::Member(member)) {
-        Some(Row::Member(member)) => Some(member),
-        _ => None,
-    }
-}
-
-/// The source of this SSRC.
-fn source_at<A: Allocator + Copy>(rows: &Rows<A>, source: u32) -> Option<Source>
-    ensures { result ≡ source_at rows.now source }
-{
-    match rows.find(&Key::Source(source)) {
-        Some(Row::Source(source)) => Some(source),
-        _ => None,
-    }
+    rows.member(member)
 }
 
 /// The slot of this SSRC.
@@ -37,10 +25,7 @@ pub fn slot_at<A: Allocator + Copy>(rows: &Rows<A>, out_ssrc: u32) -> Option<Slo
     ensures slot { result ≡ slot_at rows.now out_ssrc }
     ensures good { good rows.now ≡ true }
 {
-    match rows.find(&Key::Slot(out_ssrc)) {
-        Some(Row::Slot(slot)) => Some(slot),
-        _ => None,
-    }
+    rows.slot(out_ssrc)
 }
 
 /// The slots of a member, by rising index.
@@ -54,9 +39,9 @@ pub fn slots_to<A: Allocator + Copy>(rows: &Rows<A>, member: u32) -> &[Slot]
 pub(crate) fn subscribed<A: Allocator + Copy>(rows: &Rows<A>, out_ssrc: u32) -> Option<u32>
     ensures { result ≡ subscribed rows.now out_ssrc }
 {
-    match rows.find(&Key::Sub(out_ssrc)) {
-        Some(Row::Sub(sub)) => Some(sub.source),
-        _ => None,
+    match rows.sub(out_ssrc) {
+        None => None,
+        Some(sub) => Some(sub.source),
     }
 }
 
@@ -65,9 +50,9 @@ pub(crate) fn pinned<A: Allocator + Copy>(rows: &Rows<A>, room: u32) -> Option<u
     ensures pin { result ≡ pinned rows.now room }
     ensures good { good rows.now ≡ true }
 {
-    match rows.find(&Key::Pin(room)) {
-        Some(Row::Pin(pin)) => Some(pin.source),
-        _ => None,
+    match rows.pin(room) {
+        None => None,
+        Some(pin) => Some(pin.source),
     }
 }
 
@@ -75,9 +60,9 @@ pub(crate) fn pinned<A: Allocator + Copy>(rows: &Rows<A>, room: u32) -> Option<u
 pub(crate) fn holder<A: Allocator + Copy>(rows: &Rows<A>, room: u32) -> Option<u32>
     ensures { result ≡ holder rows.now room }
 {
-    match rows.find(&Key::Floor(room)) {
-        Some(Row::Floor(floor)) => Some(floor.member),
-        _ => None,
+    match rows.floor(room) {
+        None => None,
+        Some(floor) => Some(floor.member),
     }
 }
 
@@ -103,7 +88,7 @@ pub(crate) fn is_this(number: u32, found: Option<u32>) -> bool
 pub fn sender_of<A: Allocator + Copy>(rows: &Rows<A>, source: u32) -> Option<u32>
     ensures { result ≡ sender_of rows.now source }
 {
-    match source_at(rows, source) {
+    match rows.source(source) {
         None => None,
         Some(source) => Some(source.member),
     }
@@ -114,19 +99,19 @@ pub(crate) fn room_of_member<A: Allocator + Copy>(rows: &Rows<A>, member: u32) -
     ensures room { result ≡ room_of_member rows.now member }
     ensures good { good rows.now ≡ true }
 {
-    match member_at(rows, member) {
+    match rows.member(member) {
         None => None,
         Some(member) => Some(member.room),
     }
 }
 
-/// Whether the row that was found is of a room for music.
-fn is_music(found: Option<Row>) -> bool
+/// Whether it is a room for music.
+fn is_music(found: Option<Room>) -> bool
     ensures { result ≡ is_music found }
 {
     match found {
-        Some(Row::Room(room)) => room.rate == MUSIC_RATE,
-        _ => false,
+        None => false,
+        Some(room) => room.rate == MUSIC_RATE,
     }
 }
 
@@ -135,7 +120,7 @@ fn is_music(found: Option<Row>) -> bool
 pub fn room_rate<A: Allocator + Copy>(rows: &Rows<A>, room: u32) -> u32
     ensures { result ≡ room_rate rows.now room }
 {
-    if is_music(rows.find(&Key::Room(room))) {
+    if is_music(rows.room(room)) {
         MUSIC_RATE
     } else {
         DEFAULT_RATE
@@ -188,8 +173,8 @@ pub fn source_from<A: Allocator + Copy>(
 ) -> Option<Source>
     ensures { result ≡ source_from rows.now source address.now }
 {
-    let source = source_at(rows, source)?;
-    if has_address(address, member_at(rows, source.member)) {
+    let source = rows.source(source)?;
+    if has_address(address, rows.member(source.member)) {
         Some(source)
     } else {
         None

@@ -59,11 +59,13 @@ pub use Rattle.desk_rows.specs.Desk.{rows_of_kind, is_listed}
 unfoldable pub use Rattle.desk_rows.specs.Desk.{good}
 pub use Rattle.desk_rows.specs.Edit.{EditOf, outs, ins, inverse}
 unfoldable pub use Rattle.desk_rows.specs.Exchange.{exchanged, is_apt, fits, after}
+pub use Rattle.desk_rows.specs.Getters.{room_in, member_in, source_in, slot_in, sub_in, pin_in, floor_in}
+pub use Rattle.desk_rows.specs.Getters.{room_row_at, member_at, source_at, slot_at, sub_at, pin_at, floor_at}
 pub use Rattle.desk_rows.specs.Keyed.{IsKeyed}
 pub use Rattle.desk_rows.specs.Kinds.{is_of}
 pub use Rattle.desk_rows.specs.Limits.{member_limit, slot_limit, other_limit, room_limit, source_limit, gain_limit}
 pub use Rattle.desk_rows.specs.Limits.{room_audio_limit}
-pub use Rattle.desk_rows.specs.Naming.{is_gain_of, slot_in, sub_in, subs_naming, slots_naming, members_in, member_in}
+pub use Rattle.desk_rows.specs.Naming.{is_gain_of, subs_naming, slots_naming, members_in}
 pub use Rattle.desk_rows.specs.Numbers.{numbers_precede, same_numbers}
 pub use Rattle.desk_rows.specs.Order.{is_in, with_rows, in_order, without_rows, precedes, with_row, key_precedes}
 pub use Rattle.desk_rows.specs.Order.{key_is_new, are_apart, have_same_keys}

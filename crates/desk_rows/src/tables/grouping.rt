@@ -4,7 +4,7 @@ ghost use Rattle.std.specs.Prelude.{◌≡◌, ℕ, true, false, filter, nat_eq,
 ghost use Rattle.desk_rows.specs.declared.key.Kind.TheVariants as kinds;
 ghost use Rattle.desk_rows.specs.declared.row.Row.TheVariants.{Member as MemberRow, Slot as SlotRow, Sub as SubRow};
 ghost use Rattle.desk_rows.specs.Kinds.{is_of};
-ghost use Rattle.desk_rows.specs.Naming.{member_in, slot_in, sub_in};
+ghost use Rattle.desk_rows.specs.Getters.{member_in, slot_in, sub_in};
 ghost use Rattle.desk_rows.specs.laws.NamingLaws.{no_member, no_slot, no_sub};
 ghost use Rattle.desk_rows.specs.inner.tables.Grouped.{stand_by, in_turn};
 
@@ -70,10 +70,7 @@ impl Grouped for Sub {
     }
 
     fn in_row(row: &Row) -> Option<Sub> {
-        match row {
-            Row::Sub(sub) => Some(*sub),
-            _ => None,
-        }
+        row.as_sub()
     }
 
     fn group(&self) -> u32 {
@@ -110,10 +107,7 @@ impl Grouped for Slot {
     }
 
     fn in_row(row: &Row) -> Option<Slot> {
-        match row {
-            Row::Slot(slot) => Some(*slot),
-            _ => None,
-        }
+        row.as_slot()
     }
 
     fn group(&self) -> u32 {
@@ -150,10 +144,7 @@ impl Grouped for Member {
     }
 
     fn in_row(row: &Row) -> Option<Member> {
-        match row {
-            Row::Member(member) => Some(*member),
-            _ => None,
-        }
+        row.as_member()
     }
 
     fn group(&self) -> u32 {

@@ -1,7 +1,7 @@
 use Rattle.std.proofs.Common.{◌≡◌, List, IfOk, ap, subst, ◌∙◌}
 use Rattle.std.specs.Prelude.{option_and_then}
 use Rattle.std.specs.List.{filter_map}
-use Rattle.desk_rows.specs.Naming.{slot_in}
+use Rattle.desk_rows.specs.Getters.{slot_in}
 use Rattle.picture_requests.specs.declared.choosing.SlotChoice.{SlotChoice}
 use Rattle.picture_requests.specs.Choices.{slot_choice}
 use Rattle.picture_requests.proofs.Listed.{from_rows}
