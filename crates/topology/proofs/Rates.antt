@@ -1,5 +1,5 @@
 -- On a good desk a room has the clock rate that its row says, and a member whose codec is PCMU is in a room at 8000 Hz.
-use Rattle.std.proofs.Common.{◌≡◌, ℕ, Bool, true, false, cond, ◌&&◌, ◌||◌, nat_eq, Option, None, Some, refl, sym, ap}
+use Rattle.std.proofs.Common.{◌≡◌, ℕ, true, ◌&&◌, Some, sym, ap}
 use Rattle.std.proofs.Common.{◌∙◌, eqb-true}
 use Rattle.std.specs.Prelude.{option_map, option_and_then}
 use Rattle.std.specs.List.{list_any}
@@ -16,37 +16,14 @@ use Rattle.desk_rows.specs.Desk.{obeys}
 use Rattle.desk_rows.specs.Getters.{room_in, member_at}
 use Rattle.desk_rows.specs.laws.Laws.{good_parts}
 use Rattle.desk_rows.specs.laws.GetterLaws.{room_with, under_member}
-use Rattle.topology.specs.Looking.{is_music, room_rate, rate_of}
+use Rattle.topology.specs.Looking.{rate_of_found, room_rate, rate_of}
 use Rattle.topology.proofs.GoodRows.{of_found, found_any}
 
 -- ---- rooms
 
--- the rate of a room that was found
-abbrev rate_in : Option RoomRow → ℕ
-rate_in o = cond (is_music o) 44100 8000
-
--- one of the two rates is what it is
-one_of_two : (rate : ℕ) → nat_eq rate 8000 || nat_eq rate 44100 ≡ true
-    → ◌≡◌ {A = ℕ} (cond (nat_eq rate 44100) 44100 8000) rate
-one_of_two rate h = by (nat_eq rate 44100) refl h
-  where
-    other : (a : Bool) → a || false ≡ true → a ≡ true
-    other true h = refl
-    other false h = absurd (cc)
-
-    by : (b : Bool) → nat_eq rate 44100 ≡ b → nat_eq rate 8000 || b ≡ true → ◌≡◌ {A = ℕ} (cond b 44100 8000) rate
-    by true e h = sym (eqb-true rate 44100 e)
-    by false e h = sym (eqb-true rate 8000 (other (nat_eq rate 8000) h))
-
 pub of_row : (d : Desk) (room : ℕ) (r : RoomRow) → good d ≡ true → row_at d (keys.Room room) ≡ Some (Room r)
     → room_rate d room ≡ r.rate
-of_row d room r h e =
-    let obeyed = (of_found (obeys d) (keys.Room room) (Room r) (rows_of d) (good_parts d h).obey e).0 in
-    let both =
-    and_parts (is_in_range (Room r) && has_few_audio d (Room r))
-    (all_suit d (Room r) && are_together d (names (Room r))) obeyed in
-    ap (λ o. rate_in (option_and_then room_in o)) e
-    ∙ one_of_two r.rate (and_parts (is_in_range (Room r)) (has_few_audio d (Room r)) both.0).0
+of_row d room r h e = ap (λ o. rate_of_found (option_and_then room_in o)) e
 
 -- ---- members
 

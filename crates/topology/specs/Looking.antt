@@ -45,16 +45,15 @@ sender_of d source = option_map (λ s. s.member) (source_at d source)
 abbrev pub room_of_member : Desk → ℕ → Option ℕ
 room_of_member d member = option_map (λ m. m.room) (member_at d member)
 
--- it is a room for music: its audio is at 44100 Hz, the one rate at which L16 has payload types of its own (RFC
--- 3551 section 6)
-abbrev pub is_music : Option RoomRow → Bool
-is_music None = false
-is_music (Some r) = nat_eq r.rate 44100
+-- the clock rate of a room that was found, in Hz: what its row says; where there is none, that of PCMU, 8000 (RFC 3551
+-- section 4.5.14)
+abbrev pub rate_of_found : Option RoomRow → ℕ
+rate_of_found None = 8000
+rate_of_found (Some r) = r.rate
 
--- the clock rate of a room's audio, in Hz: 44100 where its row says so, else that of PCMU, 8000 (RFC 3551 section
--- 4.5.14)
+-- the clock rate of a room's audio, in Hz
 abbrev pub room_rate : Desk → ℕ → ℕ
-room_rate d room = if is_music (room_row_at d room) then 44100 else 8000
+room_rate d room = rate_of_found (room_row_at d room)
 
 -- the clock rate of a member's audio, in Hz: that of its room; none where there is no such member
 abbrev pub rate_of : Desk → ℕ → Option ℕ

@@ -5,10 +5,10 @@ ghost use Rattle.desk_rows.specs.Desk.{good, same_room};
 ghost use Rattle.desk_rows.specs.Getters.{member_at, slot_at};
 ghost use Rattle.topology.specs.Looking.{subscribed, pinned, holder, is_muted, is_this};
 ghost use Rattle.topology.specs.Looking.{sender_of, room_of_member, room_of_source, has_address, source_from};
-ghost use Rattle.topology.specs.Looking.{member_from, is_music, room_rate, rate_of};
+ghost use Rattle.topology.specs.Looking.{member_from, room_rate, rate_of};
 ghost use Rattle.topology.specs.Receivers.{slots_to};
 
-use desk_rows::{DEFAULT_RATE, Key, MUSIC_RATE, Member, Room, Rows, Slot, Source};
+use desk_rows::{DEFAULT_RATE, Key, Member, Rows, Slot, Source};
 use rtp_codec::Address;
 use std::alloc::Allocator;
 
@@ -105,25 +105,14 @@ pub(crate) fn room_of_member<A: Allocator + Copy>(rows: &Rows<A>, member: u32) -
     }
 }
 
-/// Whether it is a room for music.
-fn is_music(found: Option<Room>) -> bool
-    ensures { result ≡ is_music found }
-{
-    match found {
-        None => false,
-        Some(room) => room.rate == MUSIC_RATE,
-    }
-}
-
 /// The clock rate of a room's audio in Hz, 8000 or 44100. It is 8000 if there is no such room.
 // No good desk lacks the room. By this answer the intake and the mixer need no case for one that is missing.
 pub fn room_rate<A: Allocator + Copy>(rows: &Rows<A>, room: u32) -> u32
     ensures { result ≡ room_rate rows.now room }
 {
-    if is_music(rows.room(room)) {
-        MUSIC_RATE
-    } else {
-        DEFAULT_RATE
+    match rows.room(room) {
+        None => DEFAULT_RATE,
+        Some(row) => row.rate,
     }
 }
 

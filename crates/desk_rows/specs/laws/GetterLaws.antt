@@ -1,6 +1,6 @@
 -- The row under a key of a kind is of that kind.
-use Rattle.std.specs.Prelude.{◌≡◌}
-use Rattle.desk_rows.specs.laws.Words.{ℕ, Bool, true, false, cond, List, [], ◌∷◌, Option, None, Some, refl, sym, ap}
+use Rattle.std.specs.Prelude.{◌≡◌, ◌∷◌}
+use Rattle.desk_rows.specs.laws.Words.{ℕ, Bool, true, false, cond, List, [], Option, None, Some, refl, sym, ap}
 use Rattle.desk_rows.specs.laws.Words.{◌∙◌, eqb-true, find, option_map, option_and_then, Row, Key, MemberRow, SlotRow}
 use Rattle.desk_rows.specs.laws.Words.{SubRow, Desk, rows_of, row_at, has_key, Room, Member, Source, Slot, Sub, Pin}
 use Rattle.desk_rows.specs.laws.Words.{Floor, room_in, member_in, source_in, slot_in, sub_in, pin_in, floor_in}
