@@ -1,7 +1,8 @@
 -- What a good desk tells of its rows.
 use Rattle.std.proofs.Common.{◌≡◌, ℕ, ◌+◌, ◌<◌, Bool, true, false, cond, not, ◌&&◌, ◌||◌, nat_eq, nat_le, List, [], ◌∷◌}
-use Rattle.std.proofs.Common.{◌++◌, map, None, Some, refl, sym, ap, ◌∙◌, arith, append_assoc, eqb-true}
-use Rattle.std.specs.Prelude.{count_by, option_map, option_and_then}
+use Rattle.std.proofs.Common.{◌++◌, map, None, Some, refl, sym, ap, ◌∙◌, arith, append_assoc, eqb-true, ◌≤◌, length}
+use Rattle.std.proofs.Common.{Option}
+use Rattle.std.specs.Prelude.{count_by, option_map, option_and_then, filter}
 use Rattle.std.specs.List.{find, list_any, list_all, AllByRecursion}
 use Rattle.std.proofs.lemmas.Bool.{and_parts}
 use Rattle.std.proofs.lemmas.Bool.Decides.{nat_tests}
@@ -9,22 +10,26 @@ use Rattle.desk_rows.specs.declared.row.Row.{Row}
 use Rattle.desk_rows.specs.declared.row.Row.TheVariants.{Member, Source, Slot, Sub}
 use Rattle.desk_rows.specs.declared.row.Member.{Member as MemberRow}
 use Rattle.desk_rows.specs.declared.row.Slot.{Slot as SlotRow}
+use Rattle.desk_rows.specs.declared.claim.Claim.{Claim}
+use Rattle.desk_rows.specs.declared.claim.Claim.TheVariants as claims
 use Rattle.desk_rows.specs.declared.key.Key.{Key}
 use Rattle.desk_rows.specs.declared.key.Key.TheVariants as keys
 use Rattle.desk_rows.specs.declared.key.Kind.TheVariants as kinds
-use Rattle.desk_rows.specs.Row.{has_key, names, is_in_range}
+use Rattle.desk_rows.specs.Row.{makes, has_key, names, is_in_range}
 use Rattle.desk_rows.specs.Kinds.{is_of}
 use Rattle.desk_rows.specs.Order.{precedes, in_order}
-use Rattle.desk_rows.specs.laws.Equal.{key_itself}
+use Rattle.desk_rows.specs.laws.ClaimLaws.{claimed_once}
 use Rattle.desk_rows.specs.laws.PlaceLaws.{count_next}
-use Rattle.desk_rows.specs.laws.Laws.{claims_key, count_by-append, good_parts, good_order}
-use Rattle.desk_rows.specs.Desk.{Desk, good, is_alone, is_named_there, rows_of, row_at, are_together, all_suit}
+use Rattle.desk_rows.specs.laws.Laws.{good_parts, good_order}
+use Rattle.desk_rows.specs.Desk.{Desk, good, is_named_there, rows_of, row_at, are_together, all_suit}
 use Rattle.desk_rows.specs.Desk.{has_few_audio, obeys}
 use Rattle.desk_rows.specs.Getters.{member_in, source_in, slot_in, sub_in, member_at}
 use Rattle.desk_rows.specs.laws.GetterLaws.{member_with, under_slot}
 use Rattle.topology.specs.Choice.{sources_of}
 use Rattle.topology.specs.Receivers.{slots_of}
-use Rattle.topology.proofs.Distinct.{at, Distinct, from_past}
+use Rattle.topology.proofs.Distinct.{at, Distinct}
+use Rattle.topology.proofs.Parted.{apart_once}
+use Rattle.topology.proofs.Finding as finding
 use Rattle.topology.proofs.Rising.{rises, rising, Keyed, apart}
 use Rattle.desk_rows.specs.laws.NamingLaws.{its_slot, its_sub}
 use Rattle.topology.proofs.KindRows.{subs_of, number, source_ssrc, slot_ssrc, sub_ssrc, its_source, slot_row}
@@ -57,50 +62,40 @@ slots_distinct d h = apart slot_ssrc (slots_of d) (slots_rise d h)
 
 -- ---- members
 
--- a member counts its own key
-own_key : (m : MemberRow) (p : Row → Bool) (rs : List Row) → p (Member m) ≡ true
-    → count_by p (Member m ∷ rs) ≡ 1 + count_by p rs
-own_key m p rs e = count_next p (Member m) rs ∙ ap (λ b. cond b 1 0 + count_by p rs) e
+-- a number by which members are told apart, as each claims its own
+abbrev pub Claims : (MemberRow → ℕ) → (ℕ → Claim) → Type 0
+Claims key claim = (k : ℕ) (m : MemberRow) → nat_eq (key m) k ≡ true → makes (claim k) (Member m) ≡ true
 
--- what is counted nowhere is no member
-not_counted : (k : ℕ) (ms : List MemberRow) (rs : List Row)
-    → count_by (has_key (keys.Member k)) (map Member ms ++ rs) ≡ 0 → at number k ms ≡ None
-not_counted k [] rs e = refl
-not_counted k (m ∷ ms) rs e = by (nat_eq m.member k) refl (not_counted k ms rs)
+-- the members of a number claim it
+claimed : (key : MemberRow → ℕ) (claim : ℕ → Claim) → Claims key claim → (k : ℕ) (ms : List MemberRow) (rs : List Row)
+    → length (filter (λ m. nat_eq (key m) k) ms) ≤ count_by (makes (claim k)) (map Member ms ++ rs)
+claimed key claim its k [] rs = omega arith
+claimed key claim its k (m ∷ ms) rs = by (nat_eq (key m) k) refl (claimed key claim its k ms rs)
   where
-    by : (b : Bool) → nat_eq m.member k ≡ b
-        → (count_by (has_key (keys.Member k)) (map Member ms ++ rs) ≡ 0 → at number k ms ≡ None)
-        → at number k (m ∷ ms) ≡ None
-    by true h later = absurd (let one = own_key m (has_key (keys.Member k)) (map Member ms ++ rs) h in omega arith)
-    by false h later =
-        let front : count_by (has_key (keys.Member k)) (map Member (m ∷ ms) ++ rs)
-        ≡ 0 + count_by (has_key (keys.Member k)) (map Member ms ++ rs) =
-        count_next (has_key (keys.Member k)) (Member m) (map Member ms ++ rs)
-        ∙ ap (λ b. cond b 1 0 + count_by (has_key (keys.Member k)) (map Member ms ++ rs)) h in
-        let none : count_by (has_key (keys.Member k)) (map Member ms ++ rs) ≡ 0 = omega arith in
-        from_past (nat_eq m.member k) m (at number k ms) h (later none)
+    next : count_by (makes (claim k)) (Member m ∷ map Member ms ++ rs)
+        ≡ cond (makes (claim k) (Member m)) 1 0 + count_by (makes (claim k)) (map Member ms ++ rs)
+    next = count_next (makes (claim k)) (Member m) (map Member ms ++ rs)
 
--- members that have their keys alone are apart
-members_apart : (d : Desk) (before : List Row) (ms : List MemberRow) (rs : List Row)
-    → rows_of d ≡ before ++ (map Member ms ++ rs) → list_all (is_alone d) (map Member ms ++ rs) ≡ true
-    → Distinct number ms
-members_apart d before [] rs e h = tt
-members_apart d before (m ∷ ms) rs e h =
-    let p = has_key (keys.Member m.member) in
-    let rest = map Member ms ++ rs in
-    let parts = and_parts (is_alone d (Member m)) (list_all (is_alone d) rest) h in
-    let once : count_by p (rows_of d) ≡ 1 = eqb-true (count_by p (rows_of d)) 1 (claims_key d (Member m) parts.0) in
-    let split : count_by p (rows_of d) ≡ count_by p before + count_by p (Member m ∷ rest) =
-    ap (count_by p) e ∙ count_by-append p before (Member m ∷ rest) in
-    let here : count_by p (Member m ∷ rest) ≡ 1 + count_by p rest =
-    own_key m p rest (key_itself (keys.Member m.member)) in
-    let none : count_by p rest ≡ 0 = omega arith in (
-      not_counted m.member ms rs none,
-      members_apart d (before ++ Member m ∷ []) ms rs (e ∙ sym (append_assoc before (Member m ∷ []) rest)) parts.1,
-    )
+    by : (b : Bool) → nat_eq (key m) k ≡ b
+        → length (filter (λ m. nat_eq (key m) k) ms) ≤ count_by (makes (claim k)) (map Member ms ++ rs)
+        → length (cond b (m ∷ filter (λ m. nat_eq (key m) k) ms) (filter (λ m. nat_eq (key m) k) ms))
+        ≤ count_by (makes (claim k)) (Member m ∷ map Member ms ++ rs)
+    by true e rest =
+        let one : ◌≡◌ {A = ℕ} (cond (makes (claim k) (Member m)) 1 0) 1 = ap (λ b. cond b 1 0) (its k m e) in
+        omega (arith, rest, next, one)
+    by false e rest = omega (arith, rest, next)
+
+-- a claim is made once, so no two members have one such number
+pub members_apart : (key : MemberRow → ℕ) (claim : ℕ → Claim) → Claims key claim → (d : Desk) → good d ≡ true
+    → Distinct key d.members
+members_apart key claim its d g =
+    apart_once key d.members (λ k.
+    let few = claimed key claim its k d.members d.others in
+    let once = claimed_once d (claim k) (good_parts d g).alone in
+    omega (arith, few, once))
 
 pub members_distinct : (d : Desk) → good d ≡ true → Distinct number d.members
-members_distinct d h = members_apart d [] d.members d.others refl (good_parts d h).alone
+members_distinct d g = members_apart number (λ k. claims.Key (keys.Member k)) (λ k m e. e) d g
 
 pub no_members : (d : Desk) → good d ≡ true → list_all (λ r. not (is_of kinds.Member r)) d.others ≡ true
 no_members d h =
@@ -115,15 +110,7 @@ each p (x ∷ xs) h = (let both = and_parts (p x) (list_all p xs) h in (both.0, 
 -- what is found has the key, and what is true of all
 pub of_found : (p : Row → Bool) (key : Key) (r : Row) (rs : List Row) → list_all p rs ≡ true
     → find (has_key key) rs ≡ Some r → (p r ≡ true) × (has_key key r ≡ true)
-of_found p key r [] all h = absurd (cc)
-of_found p key r (x ∷ rs) all h =
-    let both = and_parts (p x) (list_all p rs) all in by (has_key key x) refl both.0 h (of_found p key r rs both.1)
-  where
-    by : (b : Bool) → has_key key x ≡ b → p x ≡ true → cond b (Some x) (find (has_key key) rs) ≡ Some r
-        → (find (has_key key) rs ≡ Some r → (p r ≡ true) × (has_key key r ≡ true))
-        → (p r ≡ true) × (has_key key r ≡ true)
-    by true e here h later = (let same : x ≡ r = cc in (ap p (sym same) ∙ here, ap (has_key key) (sym same) ∙ e))
-    by false e here h later = later h
+of_found p key r rs all h = finding.of_found (λ r. p r ≡ true) (has_key key) r rs (each p rs all) h
 
 -- what a row is asked for is found
 pub found_any : (key : Key) (rs : List Row) → list_any (has_key key) rs ≡ true

@@ -1,9 +1,10 @@
 -- The sources that may be heard, seated at their members' places, are those of the members in their order.
-use Rattle.std.proofs.Common.{◌≡◌, ℕ, ◌<◌, Bool, true, false, cond, not, ◌&&◌, nat_eq, List, [], ◌∷◌, ◌++◌, map, length}
+use Rattle.std.proofs.Common.{◌≡◌, ℕ, ◌<◌, Bool, true, false, cond, not, ◌&&◌, nat_eq, List, [], ◌∷◌, map, length}
 use Rattle.std.proofs.Common.{Option, None, Some, refl, sym, ap, subst, ◌∙◌}
 use Rattle.std.specs.Prelude.{filter, option_and_then}
 use Rattle.std.specs.Option.{is_some}
 use Rattle.std.specs.List.{All, find, filter_map, cons_option, flat_map}
+use Rattle.std.proofs.lemmas.List.Elements.{filter_agree}
 use Rattle.desk_rows.specs.declared.row.Row.{Row}
 use Rattle.desk_rows.specs.declared.row.Row.TheVariants.{Source, Mute}
 use Rattle.desk_rows.specs.declared.row.Member.{Member as MemberRow}
@@ -25,21 +26,19 @@ use Rattle.topology.specs.Mixes.{is_audible, audio_source, audio_sources}
 use Rattle.topology.specs.inner.Seating.{seat, by_members, by_places}
 use Rattle.topology.specs.inner.Audible.{is_muted_in, unmuted_seat, audible_seat}
 use Rattle.topology.proofs.KindRows.{is_source, its_source, of_kind, behind_members}
-use Rattle.topology.proofs.Parted.{filter-and}
+use Rattle.topology.proofs.Parted.{filter-and, found_same}
 use Rattle.topology.proofs.Seats.{seats_within, seated_in_order}
 
 -- what is found among those that pass another test too
 pub found_among : (p q : Row → Bool) → ((r : Row) → p r ≡ true → q r ≡ true) → (rs : List Row)
     → find p (filter q rs) ≡ find p rs
-found_among p q passes [] = refl
-found_among p q passes (r ∷ rs) = by (p r) refl (q r) refl (found_among p q passes rs)
+found_among p q passes rs =
+    found_same p (filter q rs) rs
+    (sym (filter-and p q rs) ∙ filter_agree (λ r. p r && q r) p (λ r. by r (p r) refl) rs)
   where
-    by : (a : Bool) → p r ≡ a → (b : Bool) → q r ≡ b → find p (filter q rs) ≡ find p rs
-        → find p (cond b (r ∷ filter q rs) (filter q rs)) ≡ cond a (Some r) (find p rs)
-    by true e true f rest = ap (λ a. cond a (Some r) (find p (filter q rs))) e
-    by true e false f rest = absurd (let bad : true ≡ false = sym (passes r e) ∙ f in cc)
-    by false e true f rest = ap (λ a. cond a (Some r) (find p (filter q rs))) e ∙ rest
-    by false e false f rest = rest
+    by : (r : Row) (b : Bool) → p r ≡ b → (b && q r) ≡ b
+    by r true e = passes r e
+    by r false e = refl
 
 -- ---- who is heard
 
@@ -115,11 +114,11 @@ seats_heard d =
 of_members : (d : Desk) (ms : List MemberRow)
     → by_members sender audio_source ms (filter (is_heard d) (sources_of d))
     ≡ flat_map (λ m. map (audio_source m) (filter (is_audible d m) (sources_of d))) ms
-of_members d [] = refl
-of_members d (m ∷ ms) =
-    ap (λ ss. map (audio_source m) ss ++ by_members sender audio_source ms (filter (is_heard d) (sources_of d)))
-    (sym (filter-and (λ (s : SourceRow). nat_eq s.member m.member) (is_heard d) (sources_of d)))
-    ∙ ap (λ zs. map (audio_source m) (filter (is_audible d m) (sources_of d)) ++ zs) (of_members d ms)
+of_members d ms =
+    (λ k.
+    flat_map
+    (λ m. map (audio_source m) (sym (filter-and (λ s. nat_eq s.member m.member) (is_heard d) (sources_of d)) k))
+    ms)
 
 pub all_heard : (d : Desk) → good d ≡ true
     → by_places (length d.members) (filter_map (audible_seat d (mutes_of d)) (filter (is_of kinds.Source) d.others))

@@ -4,7 +4,9 @@ use Rattle.std.proofs.Common.{refl, sym, ap, subst, ◌∙◌, eqb-true}
 use Rattle.std.specs.Prelude.{option_map, option_and_then}
 use Rattle.std.specs.Option.{option_or}
 use Rattle.std.specs.List.{list_all}
-use Rattle.std.proofs.lemmas.Bool.{and_parts}
+use Rattle.std.proofs.lemmas.Bool.{and_parts, or_parts}
+use Rattle.std.proofs.lemmas.Option.{option_and_then_some, same_Some}
+use Rattle.desk_rows.specs.declared.row.Row.{Row}
 use Rattle.desk_rows.specs.declared.row.Row.TheVariants.{Sub}
 use Rattle.desk_rows.specs.declared.row.Source.{Source as SourceRow}
 use Rattle.desk_rows.specs.declared.row.Slot.{Slot as SlotRow}
@@ -15,9 +17,10 @@ use Rattle.desk_rows.specs.Row.{names, suits, wants, is_in_range}
 use Rattle.desk_rows.specs.Row.Want.{Sends}
 use Rattle.desk_rows.specs.laws.Equal.{number_itself}
 use Rattle.desk_rows.specs.laws.Laws.{good_parts}
+use Rattle.desk_rows.specs.laws.NamingLaws.{its_sub}
 use Rattle.desk_rows.specs.Desk.{Desk, good, rows_of, row_at, room_at, same_room, are_together, all_suit, has_few_audio}
 use Rattle.desk_rows.specs.Desk.{obeys}
-use Rattle.desk_rows.specs.Getters.{source_at, slot_at, sub_at}
+use Rattle.desk_rows.specs.Getters.{sub_in, source_at, slot_at, sub_at}
 use Rattle.desk_rows.specs.laws.GetterLaws.{under_sub}
 use Rattle.topology.specs.Looking.{subscribed, is_muted, is_this, sender_of, room_of_member}
 use Rattle.topology.specs.Looking.{room_of_source}
@@ -28,10 +31,6 @@ use Rattle.topology.proofs.GoodRows.{of_found}
 use Rattle.topology.proofs.RoomsOf.{room_at_source, room_at_slot}
 use Rattle.topology.proofs.Shown.{its_media, its_room, suiting, shown_in}
 
-neither : (a b : Bool) → a || b ≡ false → (a ≡ false) × (b ≡ false)
-neither true b e = absurd (cc)
-neither false b e = (refl, e)
-
 -- a slot that chose: it would get the source, which isn't barred
 record Chose (d : Desk) (k source : ℕ) (slot : SlotRow) : Type 0 where
   found : slot_at d k ≡ Some slot
@@ -40,29 +39,20 @@ record Chose (d : Desk) (k source : ℕ) (slot : SlotRow) : Type 0 where
   others : is_this slot.member (sender_of d source) ≡ false
 
 who_chose : (d : Desk) (k source : ℕ) → choice d k ≡ Some source → (slot : SlotRow) × Chose d k source slot
-who_chose d k source h = by (slot_at d k) refl h
+who_chose d k source h =
+    option_and_then_some (chosen d) (slot_at d k) source h (λ slot found chose.
+    option_and_then_some (unless_barred d slot) (wanted d slot) source chose (λ n would free.
+    let is = not_barred (is_barred d slot n) n free in
+    let own = is_this slot.member (sender_of d source) in
+    let away = not (are_in_one_room d slot source) in
+    let all = or_parts (is_muted d source) (own || away) (sym (ap (is_barred d slot) is.1) ∙ is.0) in (
+      slot,
+      record { found = found; would = would ∙ ap Some is.1; heard = all.0; others = (or_parts own away all.1).0 },
+    )))
   where
-    from : (slot : SlotRow) → slot_at d k ≡ Some slot → (n : ℕ) → wanted d slot ≡ Some n → (b : Bool)
-        → is_barred d slot n ≡ b → cond b None (Some n) ≡ Some source → (slot : SlotRow) × Chose d k source slot
-    from slot found n would true barred h = absurd (cc)
-    from slot found n would false barred h =
-        let is : n ≡ source = cc in
-        let own = is_this slot.member (sender_of d source) in
-        let away = not (are_in_one_room d slot source) in
-        let free = neither (is_muted d source) (own || away) (sym (ap (is_barred d slot) is) ∙ barred) in (
-          slot,
-          record { found = found; would = would ∙ ap Some is; heard = free.0; others = (neither own away free.1).0 },
-        )
-
-    would_get : (slot : SlotRow) → slot_at d k ≡ Some slot → (o : Option ℕ) → wanted d slot ≡ o
-        → option_and_then (unless_barred d slot) o ≡ Some source → (slot : SlotRow) × Chose d k source slot
-    would_get slot found None would h = absurd (cc)
-    would_get slot found (Some n) would h = from slot found n would (is_barred d slot n) refl h
-
-    by : (o : Option SlotRow) → slot_at d k ≡ o → option_and_then (chosen d) o ≡ Some source
-        → (slot : SlotRow) × Chose d k source slot
-    by None found h = absurd (cc)
-    by (Some slot) found h = would_get slot found (wanted d slot) refl h
+    not_barred : (b : Bool) (n : ℕ) → cond b None (Some n) ≡ Some source → (b ≡ false) × (n ≡ source)
+    not_barred true n e = absurd (cc)
+    not_barred false n e = (refl, same_Some n source e)
 
 pub is_heard : (d : Desk) (k source : ℕ) → choice d k ≡ Some source → is_muted d source ≡ false
 is_heard d k source h = (who_chose d k source h).1.heard
@@ -81,6 +71,16 @@ of_others d k source slot h found =
 record Meets (d : Desk) (k source : ℕ) : Type 0 where
   video : option_map (λ (s : SourceRow). s.media) (source_at d source) ≡ Some Video
   together : same_room (room_at d (keys.Source source)) (room_at d (keys.Slot k)) ≡ true
+
+sub_found : (o : Option Row) (source : ℕ) → option_map (λ s. s.source) (option_and_then sub_in o) ≡ Some source
+    → (s : SubRow) × (o ≡ Some (Sub s)) × (s.source ≡ source)
+sub_found None source h = absurd (cc)
+sub_found (Some r) source h = by (sub_in r) refl h
+  where
+    by : (o : Option SubRow) → sub_in r ≡ o → option_map (λ s. s.source) o ≡ Some source
+        → (s : SubRow) × (Some r ≡ Some (Sub s)) × (s.source ≡ source)
+    by None e h = absurd (cc)
+    by (Some s) e h = (s, ap Some (its_sub r s e), same_Some s.source source h)
 
 -- both are in a room
 in_one : (a b : Option ℕ) → same_room a b ≡ true → (room : ℕ) × (a ≡ Some room)

@@ -1,43 +1,23 @@
 -- On a good desk the first video source of a member has its least video SSRC.
 use Rattle.std.proofs.Common.{◌≡◌, ℕ, ◌≤◌, Bool, true, false, cond, nat_eq, nat_lt, List, [], ◌∷◌, Option, None, Some}
-use Rattle.std.proofs.Common.{refl, sym, ap, subst, ◌∙◌, arith}
+use Rattle.std.proofs.Common.{refl, sym, ap, ◌∙◌, arith}
+use Rattle.std.specs.Option.{is_some}
 use Rattle.std.specs.Prelude.{option_map}
 use Rattle.std.specs.List.{find, list_all}
-use Rattle.std.proofs.lemmas.Bool.{and_parts}
+use Rattle.std.proofs.lemmas.Bool.{and_parts, true≢false}
 use Rattle.std.proofs.lemmas.Bool.Decides.{nat_tests}
 use Rattle.desk_rows.specs.declared.row.Source.{Source as SourceRow}
 use Rattle.desk_rows.specs.Desk.{Desk, good}
 use Rattle.topology.specs.Looking.{source_at}
 use Rattle.topology.specs.Choice.{sources_of, is_video_of, first_video}
-use Rattle.topology.proofs.Distinct.{at, past}
+use Rattle.topology.proofs.Distinct.{at}
 use Rattle.topology.proofs.Finding.{found_key, of_found}
-use Rattle.topology.proofs.Rising.{rises, Found, all_found}
+use Rattle.topology.proofs.Rising.{rises, Found, all_found, apart}
+use Rattle.topology.proofs.Parted.{found_passes, none_found}
 use Rattle.topology.proofs.KindRows.{source_ssrc, source_row}
-use Rattle.topology.proofs.GoodRows.{sources_rise}
+use Rattle.topology.proofs.GoodRows.{sources_rise, each}
 
 -- ---- in any list
-
--- what is found has what all have
-found_has : {X : Type 0} (p q : X → Bool) (x : X) (xs : List X) → list_all q xs ≡ true → find p xs ≡ Some x → q x ≡ true
-found_has p q x [] all h = absurd (cc)
-found_has p q x (y ∷ ys) all h =
-    let both = and_parts (q y) (list_all q ys) all in by (p y) both.0 h (found_has p q x ys both.1)
-  where
-    by : (b : Bool) → q y ≡ true → cond b (Some y) (find p ys) ≡ Some x → (find p ys ≡ Some x → q x ≡ true) → q x ≡ true
-    by true here h later = (let same : y ≡ x = cc in subst (λ z. q z ≡ true) same here)
-    by false here h later = later h
-
--- where nothing passes, what is found by another test doesn't
-none_passes : {X : Type 0} (p q : X → Bool) (x : X) (xs : List X) → find p xs ≡ None → find q xs ≡ Some x → p x ≡ true
-    → ⊥
-none_passes p q x [] none h pass = absurd (cc)
-none_passes p q x (y ∷ ys) none h pass =
-    let front = past (p y) y (find p ys) none in by (q y) h (λ h. none_passes p q x ys front.1 h pass) front.0
-  where
-    by : (b : Bool) → cond b (Some y) (find q ys) ≡ Some x → (find q ys ≡ Some x → ⊥) → p y ≡ false → ⊥
-    by true h later fails =
-        (let same : y ≡ x = cc in let bad : true ≡ false = sym pass ∙ sym (ap p same) ∙ fails in absurd (cc))
-    by false h later fails = later h
 
 -- in a list that rises, the first that passes has the least key of those that pass
 least_first : {X : Type 0} (key : X → ℕ) (p q : X → Bool) (x y : X) (xs : List X) → rises key xs ≡ true
@@ -58,7 +38,9 @@ least_first key p q x y (z ∷ zs) up first other pass =
         let two : z ≡ y = cc in let same : key x ≡ key y = ap key (sym one ∙ two) in omega arith)
     by true false e first other above later =
         let one : z ≡ x = cc in
-        let lower = less (key z) (key y) (found_has q (λ w. nat_lt (key z) (key w)) y zs above other) in
+        let lower =
+        less (key z) (key y)
+        (of_found (λ w. nat_lt (key z) (key w) ≡ true) q y zs (each (λ w. nat_lt (key z) (key w)) zs above) other).0 in
         let same : key z ≡ key x = ap key one in
         omega arith
     by false true e first other above later =
@@ -68,7 +50,7 @@ least_first key p q x y (z ∷ zs) up first other pass =
 -- ---- on a good desk
 
 -- a source that sends a member's video
-the_video : (member : ℕ) (o : Option SourceRow) → option_map (is_video_of member) o ≡ Some true
+pub the_video : (member : ℕ) (o : Option SourceRow) → option_map (is_video_of member) o ≡ Some true
     → (s : SourceRow) × (o ≡ Some s) × (is_video_of member s ≡ true)
 the_video member None h = absurd (cc)
 the_video member (Some s) h = (s, refl, cc)
@@ -109,8 +91,12 @@ pub there_is_none : (d : Desk) (member other : ℕ) → good d ≡ true → firs
     → ¬ (option_map (is_video_of member) (source_at d other) ≡ Some true)
 there_is_none d member other g h video =
     let its = the_video member (source_at d other) video in
-    none_passes (is_video_of member) (λ (s : SourceRow). nat_eq s.ssrc other) its.0 (sources_of d)
-    (nothing (find (is_video_of member) (sources_of d)) h) (sym (source_row d other) ∙ its.1) its.2
+    let passes =
+    found_passes source_ssrc (is_video_of member) other its.0 (sources_of d)
+    (apart source_ssrc (sources_of d) (sources_rise d g)) (sym (source_row d other) ∙ its.1) in
+    let none =
+    none_found (is_video_of member) (sources_of d) (nothing (find (is_video_of member) (sources_of d)) h) in
+    true≢false (sym its.2 ∙ passes ∙ ap (λ ss. is_some (at source_ssrc other ss)) none)
   where
     nothing : (o : Option SourceRow) → option_map (λ (s : SourceRow). s.ssrc) o ≡ None → o ≡ None
     nothing None h = refl

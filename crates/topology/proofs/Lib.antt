@@ -7,12 +7,11 @@ pub mod RoomsOf
 pub mod Shown
 pub mod InRoom
 pub mod Falls
-pub mod OneReceiver
 pub mod Reached
 pub mod Seats
 pub mod Parted
 pub mod FromItsSide
-pub mod Viewers
+pub mod Holders
 pub mod Order
 pub mod LeastVideo
 pub mod Heard

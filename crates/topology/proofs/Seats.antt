@@ -1,25 +1,24 @@
 -- Things seated at their members' places and sorted by these are in the order of the members.
-use Rattle.std.proofs.Common.{◌≡◌, ℕ, zero, suc, ◌+◌, ◌<◌, ◌≤◌, inl, inr, Bool, true, false, cond, not, ◌&&◌, nat_eq}
-use Rattle.std.proofs.Common.{nat_lt, List, [], ◌∷◌, ◌++◌, map, length, Option, None, Some, refl, sym, ap, subst, ◌∙◌}
-use Rattle.std.proofs.Common.{arith, append_assoc, eqb-true}
+use Rattle.std.proofs.Common.{◌≡◌, ℕ, zero, suc, ◌+◌, ◌<◌, Bool, true, false, cond, not, ◌&&◌, nat_eq}
+use Rattle.std.proofs.Common.{List, [], ◌∷◌, ◌++◌, map, length, Option, None, Some, refl, sym, ap, subst, ◌∙◌}
+use Rattle.std.proofs.Common.{◌||◌, ◌&&◌, nat_le, nat_lt, arith, eqb-true}
 use denote.Param.Members.{Mut}
 use denote.Ref.{Bor}
 use Rattle.std.specs.Prelude.{filter}
 use Rattle.std.specs.Option.{option_map}
 use Rattle.std.specs.Ordering.{nat_cmp, is_lt}
 use Rattle.std.specs.Fn.{Called}
-use Rattle.std.specs.List.{All, filter_map, cons_option, list_all, range_with_len, slice_get}
-use Rattle.std.specs.List.Sorted.{IsNonDecreasingBy, IsPermutation, IsStableByKeyClosure}
+use Rattle.std.specs.List.{All, filter_map, flat_map, cons_option, range_with_len, slice_get}
+use Rattle.std.specs.List.Sorted.{IsNonDecreasingBy, IsStableByKeyClosure}
 use Rattle.std.proofs.lemmas.Fn.{always_returns_same}
-use Rattle.std.proofs.lemmas.Bool.{cases_Bool}
+use Rattle.std.proofs.lemmas.Bool.{and_parts, leb-true, eq-eqb, ne_eqb, both_ways}
 use Rattle.std.proofs.lemmas.Bool.Decides.{nat_tests}
 use Rattle.std.proofs.lemmas.List.{map-append}
-use Rattle.std.proofs.lemmas.List.Elements.{All-nil, All-cons, All-head, All-tail}
-use Rattle.std.proofs.lemmas.List.Sorted.{All-permutation, length_permutation}
+use Rattle.std.proofs.lemmas.Option.{none-some, same_Some}
+use Rattle.std.proofs.lemmas.List.Elements.{All-nil, All-cons, All-head, All-tail, All-filter}
+use Rattle.std.proofs.lemmas.List.Elements.{filter_agree, filter_passes}
 use Rattle.desk_rows.specs.declared.row.Member.{Member as MemberRow}
 use Rattle.desk_rows.specs.declared.row.Slot.{Slot as SlotRow}
-use Rattle.desk_rows.specs.declared.key.Kind.TheVariants as kinds
-use Rattle.desk_rows.specs.Kinds.{is_of}
 use Rattle.desk_rows.specs.Places.{place_in}
 use Rattle.desk_rows.specs.laws.Equal.{number_itself}
 use Rattle.desk_rows.specs.Desk.{Desk, good}
@@ -27,10 +26,11 @@ use Rattle.topology.specs.declared.seating.Seated.{Seated}
 use Rattle.topology.specs.Looking.{member_at}
 use Rattle.topology.specs.Receivers.{by_index}
 use Rattle.topology.specs.inner.Seating.{seat_at, seat_of, seat_with, seat, by_members, by_places}
-use Rattle.topology.proofs.Distinct.{at, Distinct, groups, past}
-use Rattle.topology.proofs.Finding.{turned}
+use Rattle.topology.proofs.Distinct.{at, Distinct, groups}
+use Rattle.topology.proofs.Finding.{found_key}
 use Rattle.topology.proofs.KindRows.{number, member_row}
 use Rattle.topology.proofs.GoodRows.{members_distinct, no_members}
+use Rattle.topology.proofs.Parted.{none_pass, all_pass, All-filter_map, filter-filter_map}
 
 -- ---- what a stable sort gives
 
@@ -41,15 +41,28 @@ test_same a b = grind (arith, nat_tests)
 pub same_groups : {X F : Type 0} {g : Mut F (Bor X × Unit {0}) ℕ} {f : F} (n : X → ℕ) (xs ys : List X)
     → IsStableByKeyClosure g nat_cmp f xs ys
     → ((a : Bor X × Unit {0}) (r : ℕ) (f' : F) → Called g f a r f' → (r ≡ n a.0.now) × (f' ≡ f))
-    → (x : X) → filter (λ y. nat_eq (n y) (n x)) ys ≡ filter (λ y. nat_eq (n y) (n x)) xs
-same_groups {g = g} {f = f} n xs ys stable computes x =
-    sym (λ i. filter (λ y. test_same (n x) (n y) i) ys)
-    ∙ stable n (always_returns_same g (λ a r. r ≡ n a.0.now) f computes) x
-    ∙ (λ i. filter (λ y. test_same (n x) (n y) i) xs)
+    → (i : ℕ) → filter (λ y. nat_eq (n y) i) ys ≡ filter (λ y. nat_eq (n y) i) xs
+same_groups {X = X} {g = g} {f = f} n xs ys stable computes i = by (of_key i ys) (of_key i xs) refl refl
+  where
+    of_key : ℕ → List X → List X
+    of_key k zs = filter (λ y. nat_eq (n y) k) zs
 
-nothing_in_groups : {X : Type 0} (n : X → ℕ) (k l : ℕ) → groups n (λ i. i) [] (range_with_len k l) ≡ []
-nothing_in_groups n k zero = refl
-nothing_in_groups n k (suc l) = nothing_in_groups n (k + 1) l
+    at_key : (x : X) → of_key (n x) ys ≡ of_key (n x) xs
+    at_key x =
+        sym (λ i. filter (λ y. test_same (n x) (n y) i) ys)
+        ∙ stable n (always_returns_same g (λ a r. r ≡ n a.0.now) f computes) x
+        ∙ (λ i. filter (λ y. test_same (n x) (n y) i) xs)
+
+    at_first : (zs : List X) (z : X) (rest : List X) → of_key i zs ≡ z ∷ rest → of_key i ys ≡ of_key i xs
+    at_first zs z rest is =
+        let passes = All-head (λ y. nat_eq (n y) i ≡ true) z rest
+        (subst (All (λ y. nat_eq (n y) i ≡ true)) is (filter_passes (λ y. nat_eq (n y) i) zs)) in
+        subst (λ k. of_key k ys ≡ of_key k xs) (eqb-true (n z) i passes) (at_key z)
+
+    by : (os ps : List X) → of_key i ys ≡ os → of_key i xs ≡ ps → of_key i ys ≡ of_key i xs
+    by [] [] e f = e ∙ sym f
+    by (z ∷ os) ps e f = at_first ys z os e
+    by [] (z ∷ ps) e f = at_first xs z ps f
 
 -- no element has a key that is less than all
 none_below : {X : Type 0} (n : X → ℕ) (k : ℕ) (ys : List X) → All (λ y. k < n y) ys
@@ -63,184 +76,96 @@ none_below n k (y ∷ ys) h =
     other : (a : ℕ) → k < a → nat_eq a k ≡ false
     other a h = grind (arith, nat_tests)
 
--- the groups of greater keys don't have it
-groups_past : {X : Type 0} (n : X → ℕ) (y : X) (ys : List X) (k l : ℕ) → n y < k
-    → groups n (λ i. i) (y ∷ ys) (range_with_len k l) ≡ groups n (λ i. i) ys (range_with_len k l)
-groups_past n y ys k zero h = refl
-groups_past n y ys k (suc l) h =
-    ap
-    (λ b.
-    cond b (y ∷ filter (λ y. nat_eq (n y) k) ys) (filter (λ y. nat_eq (n y) k) ys)
-    ++ groups n (λ i. i) (y ∷ ys) (range_with_len (k + 1) l))
-    (other (n y) h)
-    ∙ ap (λ zs. filter (λ y. nat_eq (n y) k) ys ++ zs) (groups_past n y ys (k + 1) l (omega arith))
+-- those of a key, and behind them those of greater keys
+joined : {X : Type 0} (n : X → ℕ) (k : ℕ) (q : X → Bool) → ((y : X) → q y ≡ true → k < n y) → (ys : List X)
+    → IsNonDecreasingBy n ys
+    → filter (λ y. nat_eq (n y) k) ys ++ filter q ys ≡ filter (λ y. nat_eq (n y) k || q y) ys
+joined n k q more [] up = refl
+joined {X = X} n k q more (y ∷ ys) up =
+    by (nat_eq (n y) k) refl (q y) refl
+    (joined n k q more ys (λ i j d le lt. up (suc i) (suc j) d (omega arith) (omega arith)))
   where
-    other : (a : ℕ) → a < k → nat_eq a k ≡ false
-    other a h = grind (arith, nat_tests)
+    those : List X
+    those = filter (λ y. nat_eq (n y) k) ys
 
--- an element of the least key comes first
-first_of_groups : {X : Type 0} (n : X → ℕ) (y : X) (ys : List X) (k l : ℕ) → k ≤ n y → n y < k + l
-    → All (λ z. n y ≤ n z) ys
-    → groups n (λ i. i) (y ∷ ys) (range_with_len k l) ≡ y ∷ groups n (λ i. i) ys (range_with_len k l)
-first_of_groups n y ys k zero low high least = absurd (omega arith)
-first_of_groups {X = X} n y ys k (suc l) low high least =
-    by (nat_eq (n y) k) refl (λ lt. first_of_groups n y ys (k + 1) l (omega arith) (omega arith) least)
+    whole : List X
+    whole = filter (λ y. nat_eq (n y) k || q y) ys
+
+    none : k < n y → those ≡ []
+    none more = none_below n k ys (λ i d lt. let far = up 0 (suc i) d (omega arith) (omega arith) in omega arith)
+
+    by : (a : Bool) → nat_eq (n y) k ≡ a → (b : Bool) → q y ≡ b → those ++ filter q ys ≡ whole
+        → cond a (y ∷ those) those ++ cond b (y ∷ filter q ys) (filter q ys) ≡ cond (a || b) (y ∷ whole) whole
+    by true e true f rest = absurd (let is = eqb-true (n y) k e in let above = more y f in omega arith)
+    by true e false f rest = ap (λ zs. y ∷ zs) rest
+    by false e true f rest =
+        ap (λ zs. zs ++ (y ∷ filter q ys)) (none (more y f))
+        ∙ ap (λ zs. y ∷ zs) (sym (ap (λ zs. zs ++ filter q ys) (none (more y f))) ∙ rest)
+    by false e false f rest = rest
+
+-- the key is one of so many from k on
+abbrev within : {X : Type 0} → (X → ℕ) → ℕ → ℕ → X → Bool
+within n k l y = nat_le k (n y) && nat_lt (n y) (k + l)
+
+-- where keys rise, groups of keys in a row are what has these keys
+groups_within : {X : Type 0} (n : X → ℕ) (ys : List X) → IsNonDecreasingBy n ys → (k l : ℕ)
+    → groups n (λ i. i) ys (range_with_len k l) ≡ filter (within n k l) ys
+groups_within n ys up k zero =
+    sym (filter_agree (within n k 0) (λ y. false) (λ y. nothing k (n y)) ys ∙ none_pass ys)
   where
-    rest : List X
-    rest = groups n (λ i. i) ys (range_with_len (k + 1) l)
-
-    same : nat_eq (n y) k ≡ true → n y < k + 1
-    same e = let is = eqb-true (n y) k e in omega arith
-
-    more : nat_eq (n y) k ≡ false → k < n y
-    more e = grind (arith, nat_tests)
-
-    by : (b : Bool) → nat_eq (n y) k ≡ b → (k < n y → groups n (λ i. i) (y ∷ ys) (range_with_len (k + 1) l) ≡ y ∷ rest)
-        → groups n (λ i. i) (y ∷ ys) (range_with_len k (suc l)) ≡ y ∷ groups n (λ i. i) ys (range_with_len k (suc l))
-    by true e later =
-        ap
-        (λ b.
-        cond b (y ∷ filter (λ y. nat_eq (n y) k) ys) (filter (λ y. nat_eq (n y) k) ys)
-        ++ groups n (λ i. i) (y ∷ ys) (range_with_len (k + 1) l))
-        e
-        ∙ ap (λ zs. y ∷ (filter (λ y. nat_eq (n y) k) ys ++ zs)) (groups_past n y ys (k + 1) l (same e))
-    by false e later =
-        ap
-        (λ b.
-        cond b (y ∷ filter (λ y. nat_eq (n y) k) ys) (filter (λ y. nat_eq (n y) k) ys)
-        ++ groups n (λ i. i) (y ∷ ys) (range_with_len (k + 1) l))
-        e
-        ∙ ap (λ zs. filter (λ y. nat_eq (n y) k) ys ++ zs) (later (more e))
-        ∙ ap (λ zs. zs ++ (y ∷ rest)) none
-        ∙ sym (ap (λ zs. y ∷ (zs ++ rest)) none)
-      where
-        none : filter (λ y. nat_eq (n y) k) ys ≡ []
-        none = none_below n k ys (λ i d lt. let far = least i d lt in let near = more e in omega arith)
-
--- a list whose keys rise is its groups, one after the other
-in_groups : {X : Type 0} (n : X → ℕ) (ys : List X) (l : ℕ) → IsNonDecreasingBy n ys → All (λ y. n y < l) ys
-    → ys ≡ groups n (λ i. i) ys (range_with_len 0 l)
-in_groups n [] l up within = sym (nothing_in_groups n 0 l)
-in_groups n (y ∷ ys) l up within =
-    ap (λ zs. y ∷ zs) (in_groups n ys l (λ i j d le lt. up (suc i) (suc j) d (omega arith) (omega arith))
-    (All-tail (λ y. n y < l) y ys within))
-    ∙ sym (first_of_groups n y ys 0 l (omega arith) (let low = All-head (λ y. n y < l) y ys within in omega arith)
-    (λ i d lt. up 0 (suc i) d (omega arith) (omega arith)))
-
-groups_same : {X : Type 0} (n : X → ℕ) (xs ys : List X)
-    → ((i : ℕ) → filter (λ y. nat_eq (n y) i) ys ≡ filter (λ y. nat_eq (n y) i) xs) → (is : List ℕ)
-    → groups n (λ i. i) ys is ≡ groups n (λ i. i) xs is
-groups_same n xs ys same [] = refl
-groups_same n xs ys same (i ∷ is) = (λ k. same i k ++ groups_same n xs ys same is k)
-
--- slots sorted by index are in the order of their indexes
-pub sorted_by_index : (slots sorted : List SlotRow) → All (λ s. s.index < 16) slots
-    → IsNonDecreasingBy (λ s. s.index) sorted → IsPermutation slots sorted
-    → ((x : SlotRow) → filter (λ s. nat_eq s.index x.index) sorted ≡ filter (λ s. nat_eq s.index x.index) slots)
-    → sorted ≡ by_index slots
-unfolding by_index
-sorted_by_index slots sorted few up moved same =
-    in_groups (λ s. s.index) sorted 16 up (All-permutation (λ (s : SlotRow). s.index < 16) slots sorted moved few)
-    ∙ groups_same (λ s. s.index) slots sorted
-    (λ i. same (record { out_ssrc = 0; member = 0; index = i; first_seq = 0; first_ts = 0 })) (range_with_len 0 16)
-
--- no key is great where none of a great one is
-all_small : {X : Type 0} (n : X → ℕ) (l : ℕ) (ys : List X) → ((i : ℕ) → l ≤ i → filter (λ y. nat_eq (n y) i) ys ≡ [])
-    → All (λ y. n y < l) ys
-all_small {X = X} n l [] none = All-nil (λ (y : X). n y < l)
-all_small {X = X} n l (y ∷ ys) none =
-    All-cons (λ (y : X). n y < l) y ys (by (nat_lt (n y) l) refl)
-    (all_small n l ys (λ i great. later (nat_eq (n y) i) (filter (λ y. nat_eq (n y) i) ys) (none i great)))
+    nothing : (k m : ℕ) → (nat_le k m && nat_lt m (k + 0)) ≡ false
+    nothing k m = grind (arith, nat_tests)
+groups_within n ys up k (suc l) =
+    ap (λ zs. filter (λ y. nat_eq (n y) k) ys ++ zs) (groups_within n ys up (k + 1) l)
+    ∙ joined n k (within n (k + 1) l) (λ y e. greater (n y) (and_parts _ _ e).0) ys up
+    ∙ filter_agree (λ y. nat_eq (n y) k || within n (k + 1) l y) (within n k (suc l)) (λ y. wider (n y)) ys
   where
-    later : (b : Bool) (zs : List X) → cond b (y ∷ zs) zs ≡ [] → zs ≡ []
-    later true zs h = absurd (cc)
-    later false zs h = h
+    greater : (m : ℕ) → nat_le (k + 1) m ≡ true → k < m
+    greater m e = let above = leb-true (k + 1) m e in omega arith
 
-    by : (b : Bool) → nat_lt (n y) l ≡ b → n y < l
-    by true e = grind (arith, nat_tests)
-    by false e =
-        absurd (let bad : y ∷ filter (λ z. nat_eq (n z) (n y)) ys ≡ [] =
-        sym (ap (λ b. cond b (y ∷ filter (λ z. nat_eq (n z) (n y)) ys) (filter (λ z. nat_eq (n z) (n y)) ys))
-        (number_itself (n y)))
-        ∙ none (n y) (great e) in
-        cc)
-      where
-        great : nat_lt (n y) l ≡ false → l ≤ n y
-        great e = grind (arith, nat_tests)
+    wider : (m : ℕ)
+        → (nat_eq m k || (nat_le (k + 1) m && nat_lt m ((k + 1) + l))) ≡ (nat_le k m && nat_lt m (k + suc l))
+    wider m = grind (arith, nat_tests)
 
--- slots whose indexes don't fall, those of each index being as they stood, are in the order of their indexes
+-- what is true of the elements of each key is true of all
+all_by_keys : {X : Type 0} (P : X → Type 0) (n : X → ℕ) (ys : List X)
+    → ((i : ℕ) → All P (filter (λ y. nat_eq (n y) i) ys)) → All P ys
+all_by_keys P n [] h = All-nil P
+all_by_keys {X = X} P n (y ∷ ys) h =
+    All-cons P y ys
+    (All-head P y (of_key (n y))
+    (subst (All P) (ap (λ b. cond b (y ∷ of_key (n y)) (of_key (n y))) (number_itself (n y))) (h (n y))))
+    (all_by_keys P n ys (λ i. by (nat_eq (n y) i) (of_key i) (h i)))
+  where
+    of_key : ℕ → List X
+    of_key k = filter (λ y. nat_eq (n y) k) ys
+
+    by : (b : Bool) (zs : List X) → All P (cond b (y ∷ zs) zs) → All P zs
+    by true zs h = All-tail P y zs h
+    by false zs h = h
+
+-- a list whose keys rise, and whose elements of each key are those of another, is the groups of the other
+pub in_order_by : {X : Type 0} (n : X → ℕ) (l : ℕ) (xs ys : List X) → All (λ x. n x < l) xs → IsNonDecreasingBy n ys
+    → ((i : ℕ) → filter (λ y. nat_eq (n y) i) ys ≡ filter (λ y. nat_eq (n y) i) xs)
+    → ys ≡ groups n (λ i. i) xs (range_with_len 0 l)
+in_order_by n l xs ys small up same =
+    sym (groups_within n ys up 0 l
+    ∙ all_pass (within n 0 l) ys (all_by_keys (λ y. within n 0 l y ≡ true) n ys (λ i.
+    subst (All (λ y. within n 0 l y ≡ true)) (sym (same i))
+    (All-filter (λ y. nat_eq (n y) i) (λ y. within n 0 l y ≡ true) xs (λ i d lt. inside _ (small i d lt))))))
+    ∙ (λ k. flat_map (λ i. same i k) (range_with_len 0 l))
+  where
+    inside : (m : ℕ) → m < l → (nat_le 0 m && nat_lt m (0 + l)) ≡ true
+    inside m lt = grind (arith, nat_tests)
+
+-- slots whose indexes rise, those of each index being as they stood, are in the order of their indexes
 pub rising_by_index : (slots sorted : List SlotRow) → All (λ s. s.index < 16) slots
     → IsNonDecreasingBy (λ s. s.index) sorted
     → ((i : ℕ) → filter (λ s. nat_eq s.index i) sorted ≡ filter (λ s. nat_eq s.index i) slots) → sorted ≡ by_index slots
 unfolding by_index
-rising_by_index slots sorted few up same =
-    in_groups (λ s. s.index) sorted 16 up
-    (all_small (λ (s : SlotRow). s.index) 16 sorted (λ i great. same i ∙ none_great slots few i great))
-    ∙ groups_same (λ s. s.index) slots sorted same (range_with_len 0 16)
-  where
-    none_great : (xs : List SlotRow) → All (λ s. s.index < 16) xs → (i : ℕ) → 16 ≤ i
-        → filter (λ s. nat_eq s.index i) xs ≡ []
-    none_great [] few i great = refl
-    none_great (x ∷ xs) few i great =
-        ap (λ b. cond b (x ∷ filter (λ s. nat_eq s.index i) xs) (filter (λ s. nat_eq s.index i) xs))
-        (other x.index i (All-head (λ (s : SlotRow). s.index < 16) x xs few) great)
-        ∙ none_great xs (All-tail (λ (s : SlotRow). s.index < 16) x xs few) i great
-      where
-        other : (a b : ℕ) → a < 16 → 16 ≤ b → nat_eq a b ≡ false
-        other a b low high = grind (arith, nat_tests)
+rising_by_index slots sorted few up same = in_order_by (λ s. s.index) 16 slots sorted few up same
 
 -- ---- places
-
--- a member whose number is not found is another
-not_at : (k : ℕ) (front : List MemberRow) (m : MemberRow) (back : List MemberRow)
-    → at number k (front ++ m ∷ back) ≡ None → nat_eq m.member k ≡ false
-not_at k [] m back h = (past (nat_eq m.member k) m (at number k back) h).0
-not_at k (x ∷ front) m back h = not_at k front m back (past (nat_eq x.member k) x (at number k (front ++ m ∷ back)) h).1
-
--- a member stands behind those before it
-place_of : (front : List MemberRow) (m : MemberRow) (back : List MemberRow) → Distinct number (front ++ m ∷ back)
-    → place_in (front ++ m ∷ back) m.member ≡ Some (length front)
-place_of [] m back d =
-    ap (λ b. cond b (Some 0) (option_map (λ place. place + 1) (place_in back m.member))) (number_itself m.member)
-place_of (x ∷ front) m back d =
-    ap (λ b. cond b (Some 0) (option_map (λ place. place + 1) (place_in (front ++ m ∷ back) m.member)))
-    (turned m.member x.member (not_at x.member front m back d.0))
-    ∙ ap (option_map (λ place. place + 1)) (place_of front m back d.1)
-    ∙ ap Some (let more : length front + 1 ≡ suc (length front) = omega arith in more)
-
--- and is found there
-pub found_there : (front : List MemberRow) (m : MemberRow) (back : List MemberRow) → Distinct number (front ++ m ∷ back)
-    → at number m.member (front ++ m ∷ back) ≡ Some m
-found_there [] m back d = ap (λ b. cond b (Some m) (at number m.member back)) (number_itself m.member)
-found_there (x ∷ front) m back d =
-    ap (λ b. cond b (Some x) (at number m.member (front ++ m ∷ back)))
-    (turned m.member x.member (not_at x.member front m back d.0))
-    ∙ found_there front m back d.1
-
-one_less : (o : Option ℕ) (n : ℕ) → option_map (λ place. place + 1) o ≡ Some (suc n) → o ≡ Some n
-one_less None n h = absurd (cc)
-one_less (Some q) n h = let same : q + 1 ≡ suc n = cc in ap Some (let is : q ≡ n = omega arith in is)
-
-not_first : (o : Option ℕ) → option_map (λ place. place + 1) o ≡ Some 0 → ⊥
-not_first None h = absurd (cc)
-not_first (Some q) h = let same : q + 1 ≡ 0 = cc in absurd (omega arith)
-
--- who has its place has its number
-who_stands : (front : List MemberRow) (m : MemberRow) (back : List MemberRow) (n : ℕ)
-    → place_in (front ++ m ∷ back) n ≡ Some (length front) → nat_eq m.member n ≡ true
-who_stands [] m back n h = by (nat_eq m.member n) refl h
-  where
-    by : (b : Bool) → nat_eq m.member n ≡ b
-        → cond b (Some 0) (option_map (λ place. place + 1) (place_in back n)) ≡ Some 0 → nat_eq m.member n ≡ true
-    by true e h = e
-    by false e h = absurd (not_first (place_in back n) h)
-who_stands (x ∷ front) m back n h = by (nat_eq x.member n) h (who_stands front m back n)
-  where
-    by : (b : Bool)
-        → cond b (Some 0) (option_map (λ place. place + 1) (place_in (front ++ m ∷ back) n)) ≡ Some (suc (length front))
-        → (place_in (front ++ m ∷ back) n ≡ Some (length front) → nat_eq m.member n ≡ true) → nat_eq m.member n ≡ true
-    by true h later = (let same : 0 ≡ suc (length front) = cc in absurd (omega arith))
-    by false h later = later (one_less (place_in (front ++ m ∷ back) n) (length front) h)
 
 place_within : (ms : List MemberRow) (n q : ℕ) → place_in ms n ≡ Some q → q < length ms
 place_within [] n q h = absurd (cc)
@@ -251,8 +176,6 @@ place_within (m ∷ ms) n q h = by (nat_eq m.member n) (place_in ms n) h (λ r. 
     by true o h later = (let same : 0 ≡ q = cc in omega arith)
     by false None h later = absurd (cc)
     by false (Some r) h later = (let same : r + 1 ≡ q = cc in let less = later r refl in omega arith)
-
--- ---- the seat of a member
 
 -- the member of a number stands at the place of it
 stands_at : (ms : List MemberRow) (n q : ℕ) → place_in ms n ≡ Some q → at number n ms ≡ slice_get ms q
@@ -268,6 +191,23 @@ stands_at (m ∷ ms) n q h = by (nat_eq m.member n) refl (place_in ms n) h (λ r
     by false e (Some r) h later =
         (let same : r + 1 ≡ q = cc in let next : suc r ≡ q = omega arith in later r refl ∙ ap (slice_get (m ∷ ms)) next)
 
+-- and where a member stands is its place
+place_of : (ms : List MemberRow) (p : ℕ) (m : MemberRow) → Distinct number ms → slice_get ms p ≡ Some m
+    → place_in ms m.member ≡ Some p
+place_of [] p m apart h = absurd (cc)
+place_of (x ∷ ms) zero m apart h =
+    ap (λ b. cond b (Some 0) (option_map (λ place. place + 1) (place_in ms m.member)))
+    (ap (λ (x : MemberRow). nat_eq x.member m.member) (same_Some x m h) ∙ number_itself m.member)
+place_of (x ∷ ms) (suc p) m apart h =
+    let next = place_of ms p m apart.1 h in
+    ap (λ b. cond b (Some 0) (option_map (λ place. place + 1) (place_in ms m.member)))
+    (ne_eqb x.member m.member (λ same.
+    none-some m (sym apart.0 ∙ ap (λ n. at number n ms) same ∙ stands_at ms m.member p next ∙ h)))
+    ∙ ap (option_map (λ place. place + 1)) next
+    ∙ ap Some (let more : p + 1 ≡ suc p = omega arith in more)
+
+-- ---- the seat of a member
+
 pub seat_there : (d : Desk) (n q : ℕ) (o : Option MemberRow) → good d ≡ true → place_in d.members n ≡ Some q
     → o ≡ slice_get d.members q → seat_of d n ≡ seat_at (Some q) o
 seat_there d n q o g stands is =
@@ -276,139 +216,97 @@ seat_there d n q o g stands is =
 
 -- ---- seats
 
-seat_place : (place : Option ℕ) (m : Option MemberRow) (t : Seated MemberRow) → seat_at place m ≡ Some t
-    → place ≡ Some t.place
-seat_place None m t h = absurd (cc)
-seat_place (Some p) None t h = absurd (cc)
-seat_place (Some p) (Some m) t h =
-    let same : record { place = p; thing = m } ≡ t = cc in ap (λ (u : Seated MemberRow). Some u.place) same
-
 seat_stands : {X Y : Type 0} (owner : X → ℕ) (make : MemberRow → X → Y) (d : Desk) (x : X) (t : Seated Y)
     → seat owner make d x ≡ Some t → place_in d.members (owner x) ≡ Some t.place
-seat_stands {Y = Y} owner make d x t h = by (seat_of d (owner x)) refl h
+seat_stands {Y = Y} owner make d x t h = by (place_in d.members (owner x)) (member_at d (owner x)) h
   where
-    by : (o : Option (Seated MemberRow)) → seat_of d (owner x) ≡ o → option_map (seat_with make x) o ≡ Some t
-        → place_in d.members (owner x) ≡ Some t.place
-    by None e h = absurd (cc)
-    by (Some u) e h =
-        let same : seat_with make x u ≡ t = cc in
-        seat_place (place_in d.members (owner x)) (member_at d (owner x)) u e ∙ ap (λ (v : Seated Y). Some v.place) same
+    by : (o : Option ℕ) (m : Option MemberRow) → option_map (seat_with make x) (seat_at o m) ≡ Some t
+        → o ≡ Some t.place
+    by None m h = absurd (cc)
+    by (Some p) None h = absurd (cc)
+    by (Some p) (Some m) h = ap (option_map (λ (t : Seated Y). t.place)) h
 
 pub seats_within : {X Y : Type 0} (owner : X → ℕ) (make : MemberRow → X → Y) (d : Desk) (xs : List X)
     → All (λ t. t.place < length d.members) (filter_map (seat owner make d) xs)
-seats_within {Y = Y} owner make d [] = All-nil (λ (t : Seated Y). t.place < length d.members)
-seats_within {Y = Y} owner make d (x ∷ xs) = by (seat owner make d x) refl (seats_within owner make d xs)
-  where
-    by : (o : Option (Seated Y)) → seat owner make d x ≡ o
-        → All (λ (t : Seated Y). t.place < length d.members) (filter_map (seat owner make d) xs)
-        → All (λ (t : Seated Y). t.place < length d.members) (cons_option o (filter_map (seat owner make d) xs))
-    by None e rest = rest
-    by (Some t) e rest =
-        All-cons (λ (t : Seated Y). t.place < length d.members) t (filter_map (seat owner make d) xs)
-        (place_within d.members (owner x) t.place (seat_stands owner make d x t e)) rest
+seats_within owner make d xs =
+    All-filter_map (seat owner make d) (λ t. t.place < length d.members)
+    (λ x t h. place_within d.members (owner x) t.place (seat_stands owner make d x t h)) xs
 
 -- what sits at a member's place is what is made of what belongs to it
-one_place : {X Y : Type 0} (owner : X → ℕ) (make : MemberRow → X → Y) (d : Desk) (m : MemberRow) (p : ℕ)
-    → place_in d.members m.member ≡ Some p → ((n : ℕ) → place_in d.members n ≡ Some p → nat_eq m.member n ≡ true)
-    → member_at d m.member ≡ Some m
-    → (xs : List X)
+one_place : {X Y : Type 0} (owner : X → ℕ) (make : MemberRow → X → Y) (d : Desk) (m : MemberRow) (p : ℕ) → good d ≡ true
+    → slice_get d.members p ≡ Some m → (xs : List X)
     → map (λ t. t.thing) (filter (λ t. nat_eq t.place p) (filter_map (seat owner make d) xs))
     ≡ map (make m) (filter (λ x. nat_eq (owner x) m.member) xs)
-one_place owner make d m p stands who lives [] = refl
-one_place {Y = Y} owner make d m p stands who lives (x ∷ xs) =
-    by (nat_eq (owner x) m.member) refl (one_place owner make d m p stands who lives xs)
+one_place {X = X} {Y = Y} owner make d m p g at_p xs =
+    ap (map (λ (t : Seated Y). t.thing)) (filter-filter_map (seat owner make d) (λ t. nat_eq t.place p) mine here xs)
+    ∙ made xs
   where
-    others : List (Seated Y)
-    others = filter_map (seat owner make d) xs
+    mine : X → Bool
+    mine x = nat_eq (owner x) m.member
 
-    here : Seated Y → Bool
-    here t = nat_eq t.place p
+    stands : place_in d.members m.member ≡ Some p
+    stands = place_of d.members p m (members_distinct d g) at_p
 
-    mine : nat_eq (owner x) m.member ≡ true → seat owner make d x ≡ Some (record { place = p; thing = make m x })
-    mine e =
-        (let is = eqb-true (owner x) m.member e in
-        (λ i. option_map (seat_with make x) (seat_of d (is i)))
-        ∙ (λ i. option_map (seat_with make x) (seat_at (stands i) (lives i))))
+    lives : member_at d m.member ≡ Some m
+    lives = member_row d m.member (no_members d g) ∙ stands_at d.members m.member p stands ∙ at_p
 
-    skipped : nat_eq (owner x) m.member ≡ false → (o : Option (Seated Y)) → seat owner make d x ≡ o
-        → map (λ t. t.thing) (filter here (cons_option o others)) ≡ map (λ t. t.thing) (filter here others)
-    skipped e None k = refl
-    skipped e (Some t) k =
-        elim (cases_Bool (nat_eq t.place p)) [
-          | inl f ↦
-              let its = seat_stands owner make d x t k ∙ ap Some (eqb-true t.place p f) in
-              let same = who (owner x) its in
-              absurd (let no' : nat_eq m.member (owner x) ≡ false = turned (owner x) m.member e in
-              (let bad : true ≡ false = sym same ∙ no' in cc))
-          | inr f ↦ ap (λ b. map (λ (t : Seated Y). t.thing) (cond b (t ∷ filter here others) (filter here others))) f
-        ]
+    here : (x : X) (t : Seated Y) → seat owner make d x ≡ Some t → nat_eq t.place p ≡ mine x
+    here x t h = by (mine x) refl
+      where
+        its : place_in d.members (owner x) ≡ Some t.place
+        its = seat_stands owner make d x t h
 
-    by : (b : Bool) → nat_eq (owner x) m.member ≡ b
-        → map (λ t. t.thing) (filter here others) ≡ map (make m) (filter (λ x. nat_eq (owner x) m.member) xs)
-        → map (λ t. t.thing) (filter here (cons_option (seat owner make d x) others))
-        ≡ map (make m)
-        (cond b (x ∷ filter (λ x. nat_eq (owner x) m.member) xs) (filter (λ x. nat_eq (owner x) m.member) xs))
-    by true e rest =
-        ap (λ o. map (λ (t : Seated Y). t.thing) (filter here (cons_option o others))) (mine e)
-        ∙ ap
-        (λ b.
-        map (λ (t : Seated Y). t.thing)
-        (cond b (record { place = p; thing = make m x } ∷ filter here others) (filter here others)))
-        (number_itself p)
-        ∙ ap (λ ys. make m x ∷ ys) rest
-    by false e rest = skipped e (seat owner make d x) refl ∙ rest
+        by : (b : Bool) → mine x ≡ b → nat_eq t.place p ≡ b
+        by true e =
+            eq-eqb t.place p (same_Some t.place p (sym its
+            ∙ ap (place_in d.members) (eqb-true (owner x) m.member e)
+            ∙ stands))
+        by false e = ne_eqb t.place p (λ same.
+            let found = stands_at d.members (owner x) p (its ∙ ap Some same) ∙ at_p in
+            both_ways (mine x) e (eq-eqb (owner x) m.member (sym (found_key number (owner x) m d.members found))))
 
-one_longer : (front : List MemberRow) (m : MemberRow) → length (front ++ m ∷ []) ≡ length front + 1
-one_longer [] m = refl
-one_longer (x ∷ front) m = let rest = one_longer front m in omega (arith, rest)
+    made : (xs : List X)
+        → map (λ t. t.thing) (filter_map (seat owner make d) (filter mine xs)) ≡ map (make m) (filter mine xs)
+    made [] = refl
+    made (x ∷ xs) = by (mine x) refl (made xs)
+      where
+        by : (b : Bool) → mine x ≡ b
+            → map (λ t. t.thing) (filter_map (seat owner make d) (filter mine xs)) ≡ map (make m) (filter mine xs)
+            → map (λ t. t.thing) (filter_map (seat owner make d) (cond b (x ∷ filter mine xs) (filter mine xs)))
+            ≡ map (make m) (cond b (x ∷ filter mine xs) (filter mine xs))
+        by true e rest =
+            ap (λ o. map (λ (t : Seated Y). t.thing) (cons_option o (filter_map (seat owner make d) (filter mine xs))))
+            ((λ i. option_map (seat_with make x) (seat_of d (eqb-true (owner x) m.member e i)))
+            ∙ (λ i. option_map (seat_with make x) (seat_at (stands i) (lives i))))
+            ∙ ap (λ ys. make m x ∷ ys) rest
+        by false e rest = rest
 
--- the groups from a place on are those of the members from it on
-from_place : {X Y : Type 0} (owner : X → ℕ) (make : MemberRow → X → Y) (d : Desk) (xs : List X)
-    → list_all (λ r. not (is_of kinds.Member r)) d.others ≡ true → Distinct number d.members
-    → (front back : List MemberRow) → d.members ≡ front ++ back
-    → map (λ t. t.thing)
-    (groups (λ t. t.place) (λ i. i) (filter_map (seat owner make d) xs) (range_with_len (length front) (length back)))
-    ≡ by_members owner make back xs
-from_place owner make d xs plain apart front [] e = refl
-from_place {X = X} {Y = Y} owner make d xs plain apart front (m ∷ back) e =
-    let p = length front in
-    let ys = filter_map (seat owner make d) xs in
-    let here = λ (t : Seated Y). nat_eq t.place p in
-    let rest = groups (λ (t : Seated Y). t.place) (λ i. i) ys (range_with_len (p + 1) (length back)) in
-    let apart_here = subst (Distinct number) e apart in
-    let stands = ap (λ ms. place_in ms m.member) e ∙ place_of front m back apart_here in
-    let who = λ (n : ℕ) (h : place_in d.members n ≡ Some p).
-    who_stands front m back n (sym (ap (λ ms. place_in ms n) e) ∙ h) in
-    let lives = member_row d m.member plain ∙ ap (at number m.member) e ∙ found_there front m back apart_here in
-    map-append (λ (t : Seated Y). t.thing) (filter here ys) rest
-    ∙ ap (λ zs. zs ++ map (λ (t : Seated Y). t.thing) rest) (one_place owner make d m p stands who lives xs)
-    ∙ ap (λ zs. map (make m) (filter (λ x. nat_eq (owner x) m.member) xs) ++ zs)
-    (subst
-    (λ k.
-    map (λ (t : Seated Y). t.thing) (groups (λ (t : Seated Y). t.place) (λ i. i) ys (range_with_len k (length back)))
-    ≡ by_members owner make back xs)
-    (one_longer front m)
-    (from_place owner make d xs plain apart (front ++ m ∷ []) back (e ∙ sym (append_assoc front (m ∷ []) back))))
+map-flat_map : {A B C : Type 0} (v : B → C) (f : A → List B) (xs : List A)
+    → map v (flat_map f xs) ≡ flat_map (λ x. map v (f x)) xs
+map-flat_map v f [] = refl
+map-flat_map v f (x ∷ xs) = map-append v (f x) (flat_map f xs) ∙ ap (λ ys. map v (f x) ++ ys) (map-flat_map v f xs)
+
+-- place by place is member by member
+in_places : {Y : Type 0} (f : ℕ → List Y) (g : MemberRow → List Y) (k : ℕ) (ms : List MemberRow)
+    → ((j : ℕ) (m : MemberRow) → slice_get ms j ≡ Some m → f (k + j) ≡ g m)
+    → flat_map f (range_with_len k (length ms)) ≡ flat_map g ms
+in_places f g k [] h = refl
+in_places f g k (m ∷ ms) h =
+    (λ i. first i ++ in_places f g (k + 1) ms (λ j n e. ap f (shifted j) ∙ h (suc j) n e) i)
+  where
+    first : f k ≡ g m
+    first = ap f (let same : k ≡ k + 0 = omega arith in same) ∙ h 0 m refl
+
+    shifted : (j : ℕ) → (k + 1) + j ≡ k + suc j
+    shifted j = omega arith
 
 -- seats place by place are in the order of the members
 pub seated_in_order : {X Y : Type 0} (owner : X → ℕ) (make : MemberRow → X → Y) (d : Desk) (xs : List X) → good d ≡ true
     → by_places (length d.members) (filter_map (seat owner make d) xs) ≡ by_members owner make d.members xs
-seated_in_order owner make d xs g = from_place owner make d xs (no_members d g) (members_distinct d g) [] d.members refl
-
--- ---- seats that are sorted
-
--- seats sorted by place are in the order of the places
-pub sorted_by_place : {X : Type 0} (n : ℕ) (seats sorted : List (Seated X)) → All (λ t. t.place < n) seats
-    → IsNonDecreasingBy (λ t. t.place) sorted → IsPermutation seats sorted
-    → ((x : Seated X) → filter (λ t. nat_eq t.place x.place) sorted ≡ filter (λ t. nat_eq t.place x.place) seats)
-    → map (λ t. t.thing) sorted ≡ by_places n seats
-sorted_by_place n [] [] within up moved same =
-    sym (ap (map (λ (t : Seated _). t.thing)) (nothing_in_groups (λ (t : Seated _). t.place) 0 n))
-sorted_by_place n [] (y ∷ ys) within up moved same =
-    absurd (let len = length_permutation [] (y ∷ ys) moved in omega arith)
-sorted_by_place {X = X} n (x ∷ seats) sorted within up moved same =
-    ap (map (λ (t : Seated X). t.thing))
-    (in_groups (λ t. t.place) sorted n up
-    (All-permutation (λ (t : Seated X). t.place < n) (x ∷ seats) sorted moved within)
-    ∙ groups_same (λ (t : Seated X). t.place) (x ∷ seats) sorted (λ i. same (record { place = i; thing = x.thing }))
-    (range_with_len 0 n))
+seated_in_order {Y = Y} owner make d xs g =
+    map-flat_map (λ (t : Seated Y). t.thing) (λ p. filter (λ t. nat_eq t.place p) (filter_map (seat owner make d) xs))
+    (range_with_len 0 (length d.members))
+    ∙ in_places
+    (λ p. map (λ (t : Seated Y). t.thing) (filter (λ t. nat_eq t.place p) (filter_map (seat owner make d) xs)))
+    (λ m. map (make m) (filter (λ x. nat_eq (owner x) m.member) xs)) 0 d.members (λ j m e.
+    one_place owner make d m (0 + j) g (ap (slice_get d.members) (let same : 0 + j ≡ j = omega arith in same) ∙ e) xs)

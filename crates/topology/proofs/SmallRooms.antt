@@ -6,7 +6,9 @@ use Rattle.std.specs.List.{find, filter_map, cons_option, flat_map, list_all, li
 use Rattle.std.proofs.lemmas.Bool.{and_parts}
 use Rattle.std.proofs.lemmas.Bool.Decides.{nat_tests}
 use Rattle.std.proofs.lemmas.List.{length-append}
-use Rattle.std.proofs.lemmas.List.Elements.{filter-append}
+use Rattle.std.proofs.Math.Bool.{and_comm}
+use Rattle.std.proofs.lemmas.List.Elements.{filter-append, filter_agree}
+use Rattle.std.proofs.lemmas.List.Sums.{length-filter}
 use Rattle.std.proofs.lemmas.List.Folds.{list_all-append, list_all-map}
 use Rattle.desk_rows.specs.declared.row.Row.{Row}
 use Rattle.desk_rows.specs.declared.row.Row.TheVariants.{Room, Member, Source, Gain}
@@ -25,8 +27,9 @@ use Rattle.topology.specs.Looking.{source_in, is_muted}
 use Rattle.topology.specs.Choice.{sources_of}
 use Rattle.topology.specs.Mixes.{is_audible, audio_source, audio_sources, gain_in, gain_of, in_room}
 use Rattle.topology.proofs.Distinct.{at, Distinct}
-use Rattle.topology.proofs.Finding.{turned}
 use Rattle.topology.proofs.Finding as finding
+use Rattle.topology.proofs.Parted.{filter-map, filter-and, all_pass, none_pass, listed as listed_one}
+use Rattle.topology.proofs.Parted.{one_of_key, none_found}
 use Rattle.topology.proofs.KindRows.{number, its_source, member_row}
 use Rattle.topology.proofs.GoodRows.{members_distinct, no_members, each, of_found, found_any}
 use Rattle.topology.proofs.RoomsOf.{room_inside}
@@ -54,10 +57,6 @@ gain_small d member source h = by (row_at d (keys.Gain member source)) refl
 abbrev listed : Desk → List MemberRow → List SourceRow → List AudioSource
 listed d ms ss = flat_map (λ m. map (audio_source m) (filter (is_audible d m) ss)) ms
 
--- the source may be heard from this member, who is in the room
-abbrev is_from : Desk → ℕ → SourceRow → MemberRow → Bool
-is_from d room s m = nat_eq m.room room && is_audible d m s
-
 -- the source is audio, and its member was found in the room
 abbrev is_there : ℕ → SourceRow → Option MemberRow → Bool
 is_there room s None = false
@@ -67,17 +66,32 @@ nothing_listed : (d : Desk) (ms : List MemberRow) → listed d ms [] ≡ []
 nothing_listed d [] = refl
 nothing_listed d (m ∷ ms) = nothing_listed d ms
 
-one_more : (d : Desk) (room : ℕ) (s : SourceRow) (ss : List SourceRow) (ms : List MemberRow)
-    → length (filter (in_room room) (listed d ms (s ∷ ss)))
-    ≡ count_by (is_from d room s) ms + length (filter (in_room room) (listed d ms ss))
-one_more d room s ss [] = omega arith
-one_more d room s ss (m ∷ ms) =
-    let more = listed d ms (s ∷ ss) in
-    let fewer = listed d ms ss in
-    let whole = both (own (cond (is_audible d m s) (s ∷ kept) kept)) more in
-    let rest = both (own kept) fewer in
-    let front = by (is_audible d m s) (nat_eq m.room room) refl in
-    omega (arith, whole, rest, front, one_more d room s ss ms, count_next (is_from d room s) m ms)
+-- those of a room are of its members
+of_its_members : (d : Desk) (room : ℕ) (ss : List SourceRow) (ms : List MemberRow)
+    → filter (in_room room) (listed d ms ss) ≡ listed d (filter (λ m. nat_eq m.room room) ms) ss
+of_its_members d room ss [] = refl
+of_its_members d room ss (m ∷ ms) =
+    filter-append (in_room room) (map (audio_source m) (filter (is_audible d m) ss)) (listed d ms ss)
+    ∙ (λ i.
+    filter-map (in_room room) (audio_source m) (filter (is_audible d m) ss) i ++ of_its_members d room ss ms i)
+    ∙ by (nat_eq m.room room) (filter (λ m. nat_eq m.room room) ms)
+  where
+    own : List SourceRow
+    own = filter (is_audible d m) ss
+
+    by : (b : Bool) (ms : List MemberRow)
+        → map (audio_source m) (filter (λ x. b) own) ++ listed d ms ss ≡ listed d (cond b (m ∷ ms) ms) ss
+    by true ms = ap (λ zs. map (audio_source m) zs ++ listed d ms ss) (all_pass (λ x. true) own (λ i d lt. refl))
+    by false ms = ap (λ zs. map (audio_source m) zs ++ listed d ms ss) (none_pass own)
+
+one_more : (d : Desk) (s : SourceRow) (ss : List SourceRow) (ms : List MemberRow)
+    → length (listed d ms (s ∷ ss)) ≡ count_by (λ m. is_audible d m s) ms + length (listed d ms ss)
+one_more d s ss [] = omega arith
+one_more d s ss (m ∷ ms) =
+    let whole = length-append (own (cond (is_audible d m s) (s ∷ kept) kept)) (listed d ms (s ∷ ss)) in
+    let rest = length-append (own kept) (listed d ms ss) in
+    let front = by (is_audible d m s) in
+    omega (arith, whole, rest, front, one_more d s ss ms, count_next (λ m. is_audible d m s) m ms)
   where
     kept : List SourceRow
     kept = filter (is_audible d m) ss
@@ -85,74 +99,50 @@ one_more d room s ss (m ∷ ms) =
     own : List SourceRow → List AudioSource
     own ss = map (audio_source m) ss
 
-    both : (xs ys : List AudioSource)
-        → length (filter (in_room room) (xs ++ ys))
-        ≡ length (filter (in_room room) xs) + length (filter (in_room room) ys)
-    both xs ys =
-        ap length (filter-append (in_room room) xs ys)
-        ∙ length-append (filter (in_room room) xs) (filter (in_room room) ys)
-
-    by : (b c : Bool) → nat_eq m.room room ≡ c
-        → length (filter (in_room room) (own (cond b (s ∷ kept) kept)))
-        ≡ cond (c && b) 1 0 + length (filter (in_room room) (own kept))
-    by true true e =
-        (let one =
-        ap
-        (λ c. length (cond c (audio_source m s ∷ filter (in_room room) (own kept)) (filter (in_room room) (own kept))))
-        e in
-        omega (arith, one))
-    by true false e =
-        (let none =
-        ap
-        (λ c. length (cond c (audio_source m s ∷ filter (in_room room) (own kept)) (filter (in_room room) (own kept))))
-        e in
-        omega (arith, none))
-    by false true e = omega arith
-    by false false e = omega arith
+    by : (b : Bool) → length (own (cond b (s ∷ kept) kept)) ≡ cond b 1 0 + length (own kept)
+    by true = omega arith
+    by false = omega arith
 
 from_one : (d : Desk) (room : ℕ) (s : SourceRow) (ms : List MemberRow) → Distinct number ms
-    → count_by (is_from d room s) ms ≤ cond (is_there room s (at number s.member ms)) 1 0
-from_one d room s [] apart = omega arith
-from_one d room s (m ∷ ms) apart = by (nat_eq s.member m.member) refl (from_one d room s ms apart.1)
+    → count_by (λ m. is_audible d m s) (filter (λ m. nat_eq m.room room) ms)
+    ≤ cond (is_there room s (at number s.member ms)) 1 0
+from_one d room s ms apart =
+    let told =
+    sym (length-filter (λ m. is_audible d m s) (filter (λ m. nat_eq m.room room) ms))
+    ∙ ap length (sym (filter-and (λ m. is_audible d m s) (λ m. nat_eq m.room room) ms)
+    ∙ filter_agree (λ m. is_audible d m s && nat_eq m.room room) (λ m. heard m && nat_eq m.member s.member) agree ms
+    ∙ filter-and heard (λ m. nat_eq m.member s.member) ms
+    ∙ ap (filter heard) (one_of_key number s.member ms apart)) in
+    let one = by (at number s.member ms) in
+    omega (arith, told, one)
   where
-    heard : (a b c : Bool) → cond (a && (b && c)) 1 0 ≤ cond (b && a) 1 0
-    heard true true true = omega arith
-    heard true true false = omega arith
-    heard true false c = omega arith
-    heard false true c = omega arith
-    heard false false c = omega arith
+    heard : MemberRow → Bool
+    heard m = nat_eq m.room room && (same_media s.media Audio && not (is_muted d s.ssrc))
 
-    none : (a : Bool) → ◌≡◌ {A = ℕ} (cond (a && false) 1 0) 0
-    none true = refl
-    none false = refl
+    moved : (a b c : Bool) → ((b && c) && a) ≡ ((a && c) && b)
+    moved true true c = refl
+    moved true false c = and_comm false c
+    moved false true c = and_comm c false
+    moved false false c = refl
 
-    same : (a b : ℕ) → a ≡ b → nat_eq b a ≡ true
-    same a b e = grind (arith, nat_tests, e)
+    equal : (a b : ℕ) → nat_eq a b ≡ nat_eq b a
+    equal a b = grind (arith, nat_tests)
 
-    by : (b : Bool) → nat_eq s.member m.member ≡ b
-        → count_by (is_from d room s) ms ≤ cond (is_there room s (at number s.member ms)) 1 0
-        → count_by (is_from d room s) (m ∷ ms) ≤ cond (is_there room s (at number s.member (m ∷ ms))) 1 0
-    by true e rest =
-        let is = eqb-true s.member m.member e in
-        let behind : at number s.member ms ≡ None = ap (λ n. at number n ms) is ∙ apart.0 in
-        let no_more : ◌≡◌ {A = ℕ} (cond (is_there room s (at number s.member ms)) 1 0) 0 =
-        ap (λ o. cond (is_there room s o) 1 0) behind in
-        let found : ◌≡◌ {A = ℕ} (cond (is_there room s (at number s.member (m ∷ ms))) 1 0)
-        (cond (is_there room s (Some m)) 1 0) =
-        ap (λ b. cond (is_there room s (cond b (Some m) (at number s.member ms))) 1 0) (same s.member m.member is) in
-        let front : ◌≡◌ {A = ℕ} (cond (is_from d room s m) 1 0)
-        (cond (nat_eq m.room room && (same_media s.media Audio && not (is_muted d s.ssrc))) 1 0) =
-        ap (λ b. cond (nat_eq m.room room && (b && (same_media s.media Audio && not (is_muted d s.ssrc)))) 1 0) e in
-        let fits = heard (nat_eq m.room room) (same_media s.media Audio) (not (is_muted d s.ssrc)) in
-        omega (arith, rest, no_more, found, front, fits, count_next (is_from d room s) m ms)
-    by false e rest =
-        let found : ◌≡◌ {A = ℕ} (cond (is_there room s (at number s.member (m ∷ ms))) 1 0)
-        (cond (is_there room s (at number s.member ms)) 1 0) =
-        ap (λ b. cond (is_there room s (cond b (Some m) (at number s.member ms))) 1 0) (turned s.member m.member e) in
-        let front : ◌≡◌ {A = ℕ} (cond (is_from d room s m) 1 0) 0 =
-        ap (λ b. cond (nat_eq m.room room && (b && (same_media s.media Audio && not (is_muted d s.ssrc)))) 1 0) e
-        ∙ none (nat_eq m.room room) in
-        omega (arith, rest, found, front, count_next (is_from d room s) m ms)
+    agree : (m : MemberRow) → (is_audible d m s && nat_eq m.room room) ≡ (heard m && nat_eq m.member s.member)
+    agree m =
+        moved (nat_eq m.room room) (nat_eq s.member m.member) (same_media s.media Audio && not (is_muted d s.ssrc))
+        ∙ ap (λ b. heard m && b) (equal s.member m.member)
+
+    fits : (m : MemberRow) (a b c : Bool) → length (cond (a && (b && c)) (m ∷ []) []) ≤ cond (b && a) 1 0
+    fits m true true true = omega arith
+    fits m true true false = omega arith
+    fits m true false c = omega arith
+    fits m false true c = omega arith
+    fits m false false c = omega arith
+
+    by : (o : Option MemberRow) → length (filter heard (listed_one o)) ≤ cond (is_there room s o) 1 0
+    by None = omega arith
+    by (Some m) = fits m (nat_eq m.room room) (same_media s.media Audio) (not (is_muted d s.ssrc))
 
 -- ---- the sources of a room
 
@@ -173,9 +163,10 @@ its_room d room s g =
     by (Some m) = refl
 
 fewer_heard : (d : Desk) (room : ℕ) → good d ≡ true → (ss : List SourceRow)
-    → length (filter (in_room room) (listed d d.members ss)) ≤ count_by (λ s. is_audio_in d room (Source s)) ss
+    → length (listed d (filter (λ m. nat_eq m.room room) d.members) ss)
+    ≤ count_by (λ s. is_audio_in d room (Source s)) ss
 fewer_heard d room g [] =
-    let none = ap (λ xs. length (filter (in_room room) xs)) (nothing_listed d d.members) in omega (arith, none)
+    let none = ap length (nothing_listed d (filter (λ m. nat_eq m.room room) d.members)) in omega (arith, none)
 fewer_heard d room g (s ∷ ss) =
     let one = from_one d room s d.members (members_distinct d g) in
     let is : ◌≡◌ {A = ℕ} (cond (is_there room s (at number s.member d.members)) 1 0)
@@ -185,7 +176,7 @@ fewer_heard d room g (s ∷ ss) =
       arith,
       one,
       is,
-      one_more d room s ss d.members,
+      one_more d s ss (filter (λ m. nat_eq m.room room) d.members),
       fewer_heard d room g ss,
       count_next (λ s. is_audio_in d room (Source s)) s ss,
     )
@@ -216,31 +207,6 @@ counted_rows d room (r ∷ rs) = by (source_in r) refl (counted_rows d room rs)
 
 -- ---- the room of a member has a row
 
--- nobody in the room is heard where no member is in it
-elsewhere : (d : Desk) (room : ℕ) (ss : List SourceRow) (ms : List MemberRow) → find (λ m. nat_eq m.room room) ms ≡ None
-    → filter (in_room room) (listed d ms ss) ≡ []
-elsewhere d room ss [] h = refl
-elsewhere d room ss (m ∷ ms) h = by (nat_eq m.room room) refl h (elsewhere d room ss ms)
-  where
-    none : nat_eq m.room room ≡ false → (xs : List SourceRow) → filter (in_room room) (map (audio_source m) xs) ≡ []
-    none e [] = refl
-    none e (x ∷ xs) =
-        ap
-        (λ b.
-        cond b (audio_source m x ∷ filter (in_room room) (map (audio_source m) xs))
-        (filter (in_room room) (map (audio_source m) xs)))
-        e
-        ∙ none e xs
-
-    by : (b : Bool) → nat_eq m.room room ≡ b → cond b (Some m) (find (λ m. nat_eq m.room room) ms) ≡ None
-        → (find (λ m. nat_eq m.room room) ms ≡ None → filter (in_room room) (listed d ms ss) ≡ [])
-        → filter (in_room room) (listed d (m ∷ ms) ss) ≡ []
-    by true e h later = absurd (cc)
-    by false e h later =
-        filter-append (in_room room) (map (audio_source m) (filter (is_audible d m) ss)) (listed d ms ss)
-        ∙ ap (λ xs. xs ++ filter (in_room room) (listed d ms ss)) (none e (filter (is_audible d m) ss))
-        ∙ later h
-
 pub room_small : (d : Desk) (room : ℕ) → good d ≡ true → length (filter (in_room room) (audio_sources d)) ≤ 64
 room_small d room g = by (find (λ (m : MemberRow). nat_eq m.room room) d.members) refl
   where
@@ -249,7 +215,11 @@ room_small d room g = by (find (λ (m : MemberRow). nat_eq m.room room) d.member
 
     by : (o : Option MemberRow) → find (λ m. nat_eq m.room room) d.members ≡ o
         → length (filter (in_room room) (audio_sources d)) ≤ 64
-    by None e = (let none = ap length (elsewhere d room (sources_of d) d.members e) in omega (arith, none))
+    by None e =
+        let none =
+        ap length (of_its_members d room (sources_of d) d.members
+        ∙ ap (λ ms. listed d ms (sources_of d)) (none_found (λ m. nat_eq m.room room) d.members e)) in
+        omega (arith, none)
     by (Some m) e =
         let named =
         and_parts (list_all (is_named_there d) (map Member d.members)) (list_all (is_named_there d) d.others)
@@ -276,4 +246,5 @@ room_small d room g = by (find (λ (m : MemberRow). nat_eq m.room room) d.member
         let small =
         at_most (count_by (is_audio_in d room) d.others)
         (sym (ap (λ n. nat_le (count_by (is_audio_in d n) d.others) 64) same) ∙ few) in
-        omega (arith, small, fewer_heard d room g (sources_of d), counted_rows d room d.others)
+        let same_length = ap length (of_its_members d room (sources_of d) d.members) in
+        omega (arith, small, same_length, fewer_heard d room g (sources_of d), counted_rows d room d.others)

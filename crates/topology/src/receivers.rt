@@ -1,10 +1,11 @@
 //! The receivers of a source.
 
-ghost use Rattle.std.specs.Prelude.{◌≡◌, true, List, IfOk, Some};
-ghost use Rattle.std.specs.List.{filter_map};
+ghost use Rattle.std.specs.Prelude.{◌≡◌, ◌<◌, true, nat_eq, List, IfOk, OnOk, Some};
+ghost use Rattle.std.specs.List.{All, find, filter_map};
+ghost use Rattle.std.specs.Option.{option_copied};
 ghost use Rattle.topology.specs.Looking.{is_this, sender_of};
 ghost use Rattle.topology.specs.Choice.{shown};
-ghost use Rattle.topology.specs.Receivers.{receiver, receivers};
+ghost use Rattle.topology.specs.Receivers.{by_index, receiver, receivers};
 ghost use Rattle.desk_rows.specs.declared.row.Member.{Member as MemberRow};
 ghost use Rattle.desk_rows.specs.Desk.{good};
 ghost use Rattle.topology.specs.inner.Takers.{sender_from, subscriber, first_slot, viewer, AreShown, takers};
@@ -48,7 +49,7 @@ pub fn receivers_of<A: Allocator + Copy>(
         None => Ok(Vec::new(alloc)),
         Some(sender) => {
             let mut slots = takers(alloc, rows, source, &sender)?;
-            slots.sort_by_key(|slot| slot.index)?;
+            by_index(&mut slots)?;
             let mut seats = seats(alloc, rows, &slots)?;
             by_places(alloc, &mut seats)
         }
@@ -140,14 +141,18 @@ fn subscriber<A: Allocator + Copy>(rows: &Rows<A>, sender: &Member, sub: &Sub) -
     }
 }
 
+/// The slot of index 0 among these.
+fn first_of(slots: &[Slot]) -> Option<&Slot>
+    ensures { option_copied result ≡ find (λ s. nat_eq s.index 0) slots.now }
+{
+    slots.iter().find(|slot| slot.index == 0)
+}
+
 /// The slot of index 0 of a member.
 fn first_slot<A: Allocator + Copy>(rows: &Rows<A>, member: u32) -> Option<Slot>
     ensures { result ≡ first_slot rows.now member }
 {
-    match rows.slots_of(member).first() {
-        Some(slot) if slot.index == 0 => Some(*slot),
-        _ => None,
-    }
+    first_of(rows.slots_of(member)).copied()
 }
 
 /// The slot of index 0 of a member that sees what its room shows: in the sender's room, not the sender, and without a
@@ -163,6 +168,15 @@ fn viewer<A: Allocator + Copy>(rows: &Rows<A>, sender: &Member, member: &Member)
         Some(_) => None,
         None => Some(slot),
     }
+}
+
+/// Sorts slots by index.
+fn by_index<A: Allocator>(slots: &mut Vec<Slot, A>) -> Result<(), AllocError>
+    requires { All (λ s. s.index < 16) slots.old.items }
+    ensures { OnOk result (slots.new.items ≡ by_index slots.old.items) }
+{
+    slots.sort_by_key(|slot| slot.index)?;
+    Ok(())
 }
 
 /// The slot as a receiver, at its member's place.

@@ -1,4 +1,4 @@
-use Rattle.topology.proofs.OneReceiver.{receivers_distinct}
+use Rattle.topology.proofs.Reached.{receivers_distinct}
 use Rattle.topology.proofs.laws.receivers_are_distinct.Goals as goal
 
 pub returns : goal.returns

@@ -2,7 +2,7 @@ use Rattle.std.proofs.Common.{◌&&◌, sym, ap, ◌∙◌}
 use Rattle.std.specs.Option.{option_or, option_and_then}
 use Rattle.topology.specs.Looking.{is_this, holder}
 use Rattle.topology.specs.Choice.{first_video}
-use Rattle.topology.proofs.Viewers.{floor_shows}
+use Rattle.topology.proofs.Holders.{floor_shows}
 use Rattle.topology.proofs.receivers.is_shown.Goals as goal
 
 pub returns-else-is_this : goal.returns-else-is_this

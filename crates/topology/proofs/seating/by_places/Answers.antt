@@ -2,7 +2,7 @@ use Rattle.std.proofs.Common.{map, ap, ◌∙◌, rules}
 use Rattle.std.proofs.lemmas.Result.{IfOk-weaker}
 use Rattle.std.proofs.lemmas.List.Sorted.{IsNonDecreasingBy-from_sort_by_key}
 use Rattle.topology.specs.declared.seating.Seated.{Seated}
-use Rattle.topology.proofs.Seats.{same_groups, sorted_by_place}
+use Rattle.topology.proofs.Seats.{same_groups, in_order_by}
 use Rattle.topology.proofs.seating.by_places.Goals as goal
 
 pub returns : goal.returns
@@ -16,6 +16,6 @@ returns g c =
     IfOk-weaker c.things.result _ _
     (λ v is n within.
     is
-    ∙ ap (map (λ (t : Seated g.row.T.Denot). t.thing)) c.deref.ensures.value
-    ∙ sorted_by_place n seats sorted within up c.sort_by_key.ensures.permutation same)
+    ∙ ap (map (λ (t : Seated g.row.T.Denot). t.thing)) (c.deref.ensures.value
+    ∙ in_order_by place n seats sorted within up same))
     c.things.ensures
