@@ -10,7 +10,7 @@ use Rattle.frame_gate.specs.inner.Cells.{held}
 use Rattle.frame_gate.specs.inner.Kept.{Kept}
 use Rattle.frame_gate.specs.Epochs.{Epoch, packet_at, greatest, next_of}
 use Rattle.frame_gate.specs.GivenUp.{missing_in, is_missing}
-use Rattle.frame_gate.specs.Watched.{is_asked, is_lost}
+use Rattle.frame_gate.specs.Watched.{is_asked, is_lost, first_among}
 use Rattle.frame_gate.specs.Admits.{IsAt}
 use Rattle.frame_gate.proofs.MissingNumbers.{between}
 use Rattle.frame_gate.proofs.Taken.{greatest_below}
@@ -41,6 +41,13 @@ misses k e to h is =
     filter-range (lacks k.cells) (λ n. not (is_some (packet_at e.taken n))) k.walk.next (to - k.walk.next)
     (λ n le. ap (λ o. not (is_some o)) (h.tied.agrees n le))
     ∙ (λ i. filter (λ n. not (is_some (packet_at e.taken n))) (range_with_len (next i) (all i - next i)))
+
+-- the first of the missing numbers, by what the gate holds
+pub first_missing : (k : Kept) (e : Epoch) (cells : List (Option NumberedPacket)) (next to : ℕ) → IsAt k e
+    → cells ≡ k.cells → next ≡ k.walk.next → to ≡ min (unwrap_or k.greatest 0) (k.walk.next + 255)
+    → first_among (filter (lacks cells) (between next to)) ≡ first_among (missing_in e)
+first_missing k e cells next to h same from is =
+    (λ i. first_among (filter (lacks (same i)) (between (from i) to))) ∙ ap first_among (misses k e to h is)
 
 -- whether a number that is not held is asked for again
 abbrev pub again : List (Option NumberedPacket) → List ℕ → ℕ → Bool

@@ -8,6 +8,7 @@ ghost use Rattle.frame_gate.specs.inner.Cells.{held};
 ghost use Rattle.frame_gate.specs.Epochs.{most_missing};
 ghost use Rattle.frame_gate.specs.Admits.{Misses, CommitsCuts, PreparesCuts, PreparesMaybe};
 ghost use Rattle.frame_gate.specs.Packets.{number_of, ext_of, IsExt};
+ghost use Rattle.frame_gate.specs.Watched.{first_among};
 
 use crate::cells::{CELLS, find_held, forget_between};
 use crate::gate::Gate;
@@ -61,6 +62,24 @@ fn unheld<A: Allocator + Copy>(
         ask_unheld(&mut out, cells, number)?;
     }
     Ok(out)
+}
+
+/// The first of those from `from` up to `to`, which is left out, that is not held.
+pub(crate) fn first_unheld<A: Allocator + Copy>(
+    cells: &[Option<HeldPacket<A>>],
+    from: u64,
+    to: u64,
+) -> Option<u64>
+    requires { length cells.now ≡ 256 }
+    ensures { result
+        ≡ first_among (filter (λ n. not (is_some (held cells.now None n))) (range_with_len from (to - from))) }
+{
+    for number in from..to {
+        if !is_held(cells, number) {
+            return Some(number);
+        }
+    }
+    None
 }
 
 impl<A: Allocator + Copy> Gate<A> {

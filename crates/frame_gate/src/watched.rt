@@ -1,41 +1,24 @@
 //! A gate that is told when time passes. Begin with [`WatchedGate::new`].
 
-ghost use Rattle.std.specs.Prelude.{◌≡◌, ◌≤◌, ◌∷◌, [], ◌||◌, ◌&&◌, IfOk, length, take, true, not, nat_le};
+ghost use Rattle.std.specs.Prelude.{◌≡◌, ◌+◌, ◌≤◌, ◌∷◌, [], ◌||◌, ◌&&◌, IfOk, length, take, true, not, nat_le};
 ghost use Rattle.std.specs.Vec.{vec_len, vec_capacity};
 ghost use Rattle.frame_gate.specs.Admits.{Represents};
 ghost use Rattle.frame_gate.specs.Epochs.{most_missing};
 ghost use Rattle.frame_gate.specs.Frame.{highest_pt};
 ghost use Rattle.frame_gate.specs.Packets.{numbered, IsExt};
-ghost use Rattle.frame_gate.specs.Watched.{most_waits, limit_of, age};
+ghost use Rattle.frame_gate.specs.Watched.{Watch, most_waits, limit_of, age, waits_in, one_more_if};
 ghost use Rattle.frame_gate.specs.Waits.{CommitsWait, PreparesWait, CommitsPacket, PreparesPacket, answer_in};
+ghost use Rattle.frame_gate.specs.Waits.{Watches, so_many};
 
 use crate::aging::{MOST_WAITS, SHORT_WAITS, age, asked_again, last_lost};
 use crate::frame::Frame;
 use crate::gate::Gate;
 use crate::held::number_of;
 use crate::packet::Packet;
-use crate::prepared::{Admitted, GaveUp, PreparedAnswer, PreparedCuts};
+use crate::prepared::{Admitted, GaveUp, PreparedAnswer, PreparedCuts, Waited};
+use crate::waiting::first_unheld;
 use std::alloc::{AllocError, Allocator, Global};
 use std::marker::Model;
-
-/// The answer of a gate to a wait.
-#[derive(Drop)]
-pub struct Waited<A: Allocator + Copy = Global> {
-    /// The frames that are whole now, in their order.
-    pub frames: Vec<Frame<A>, A>,
-    /// The extended numbers that are asked for again, rising; at most 255.
-    pub nacks: Vec<i64, A>,
-    /// A number was given up, so a new picture is needed.
-    pub pli: bool,
-}
-
-impl<A: Allocator + Copy> Model for Waited<A> {
-    ghost use Rattle.frame_gate.specs.Watched.{Waited as WaitedOf};
-
-    ghost Value = { WaitedOf };
-
-    ghost view = { λ a. record { frames = a.frames.items; nacks = a.nacks.items; pli = a.pli } };
-}
 
 /// A prepared wait. [`WatchedGate::prepare_wait`] makes it.
 #[derive(Drop)]
@@ -58,7 +41,10 @@ impl<A: Allocator + Copy> Model for PreparedWait<A> {
 /// that were missing at 25 waits before, or at 5 while the source is thought not to answer requests. That is so once a
 /// number was given up, until a packet comes that was missing at a wait.
 ///
-/// Contracts see the gate, its greatest number at each of the last 25 waits, and whether the source answers.
+/// It counts the frames that it gave, and how often it gave up. Each count ends at 2^64 - 1.
+///
+/// Contracts see the gate, its greatest number at each of the last 25 waits, whether the source answers, and the
+/// counts.
 #[derive(Drop)]
 pub struct WatchedGate<A: Allocator + Copy = Global> {
     gate: Gate<A>,
@@ -66,6 +52,10 @@ pub struct WatchedGate<A: Allocator + Copy = Global> {
     marks: Vec<u64, A>,
     /// Whether the source is thought to answer requests.
     answers: bool,
+    /// How many frames it gave.
+    frames: u64,
+    /// How often it gave up.
+    gaps: u64,
 }
 
 /// A prepared packet. [`WatchedGate::prepare`] makes it.
@@ -91,7 +81,13 @@ impl<A: Allocator + Copy> Model for WatchedGate<A> {
 
     ghost Value = { WatchedOf };
 
-    ghost view = { λ w. record { gate = w.gate; marks = w.marks.items; answers = w.answers } };
+    ghost view = { λ w. record {
+      gate = w.gate;
+      marks = w.marks.items;
+      answers = w.answers;
+      frames = w.frames;
+      gaps = w.gaps;
+    } };
 
     ghost invariant = { λ w. (vec_len w.marks ≤ most_waits) × (most_waits ≤ vec_capacity w.marks) };
 }
@@ -157,6 +153,8 @@ impl<A: Allocator + Copy> WatchedGate<A> {
         ensures gate { IfOk result (λ w. Represents w.gate []) }
         ensures marks { IfOk result (λ w. w.marks ≡ []) }
         ensures answers { IfOk result (λ w. w.answers ≡ true) }
+        ensures frames { IfOk result (λ w. w.frames ≡ 0) }
+        ensures gaps { IfOk result (λ w. w.gaps ≡ 0) }
     {
         let gate = Gate::new(alloc)?;
         let marks = Vec::with_capacity(alloc, MOST_WAITS as usize)?;
@@ -164,7 +162,46 @@ impl<A: Allocator + Copy> WatchedGate<A> {
             gate,
             marks,
             answers: true,
+            frames: 0,
+            gaps: 0,
         })
+    }
+
+    /// How many frames it gave.
+    pub fn frames(&self) -> u64
+        ensures { result ≡ self.now.frames }
+    {
+        self.frames
+    }
+
+    /// How often it gave up: at a packet or at a wait, once however many numbers it gave up there.
+    pub fn gaps(&self) -> u64
+        ensures { result ≡ self.now.gaps }
+    {
+        self.gaps
+    }
+
+    /// At how many of the last 25 waits the first missing number was missing. None where no number is missing.
+    pub fn waits(&self) -> Option<u64>
+        ensures { (w : Watch) → Watches self.now w → result ≡ waits_in w }
+    {
+        let to = self.gate.missing_end();
+        match first_unheld(&self.gate.cells, self.gate.walk.next, to) {
+            None => None,
+            Some(number) => Some(age(&self.marks, number)),
+        }
+    }
+
+    /// Counts frames, and that it gave up if it did.
+    fn count(&mut self, frames: usize, gives_up: bool)
+        ensures { self.new
+            ≡ record self.old {
+              frames = so_many (self.old.frames + frames);
+              gaps = so_many (one_more_if gives_up self.old.gaps);
+            } }
+    {
+        self.frames = self.frames.saturating_add(frames as u64);
+        self.gaps = self.gaps.saturating_add(gives_up as u64);
     }
 
     /// Whether a number was missing at a wait, or was decided before one.
@@ -207,7 +244,9 @@ impl<A: Allocator + Copy> WatchedGate<A> {
     {
         let PreparedPacket { prepared, answers } = prepared;
         self.answers = answers;
-        self.gate.commit(prepared)
+        let admitted = self.gate.commit(prepared);
+        self.count(admitted.frames.len(), admitted.pli);
+        admitted
     }
 
     /// How many waits a number is waited for.
@@ -247,6 +286,7 @@ impl<A: Allocator + Copy> WatchedGate<A> {
         put_mark(&mut self.marks, self.gate.greatest.unwrap_or(0));
         let GaveUp { frames, pli } = self.gate.give_up(cuts);
         self.answers = self.answers && !pli;
+        self.count(frames.len(), pli);
         Waited { frames, nacks, pli }
     }
 }

@@ -5,6 +5,7 @@ use Rattle.frame_gate.specs.inner.Kept.{Kept}
 use Rattle.frame_gate.specs.Admits.{Prepares}
 use Rattle.frame_gate.specs.Watched.{age}
 use Rattle.frame_gate.specs.Waits.{WatchedOf}
+use Rattle.frame_gate.proofs.CountLemmas.{frames_more, gaps_more}
 use Rattle.frame_gate.proofs.watched.WatchedGate.prepare.Goals as goal
 
 pub returns-clause-ok : goal.returns-clause-ok
@@ -28,5 +29,7 @@ returns-clause-ok g c =
         marks = commits.marks ∙ h.marks;
         answers = commits.answers ∙ c.answers_with-answers.ensures
             ∙ (λ i. (h.answers i || nat_le 1 (age (h.marks i) (num i))) && not ((c.gives_up-pli.ensures ∙ x.0.pli) i));
+        frames = frames_more _ _ _ _ _ h.frames commits.frames x.0.frames;
+        gaps = gaps_more _ _ _ _ _ h.gaps commits.gaps x.0.pli;
       },
     )
