@@ -16,8 +16,10 @@ pub one_more : (g : GateOf) (events : List GateEvent) (x : GateEvent) → Watche
 one_more g events x at = subst (λ (w : Watch). Watches g w) (sym (fold-append watch_on unwatched events (x ∷ []))) at
 
 -- a new gate
-pub fresh_gate : (g : GateOf) → Gates g.gate [] → g.marks ≡ [] → g.answers ≡ true → Watches g (watch_of [])
-fresh_gate g gate marks answers = record { gate = gate; marks = marks; answers = answers }
+pub fresh_gate : (g : GateOf) → Gates g.gate [] → g.marks ≡ [] → g.answers ≡ true → g.frames ≡ 0 → g.gaps ≡ 0
+    → Watches g (watch_of [])
+fresh_gate g gate marks answers frames gaps =
+    record { gate = gate; marks = marks; answers = answers; frames = frames; gaps = gaps }
 
 at_old : (g : GateOf) (p : NumberedPacket) (r : PreparedPacketOf) (events : List GateEvent) (new : GateOf)
     → PreparesPacket g p r → HasGated (Some g) events → CommitsPacket g r new

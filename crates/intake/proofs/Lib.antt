@@ -6,6 +6,7 @@ pub mod Answered
 pub mod Courses
 pub mod KnownSources
 pub mod BlocksFrom
+pub mod ReceptionLemmas
 pub mod Renewals
 pub mod Happens
 pub mod WaitLemmas

@@ -9,5 +9,6 @@ pub mod Taking
 pub mod Waiting
 pub mod PacketsAlone
 pub mod Reported
+pub mod Reception
 pub mod Intakes
 pub mod inner

@@ -31,6 +31,7 @@ mod laws;
 mod media;
 mod outcome;
 mod payloads;
+mod reception;
 mod reporting;
 mod requesting;
 mod settings;
@@ -44,4 +45,5 @@ pub use self::laws::{
     voices_are_there, waits_leave_others_alone,
 };
 pub use self::outcome::Outcome;
+pub use self::reception::Reception;
 pub use self::settings::Settings;

@@ -29,6 +29,7 @@ returns-in_ok-prepared-in-None g c =
       admits =
           rw c.in-None.is (at_new_gate _ _ _
           (fresh_gate _ c.in_ok-fresh-in-None.ensures.gate c.in_ok-fresh-in-None.ensures.marks
-          c.in_ok-fresh-in-None.ensures.answers)
+          c.in_ok-fresh-in-None.ensures.answers c.in_ok-fresh-in-None.ensures.frames
+          c.in_ok-fresh-in-None.ensures.gaps)
           ready);
     }
