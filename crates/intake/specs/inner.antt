@@ -1,4 +1,5 @@
 pub mod Kept
+pub mod Freed
 pub mod Holding
 pub mod Moves
 pub mod Comings

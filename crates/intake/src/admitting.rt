@@ -1,13 +1,13 @@
 //! What comes to a source's gate: packets and waits.
 
-ghost use Rattle.std.specs.Prelude.{◌≡◌, ◌≤◌, IfOk, Some, None, true, is_some, option_copied, length};
+ghost use Rattle.std.specs.Prelude.{◌≡◌, ◌≤◌, IfOk, IfSome, Some, None, true, is_some, option_copied, length};
 ghost use Rattle.frame_gate.specs.Epochs.{most_missing};
 ghost use Rattle.frame_gate.specs.Frame.{highest_pt};
 ghost use Rattle.frame_gate.specs.Packets.{IsExt, numbered};
-ghost use Rattle.frame_gate.specs.Waits.{answer_in};
-ghost use Rattle.intake.specs.inner.Kept.{Admits, Settles, HasWaited, base_of};
+ghost use Rattle.intake.specs.inner.Kept.{Admits, SettlesAll, base_of};
+ghost use Rattle.intake.specs.inner.Freed.{freed_by};
 
-use frame_gate::{Admitted, Packet, PreparedPacket, PreparedWait, Waited, WatchedGate};
+use frame_gate::{Admitted, Frame, Packet, PreparedPacket, WatchedGate};
 use std::alloc::{AllocError, Allocator, Global};
 use std::marker::Model;
 
@@ -67,39 +67,31 @@ pub(crate) fn admit<A: Allocator + Copy>(
     }
 }
 
-/// Commits a prepared packet.
+/// Commits the prepared packet, if there is one, and gives the frames that it frees.
 // Each function on a packet's way to its gate is inlined. Otherwise what is prepared, 270 octets, would be moved five
 // times.
 #[inline(always)]
 pub(crate) fn settle<A: Allocator + Copy>(
+    alloc: A,
     gate: &mut Option<WatchedGate<A>>,
-    admission: Admission<A>,
-) -> Admitted<A>
-    requires ready { is_some (base_of gate.old admission) ≡ true }
-    ensures answer { result ≡ admission.prepared.prepared.answer }
-    ensures settles { Settles gate.old admission gate.new }
+    admission: Option<Admission<A>>,
+) -> Vec<Frame<A>, A>
+    requires ready { IfSome admission (λ a. is_some (base_of gate.old a) ≡ true) }
+    ensures frames { result.items ≡ freed_by admission }
+    ensures settles { SettlesAll gate.old admission gate.new }
 {
+    let Some(admission) = admission else {
+        return Vec::new(alloc);
+    };
     let Admission { fresh, prepared } = admission;
     if let Some(fresh) = fresh {
         *gate = Some(fresh);
     }
     match gate {
-        Some(gate) => gate.commit(prepared),
-        None => unreachable!(),
-    }
-}
-
-/// Commits a prepared wait.
-pub(crate) fn settle_wait<A: Allocator + Copy>(
-    gate: &mut Option<WatchedGate<A>>,
-    prepared: PreparedWait<A>,
-) -> Waited<A>
-    requires ready { is_some gate.old ≡ true }
-    ensures answer { result ≡ answer_in prepared }
-    ensures waited { HasWaited gate.old prepared gate.new }
-{
-    match gate {
-        Some(gate) => gate.wait(prepared),
+        Some(gate) => {
+            let admitted = gate.commit(prepared);
+            admitted.frames
+        }
         None => unreachable!(),
     }
 }

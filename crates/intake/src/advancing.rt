@@ -1,13 +1,14 @@
 //! Takes a judged packet into its source.
 
 ghost use Rattle.std.specs.Prelude.{◌≡◌, ◌+◌, ◌&&◌, true, false, nat_eq, if◌then◌else◌, IfOk, OnOk, OnErr, IfSome};
-ghost use Rattle.std.specs.Prelude.{is_some, option_map, option_copied, None, map};
+ghost use Rattle.std.specs.Prelude.{is_some, option_copied, None, map};
 ghost use Rattle.std.specs.List.{list_all};
 ghost use Rattle.media_items.specs.Inputs.{input_of, is_sized};
 ghost use Rattle.intake.specs.Ingested.{ingested_of, only, with_items};
 ghost use Rattle.intake.specs.Media.{told, placed};
 ghost use Rattle.intake.specs.Taking.{most_epochs};
 ghost use Rattle.intake.specs.inner.Kept.{Judges, base_of, gate_for};
+ghost use Rattle.intake.specs.inner.Freed.{freed_by};
 ghost use Rattle.intake.specs.inner.Holding.{kept_for};
 ghost use Rattle.intake.specs.inner.Moves.{outcome_at, state_in, epoch_in, IsKept, Advances};
 
@@ -18,7 +19,7 @@ use crate::judging::{Judged, Mark, judge};
 use crate::kept::{Kept, NextState};
 use crate::known::OriginKey;
 use crate::outcome::Outcome;
-use frame_gate::{Admitted, Place};
+use frame_gate::{Frame, Place};
 use media_items::Item;
 use source_valid::{SourceState, Verdict};
 use std::alloc::{AllocError, Allocator};
@@ -135,47 +136,49 @@ impl<A: Allocator + Copy> Intake<A> {
         judged.epoch
     }
 
-    /// Keeps the next state of a source.
+    /// Keeps the next state of a source. Gives the frames that the packet frees.
     #[inline(always)]
     fn keep(
         &mut self,
+        alloc: A,
         key: OriginKey,
         next: NextState<A>,
-    ) -> Result<Option<Admitted<A>>, AllocError>
+    ) -> Result<Vec<Frame<A>, A>, AllocError>
         requires below { (next.begins && nat_eq self.old.epochs most_epochs) ≡ false }
         requires ready { IfSome next.admission
             (λ a. is_some (base_of (gate_for (kept_for key next.rate self.old.entries) next.begins) a) ≡ true) }
         ensures kept { OnOk result (IsKept self.old self.new key next) }
-        ensures answer { IfOk result (λ answer. answer ≡ option_map (λ a. a.prepared.prepared.answer) next.admission) }
+        ensures frames { IfOk result (λ frames. frames.items ≡ freed_by next.admission) }
         ensures err { OnErr result (self.new ≡ self.old) }
         ensures asker { self.new.asker ≡ self.old.asker }
     {
         let begins = next.begins;
-        let answer = self.known.keep(key, next)?;
+        let frames = self.known.keep(alloc, key, next)?;
         self.epochs = counted(self.epochs, begins);
-        Ok(answer)
+        Ok(frames)
     }
 
-    /// Keeps a source after a judged packet.
+    /// Keeps a source after a judged packet. Gives the frames that the packet frees.
     #[inline(always)]
     pub(crate) fn advance(
         &mut self,
+        alloc: A,
         key: OriginKey,
         judged: &Judged,
         admission: Option<Admission<A>>,
-    ) -> Result<Option<Admitted<A>>, AllocError>
+    ) -> Result<Vec<Frame<A>, A>, AllocError>
         requires below { (judged.now.begins && nat_eq self.old.epochs most_epochs) ≡ false }
         requires epoch { judged.now.epoch ≡ epoch_in (kept_for key judged.now.rate self.old.entries) }
         requires ready { IfSome admission
             (λ a. is_some
             (base_of (gate_for (kept_for key judged.now.rate self.old.entries) judged.now.begins) a) ≡ true) }
         ensures advances { OnOk result (Advances self.old self.new key judged.now admission) }
-        ensures answer { IfOk result (λ answer. answer ≡ option_map (λ a. a.prepared.prepared.answer) admission) }
+        ensures frames { IfOk result (λ frames. frames.items ≡ freed_by admission) }
         ensures err { OnErr result (self.new ≡ self.old) }
         ensures asker { self.new.asker ≡ self.old.asker }
     {
         let next = next_with(judged, self.epoch_for(judged), admission);
-        self.keep(key, next)
+        self.keep(alloc, key, next)
     }
 
     /// Keeps a source whose packet asks for nothing. Answers the verdict, with these items.
@@ -195,7 +198,7 @@ impl<A: Allocator + Copy> Intake<A> {
         ensures err { OnErr result (self.new ≡ self.old) }
         ensures asker { self.new.asker ≡ self.old.asker }
     {
-        self.advance(key, judged, None)?;
+        self.advance(alloc, key, judged, None)?;
         Ok(Ingest {
             outcome: told(judged.verdict),
             up: Vec::new(alloc),

@@ -160,10 +160,8 @@ impl<A: Allocator + Copy> Intake<A> {
         let outcome = outcome_at(judged.verdict, answer.place);
         let mut items = Vec::with_capacity(alloc, answer.frames.len())?;
         let epoch = self.epoch_for(judged);
-        let Some(admitted) = self.advance(key, judged, Some(admission))? else {
-            unreachable!()
-        };
-        put_frames(&mut items, origin, coming.moment, epoch, admitted.frames);
+        let frames = self.advance(alloc, key, judged, Some(admission))?;
+        put_frames(&mut items, origin, coming.moment, epoch, frames);
         Ok(Ingest { outcome, up, items })
     }
 

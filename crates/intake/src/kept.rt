@@ -1,15 +1,16 @@
 //! The state that the intake keeps of a source.
 
-ghost use Rattle.std.specs.Prelude.{◌≡◌, None, Some, true, is_some, IfSome, option_map};
+ghost use Rattle.std.specs.Prelude.{◌≡◌, Some, true, is_some, IfSome};
 ghost use Rattle.rtcp_codec.specs.Report.{FitsLost};
 ghost use Rattle.intake.specs.Stories.{Story};
 ghost use Rattle.intake.specs.Control.{heard_on};
 ghost use Rattle.intake.specs.Reported.{block_on, renewed};
 ghost use Rattle.frame_gate.specs.Waits.{answer_in};
-ghost use Rattle.intake.specs.inner.Kept.{Keeps, base_of, gate_for, kept_by, SettlesAll, Becomes, HasWaited};
+ghost use Rattle.intake.specs.inner.Kept.{Keeps, base_of, gate_for, kept_by, Becomes, HasWaited};
+ghost use Rattle.intake.specs.inner.Freed.{freed_by};
 
-use crate::admitting::{Admission, settle, settle_wait};
-use frame_gate::{Admitted, PreparedWait, Waited, WatchedGate};
+use crate::admitting::{Admission, settle};
+use frame_gate::{Frame, PreparedWait, Waited, WatchedGate};
 use rtcp_codec::ReportBlock;
 use source_valid::SourceState;
 use std::alloc::{Allocator, Global};
@@ -60,31 +61,15 @@ impl<A: Allocator + Copy> Model for NextState<A> {
     } };
 }
 
-/// Commits the prepared packet, if there is one.
-#[inline(always)]
-pub(crate) fn settle_all<A: Allocator + Copy>(
-    gate: &mut Option<WatchedGate<A>>,
-    admission: Option<Admission<A>>,
-) -> Option<Admitted<A>>
-    requires ready { IfSome admission (λ a. is_some (base_of gate.old a) ≡ true) }
-    ensures answer { result ≡ option_map (λ a. a.prepared.prepared.answer) admission }
-    ensures settles { SettlesAll gate.old admission gate.new }
-{
-    match admission {
-        None => None,
-        Some(admission) => Some(settle(gate, admission)),
-    }
-}
-
 impl<A: Allocator + Copy> Kept<A> {
-    /// Moves to the next state, and gives the gate's answer. At another clock rate the gate is dropped. This takes no
-    /// memory.
+    /// Moves to the next state, and gives the frames that the packet frees. At another clock rate the gate is dropped.
+    /// This takes no memory.
     #[inline(always)]
-    pub(crate) fn become_next(&mut self, next: NextState<A>) -> Option<Admitted<A>>
+    pub(crate) fn become_next(&mut self, alloc: A, next: NextState<A>) -> Vec<Frame<A>, A>
         requires ready { IfSome next.admission
             (λ a. is_some (base_of (gate_for (kept_by next.rate (Some self.old)) next.begins) a) ≡ true) }
         ensures becomes { Becomes (kept_by next.rate (Some self.old)) next self.new }
-        ensures answer { result ≡ option_map (λ a. a.prepared.prepared.answer) next.admission }
+        ensures frames { result.items ≡ freed_by next.admission }
     {
         let NextState {
             rate,
@@ -99,7 +84,7 @@ impl<A: Allocator + Copy> Kept<A> {
         self.rate = rate;
         self.source = source;
         self.epoch = epoch;
-        settle_all(&mut self.gate, admission)
+        settle(alloc, &mut self.gate, admission)
     }
 
     /// Notes a sender report, if the source is past probation.
@@ -142,6 +127,9 @@ impl<A: Allocator + Copy> Kept<A> {
         ensures waited { HasWaited self.old.gate prepared self.new.gate }
         ensures same { self.new ≡ record self.old { gate = self.new.gate } }
     {
-        settle_wait(&mut self.gate, prepared)
+        match &mut self.gate {
+            Some(gate) => gate.wait(prepared),
+            None => unreachable!(),
+        }
     }
 }

@@ -1,6 +1,6 @@
 //! The known sources, an LRU cache.
 
-ghost use Rattle.std.specs.Prelude.{◌≡◌, [], IfOk, OnOk, OnErr, IfSome, None, true, is_some, option_copied, option_map};
+ghost use Rattle.std.specs.Prelude.{◌≡◌, [], IfOk, OnOk, OnErr, IfSome, None, true, is_some, option_copied};
 ghost use Rattle.std.specs.Prelude.{List};
 ghost use Rattle.rtcp_codec.specs.View.{packet_of, packets_of};
 ghost use Rattle.intake.specs.Sources.{most_known, Known as KnownOf, retold};
@@ -8,10 +8,12 @@ ghost use Rattle.intake.specs.Control.{heard_on, noted, noted_all};
 ghost use Rattle.intake.specs.Reported.{renewed};
 ghost use Rattle.frame_gate.specs.Waits.{answer_in};
 ghost use Rattle.intake.specs.inner.Kept.{KeptOf, base_of, gate_in, gate_for, Becomes};
+ghost use Rattle.intake.specs.inner.Freed.{freed_by};
 ghost use Rattle.intake.specs.inner.Holding.{Holds, kept_at, kept_for, key_of, put_first, WaitedAt};
 
-use crate::kept::{Kept, NextState, settle_all};
-use frame_gate::{Admitted, PreparedWait, Waited};
+use crate::admitting::settle;
+use crate::kept::{Kept, NextState};
+use frame_gate::{Frame, PreparedWait, Waited};
 use lru::LruCache;
 use rtcp_codec::Rtcp;
 use rtp_codec::Address;
@@ -94,16 +96,17 @@ impl<A: Allocator + Copy> Known<A> {
         }
     }
 
-    /// Keeps a source that was unknown.
+    /// Keeps a source that was unknown. Gives the frames that the packet frees.
     fn begin(
         &mut self,
+        alloc: A,
         key: OriginKey,
         next: NextState<A>,
-    ) -> Result<Option<Admitted<A>>, AllocError>
+    ) -> Result<Vec<Frame<A>, A>, AllocError>
         requires new { kept_at key self.old ≡ None }
         requires ready { IfSome next.admission (λ a. is_some (base_of (gate_for None next.begins) a) ≡ true) }
         ensures becomes { OnOk result ((k : KeptOf) × Becomes None next k × (self.new ≡ put_first key k self.old)) }
-        ensures answer { IfOk result (λ answer. answer ≡ option_map (λ a. a.prepared.prepared.answer) next.admission) }
+        ensures frames { IfOk result (λ frames. frames.items ≡ freed_by next.admission) }
         ensures err { OnErr result (self.new ≡ self.old) }
     {
         let NextState {
@@ -114,7 +117,7 @@ impl<A: Allocator + Copy> Known<A> {
             admission,
         } = next;
         let mut gate = None;
-        let answer = settle_all(&mut gate, admission);
+        let frames = settle(alloc, &mut gate, admission);
         let kept = Kept {
             rate,
             source,
@@ -122,26 +125,28 @@ impl<A: Allocator + Copy> Known<A> {
             gate,
         };
         self.cache.put(key, kept)?;
-        Ok(answer)
+        Ok(frames)
     }
 
-    /// Keeps the next state of a source, as the most recently used. Only an unknown source takes memory.
+    /// Keeps the next state of a source, as the most recently used. Gives the frames that the packet frees. Only an
+    /// unknown source takes memory.
     #[inline(always)]
     pub(crate) fn keep(
         &mut self,
+        alloc: A,
         key: OriginKey,
         next: NextState<A>,
-    ) -> Result<Option<Admitted<A>>, AllocError>
+    ) -> Result<Vec<Frame<A>, A>, AllocError>
         requires ready { IfSome next.admission
             (λ a. is_some (base_of (gate_for (kept_for key next.rate self.old) next.begins) a) ≡ true) }
         ensures becomes { OnOk result ((k : KeptOf) × Becomes (kept_for key next.rate self.old) next k
             × (self.new ≡ put_first key k self.old)) }
-        ensures answer { IfOk result (λ answer. answer ≡ option_map (λ a. a.prepared.prepared.answer) next.admission) }
+        ensures frames { IfOk result (λ frames. frames.items ≡ freed_by next.admission) }
         ensures err { OnErr result (self.new ≡ self.old) }
     {
         match self.cache.get_mut(&key) {
-            Some(kept) => Ok(kept.become_next(next)),
-            None => self.begin(key, next),
+            Some(kept) => Ok(kept.become_next(alloc, next)),
+            None => self.begin(alloc, key, next),
         }
     }
 

@@ -1,4 +1,4 @@
-use Rattle.std.proofs.Common.{◌≡◌, ◌∙◌, ap, sym, subst, map, ◌||◌, ◌++◌, ◌+◌, if◌then◌else◌}
+use Rattle.std.proofs.Common.{◌≡◌, ◌∙◌, ap, subst, map, ◌||◌, ◌++◌, ◌+◌, if◌then◌else◌}
 use Rattle.std.specs.List.{list_all, AllByRecursion}
 use Rattle.frame_gate.specs.Answer.{Answer}
 use Rattle.media_items.specs.Inputs.{input_of, is_sized}
@@ -10,7 +10,6 @@ use Rattle.intake.specs.Taking.{asked_of}
 use Rattle.intake.specs.inner.Comings.{coming_of, origin_in}
 use Rattle.intake.specs.inner.Kept.{JudgedOf}
 use Rattle.intake.specs.inner.Moves.{outcome_at}
-use Rattle.intake.proofs.AtGates.{some_injective}
 use Rattle.intake.proofs.Answered.{given_is}
 use Rattle.intake.proofs.Sized.{sized_frames}
 use Rattle.intake.proofs.AboutLemmas.{about_frames}
@@ -19,12 +18,12 @@ use Rattle.intake.proofs.intake.Intake.at_gate.Goals as goal
 pub invariant_of-result : goal.invariant_of-result
 invariant_of-result g c =
     let origin : Origin = origin_in c.origin_of-origin.result in
-    let frames = frames_from origin c.args.coming.moment c.epoch_for-epoch.result c.admitted.inside.frames.items in
+    let frames = frames_from origin c.args.coming.moment c.epoch_for-epoch.result c.in_ok-frames.frames.items in
     record {
       sized =
           ap (list_all is_sized)
           (c.put_frames.ensures.items ∙ ap (λ xs. map input_of xs ++ frames) c.in_ok-items.ensures.items)
-          ∙ sized_frames origin c.args.coming.moment c.epoch_for-epoch.result c.admitted.inside.frames.items;
+          ∙ sized_frames origin c.args.coming.moment c.epoch_for-epoch.result c.in_ok-frames.frames.items;
     }
 
 pub returns-clause-gates : goal.returns-clause-gates
@@ -36,11 +35,10 @@ returns-clause-gates g c = λ p admits.
     let origin : Origin = origin_of coming in
     let parts : Origin = origin_in c.origin_of-origin.result in
     let same : parts ≡ origin = c.origin_of-origin.ensures in
-    let told = some_injective _ _ (sym c.in-Some.is ∙ c.in_ok-admitted.ensures.answer) in
     record {
       admission = c.args.admission;
       admits = admits;
-      advances = c.in_ok-admitted.ensures.advances;
+      advances = c.in_ok-frames.ensures.advances;
       answers = λ voice is asker. given_is voice coming _ j.verdict answer _ _ _
           (c.outcome_at-outcome.ensures
           ∙ ap (λ (x : JudgedOf). outcome_at x.verdict c.answer.inside.place) c.judged.view_is
@@ -55,12 +53,11 @@ returns-clause-gates g c = λ p admits.
           (c.put_frames.ensures.items
           ∙ ap
           (λ xs.
-          map input_of xs ++ frames_from parts coming.moment c.epoch_for-epoch.result c.admitted.inside.frames.items)
+          map input_of xs ++ frames_from parts coming.moment c.epoch_for-epoch.result c.in_ok-frames.frames.items)
           c.in_ok-items.ensures.items
-          ∙ ap (λ (x : Origin). frames_from x coming.moment c.epoch_for-epoch.result c.admitted.inside.frames.items)
+          ∙ ap (λ (x : Origin). frames_from x coming.moment c.epoch_for-epoch.result c.in_ok-frames.frames.items)
           same
-          ∙ ap (λ fs. frames_from origin coming.moment c.epoch_for-epoch.result fs)
-          (ap (λ (a : Answer). a.frames) (c.admitted.view_is ∙ told))
+          ∙ ap (λ fs. frames_from origin coming.moment c.epoch_for-epoch.result fs) c.in_ok-frames.ensures.frames
           ∙ ap (λ e. frames_from origin coming.moment e answer.frames)
           (c.epoch_for-epoch.ensures ∙ ap (λ e. if j.begins then c.args.self.now.epochs + 1 else e) c.requires.epoch));
     }
@@ -69,7 +66,7 @@ pub returns-clause-about : goal.returns-clause-about
 returns-clause-about g c =
     let coming : Coming = coming_of c.args.coming in
     let origin : Origin = origin_in c.origin_of-origin.result in
-    let frames = c.admitted.inside.frames.items in
+    let frames = c.in_ok-frames.frames.items in
     let to = ap (λ (o : Origin). o.address) c.origin_of-origin.ensures in
     about_frames coming.from origin coming.moment c.epoch_for-epoch.result frames _ _ _
     (c.put_frames.ensures.items

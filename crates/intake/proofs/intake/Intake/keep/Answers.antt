@@ -6,7 +6,7 @@ use Rattle.intake.proofs.intake.Intake.keep.Goals as goal
 
 pub returns-clause-kept : goal.returns-clause-kept
 returns-clause-kept g c =
-    let kept = c.in_ok-answer.ensures.becomes in (
+    let kept = c.in_ok-frames.ensures.becomes in (
       kept.0,
       subst (λ (i : IntakeOf). Becomes (kept_for c.args.key c.args.next.rate i.entries) c.args.next kept.0)
           c.self.view_is kept.1,

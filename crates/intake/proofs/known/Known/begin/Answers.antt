@@ -5,7 +5,7 @@ use Rattle.intake.proofs.known.Known.begin.Goals as goal
 
 pub returns-clause-becomes : goal.returns-clause-becomes
 returns-clause-becomes g c =
-    let gate = c.settle_all-answer.new.gate in
+    let gate = c.settle-frames.new.gate in
     let k : KeptOf =
     record { rate = c.next.inside.rate; source = c.next.inside.source; epoch = c.next.inside.epoch; gate = gate } in (
       k,
@@ -14,7 +14,7 @@ returns-clause-becomes g c =
         source = ap (λ (n : NextOf). n.source) c.next.view_is;
         epoch = ap (λ (n : NextOf). n.epoch) c.next.view_is;
         gate =
-            subst (λ (n : NextOf). SettlesAll None n.admission gate) c.next.view_is c.settle_all-answer.ensures.settles;
+            subst (λ (n : NextOf). SettlesAll None n.admission gate) c.next.view_is c.settle-frames.ensures.settles;
       },
       ap (λ x. x.entries) c.in_ok-put.ensures.entries
           ∙ ap (λ n. put_within n c.args.key k c.self.inside.cache.entries) c.self.invariant
