@@ -67,44 +67,12 @@ pub(crate) fn outcome_at(verdict: Verdict, place: Place) -> Outcome
     }
 }
 
-/// The outcome of a packet that comes to no gate.
-#[tactic(auto, using(crate::proofs::VerdictLemmas::told_at_no_gate))]
-fn told(verdict: Verdict) -> Outcome
-    ensures { result ≡ told verdict }
-{
-    outcome_at(verdict, Place::Taken)
-}
-
 /// The number of epochs, with the one that begins now if any.
 fn counted(epochs: u64, begins: bool) -> u64
     requires { (begins && nat_eq epochs most_epochs) ≡ false }
     ensures { result ≡ (if begins then epochs + 1 else epochs) }
 {
     if begins { epochs + 1 } else { epochs }
-}
-
-/// The next state of a source with a judged packet, in this epoch.
-fn next_with<A: Allocator + Copy>(
-    judged: &Judged,
-    epoch: u64,
-    admission: Option<Admission<A>>,
-) -> NextState<A>
-    ensures { result
-        ≡ record {
-          rate = judged.now.rate;
-          source = judged.now.source;
-          epoch = epoch;
-          begins = judged.now.begins;
-          admission = admission;
-        } }
-{
-    NextState {
-        rate: judged.rate,
-        source: judged.source,
-        epoch,
-        begins: judged.begins,
-        admission,
-    }
 }
 
 impl<A: Allocator + Copy> Intake<A> {
@@ -177,11 +145,18 @@ impl<A: Allocator + Copy> Intake<A> {
         ensures err { OnErr result (self.new ≡ self.old) }
         ensures asker { self.new.asker ≡ self.old.asker }
     {
-        let next = next_with(judged, self.epoch_for(judged), admission);
+        let next = NextState {
+            rate: judged.rate,
+            source: judged.source,
+            epoch: self.epoch_for(judged),
+            begins: judged.begins,
+            admission,
+        };
         self.keep(alloc, key, next)
     }
 
     /// Keeps a source whose packet asks for nothing. Answers the verdict, with these items.
+    #[tactic(auto, using(crate::proofs::VerdictLemmas::told_at_no_gate))]
     pub(crate) fn telling(
         &mut self,
         alloc: A,
@@ -200,7 +175,7 @@ impl<A: Allocator + Copy> Intake<A> {
     {
         self.advance(alloc, key, judged, None)?;
         Ok(Ingest {
-            outcome: told(judged.verdict),
+            outcome: outcome_at(judged.verdict, Place::Taken),
             up: Vec::new(alloc),
             items,
         })

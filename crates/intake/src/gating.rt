@@ -9,7 +9,7 @@ ghost use Rattle.frame_gate.specs.Frame.{highest_pt};
 ghost use Rattle.frame_gate.specs.Packets.{IsExt, NumberedPacket, numbered};
 ghost use Rattle.media_items.specs.Inputs.{input_of};
 ghost use Rattle.intake.specs.Ingested.{ingested_of, IsAbout};
-ghost use Rattle.intake.specs.Media.{gate_packet, frame_item, frames_from};
+ghost use Rattle.intake.specs.Media.{gate_packet, frames_from};
 ghost use Rattle.intake.specs.Taking.{most_epochs};
 ghost use Rattle.intake.specs.inner.Comings.{coming_of, origin_in};
 ghost use Rattle.intake.specs.inner.Kept.{Admits, base_of, gate_for};
@@ -25,7 +25,6 @@ use crate::intake::Intake;
 use crate::judging::Judged;
 use crate::kept::Kept;
 use crate::known::OriginKey;
-use bytes::Bytes;
 use frame_gate::{Frame, Packet, WatchedGate};
 use media_items::{Item, MediaFrame};
 use rtp_codec::RtpView;
@@ -46,19 +45,6 @@ pub(crate) fn gate_for<A: Allocator + Copy>(
     }
 }
 
-/// The packet for its source's gate, with this payload.
-fn packet_with<A: Allocator + Copy>(view: &RtpView<'_>, payload: Bytes<A>) -> Packet<A>
-    requires { payload ≡ view.now.payload.now }
-    ensures { result ≡ gate_packet (packet_of view.now) }
-{
-    Packet {
-        marker: view.marker,
-        pt: view.pt,
-        ts: view.ts,
-        payload,
-    }
-}
-
 /// Whether a picture is lost: the source restarts, or its gate gives up.
 fn loses(verdict: Verdict, gives_up: bool) -> bool
     ensures { result ≡ (restarts verdict || gives_up) }
@@ -66,22 +52,9 @@ fn loses(verdict: Verdict, gives_up: bool) -> bool
     verdict.restarts() || gives_up
 }
 
-/// A frame as an item.
-// The moment is that of the datagram that closed the frame, since the frame leaves then: a stream's moments go back
-// only where those of the datagrams do. A frame that waited for a packet has a late one.
-fn framed<A: Allocator + Copy>(origin: Origin, moment: u64, epoch: u64, frame: Frame<A>) -> Item<A>
-    ensures { input_of result ≡ frame_item (origin_in origin) moment epoch frame }
-{
-    Item::Frame(MediaFrame {
-        source: origin.ssrc,
-        address: origin.address,
-        epoch,
-        moment,
-        frame,
-    })
-}
-
 /// Appends the frames as items. The list has the capacity.
+// The moment is that of the datagram that closed a frame, since the frame leaves then: a stream's moments go back only
+// where those of the datagrams do. A frame that waited for a packet has a late one.
 pub(crate) fn put_frames<A: Allocator + Copy>(
     items: &mut Vec<Item<A>, A>,
     origin: Origin,
@@ -97,7 +70,13 @@ pub(crate) fn put_frames<A: Allocator + Copy>(
     ensures capacity { vec_capacity items.old ≤ vec_capacity items.new }
 {
     for frame in frames {
-        items.push_reserved(framed(origin, moment, epoch, frame));
+        items.push_reserved(Item::Frame(MediaFrame {
+            source: origin.ssrc,
+            address: origin.address,
+            epoch,
+            moment,
+            frame,
+        }));
     }
 }
 
@@ -108,7 +87,12 @@ impl<A: Allocator + Copy> Intake<A> {
         ensures same { self.new ≡ self.old }
     {
         let payload = self.payloads.copied(alloc, view.payload)?;
-        Ok(packet_with(view, payload))
+        Ok(Packet {
+            marker: view.marker,
+            pt: view.pt,
+            ts: view.ts,
+            payload,
+        })
     }
 
     /// Prepares a packet for its source's gate.
