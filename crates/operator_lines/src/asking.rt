@@ -13,7 +13,6 @@ ghost use Rattle.operator_lines.specs.Operators.{
   behind_of,
   begins_group,
   is_printed,
-  is_request,
 };
 
 use crate::counting::most;
@@ -47,13 +46,6 @@ pub(crate) fn is_printed(line: &[u8]) -> bool
     ensures { result ≡ is_printed line.now }
 {
     line.iter().all(|octet| 32 <= *octet && *octet <= 126)
-}
-
-/// Whether a line is the first one of a browser's request: it ends in the version of HTTP (RFC 9112 section 3).
-fn is_request(line: &[u8]) -> bool
-    ensures { result ≡ is_request line.now }
-{
-    line.ends_with(b" HTTP/1.1".as_slice())
 }
 
 /// The line of one word that this is, if it is one.
@@ -145,7 +137,8 @@ pub(crate) fn parse_line<A: Allocator + Copy>(
             fault: Fault::BadByte,
         });
     }
-    if is_request(line) {
+    // The first line of a browser's request ends in the version of HTTP (RFC 9112 section 3).
+    if line.ends_with(b" HTTP/1.1".as_slice()) {
         return Ok(LineAsk::Verb(Verb::Quit));
     }
     words(alloc, line)
