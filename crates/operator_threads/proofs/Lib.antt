@@ -1,6 +1,2 @@
-mod CallerLemmas
 mod FreeLemmas
-mod LawLemmas
-mod SittingLemmas
-mod TalkLemmas
 mod WatchLemmas

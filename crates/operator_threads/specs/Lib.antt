@@ -1,12 +1,4 @@
-pub mod Acts
-pub mod Connection
-pub mod Deeds
 pub mod Free
-pub mod Greeting
-pub mod LineLogs
 pub mod Lobby
-pub mod Readiness
-pub mod Talking
-pub mod Talks
 pub mod Told
 pub mod Watches

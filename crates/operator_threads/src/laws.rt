@@ -1,32 +1,10 @@
-//! Laws of all that is done on an operator's connection. The functions do nothing when they run.
+//! A law of what an operator is told. The function does nothing when it runs.
 
-ghost use Rattle.std.specs.Prelude.{◌≡◌, ◌≤◌, ℕ, false, length, List, Some};
+ghost use Rattle.std.specs.Prelude.{◌≡◌, ◌≤◌, ℕ, length, List, Some};
 ghost use Rattle.logbook.specs.Pages.{Book};
 ghost use Rattle.desk_rows.specs.Desk.{Desk};
 ghost use Rattle.operator_lines.specs.DeskAsk.{DeskAsk};
-ghost use Rattle.operator_threads.specs.Connection.{Connection};
-ghost use Rattle.operator_threads.specs.Deeds.{Deed, SeatedDeed, AreDeeds, AreSeatedDeeds};
-ghost use Rattle.operator_threads.specs.Talking.{is_open};
-ghost use Rattle.operator_threads.specs.Talks.{IsStream, GoesOn, StaysEnded};
 ghost use Rattle.operator_threads.specs.Watches.{SittingOf, AreSeatAnswers, WasTold, news_among};
-
-use operator_lines::LineDesk;
-
-/// In any number of rounds, all that was read on a connection is the stream whose lines are heard, as long as it is
-/// open. And what was written, followed by what waits, is all that was appended so far: no octet is lost, written
-/// twice or out of order.
-pub fn what_is_said_goes_on<D: LineDesk>()
-    ensures alone { (deeds : List Deed) (old new : Connection) → AreDeeds deeds old new
-        → IsStream old → GoesOn old new }
-    ensures seated { (deeds : List SeatedDeed) (old new : D × Connection)
-        → AreSeatedDeeds D.replies D.shows deeds old new → IsStream old.1 → GoesOn old.1 new.1 }
-{}
-
-/// Once a connection has ended, nothing more is read, and no line is answered: the desk stays as it was.
-pub fn nothing_is_said_after_the_end<D: LineDesk>()
-    ensures { (deeds : List SeatedDeed) (old new : D × Connection) → AreSeatedDeeds D.replies D.shows deeds old new
-        → is_open old.1.standing ≡ false → (new.0 ≡ old.0) × StaysEnded old.1 new.1 }
-{}
 
 /// A watch tells each call once. Whatever an operator at the desk asks, the news on the connection are the lines of the
 /// log's calls behind those that were told or passed over before, in order and without a gap.

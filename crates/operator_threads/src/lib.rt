@@ -1,13 +1,13 @@
 //! The operators of a bridge, each connection on a thread of its own, at one shared desk.
 //!
 //! Begin with [`Operators::new`]. Where a seat is free ([`Operators::has_seat`]), [`Operators::enter`] a connection,
-//! and open its [`CallerSocket`]. In a thread make a [`Caller`] of it as a line, and run [`Operators::talk`]. Else
-//! [`turn_away`] the caller. The first good line takes a seat. `operator_lines::answer` over an [`AtDesk`] answers a
-//! line, and its contract says how.
+//! and open its [`CallerSocket`]. In a thread make a [`Caller`](operator_connection::Caller) over it, and run
+//! [`Operators::talk`]. Else [`turn_away`] the caller. The first good line takes a seat. `operator_lines::answer` over
+//! an [`AtDesk`] answers a line, and its contract says how.
 //!
-//! A connection is a [`CallerLine`]: contracts see all that was done on it, and a test may script one. `talk` repeats
-//! [`Operators::greet`] until the connection has a seat, and then [`Operators::serve`]: one round each. Their contracts
-//! say what a round does, and [`what_is_said_goes_on`] what that makes of any number of rounds.
+//! `talk` repeats [`Operators::greet`] until the connection has a seat, and then [`Operators::serve`]: one round each.
+//! Their contracts say what a round does, and [`a_watch_tells_each_call_once`] what a watch tells in any number of
+//! them.
 //!
 //! ```rust
 //! // desk and seats: of a shared desk; stream: a connection; front: what is woken after each accepted call
@@ -26,39 +26,24 @@
 //! x_cases_front runs these calls on sockets.
 #![tactic(auto)]
 
-mod answering;
 mod at_desk;
-mod caller;
-mod greeting;
-mod heard;
-mod hearing;
 mod latest;
 mod laws;
-mod line;
-mod line_log;
 mod lobby;
 mod operators;
 mod printed;
 mod printed_past;
 mod printing;
-mod readiness;
 mod seats;
 mod socket_line;
 mod steps;
-mod talking;
 mod wake;
 mod watching;
 
 pub use self::at_desk::AtDesk;
-pub use self::caller::Caller;
-pub use self::laws::{
-    a_watch_tells_each_call_once, nothing_is_said_after_the_end, what_is_said_goes_on,
-};
-pub use self::line::CallerLine;
-pub use self::line_log::LineLog;
+pub use self::laws::a_watch_tells_each_call_once;
 pub use self::operators::Operators;
 pub use self::printing::print_answer;
 pub use self::socket_line::{CallerSocket, SocketLine, turn_away};
 pub use self::steps::Seating;
-pub use self::talking::Came;
 pub use self::wake::Wake;

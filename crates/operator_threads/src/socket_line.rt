@@ -1,13 +1,11 @@
 //! The socket of an operator's connection.
 
-ghost use Rattle.std.specs.Prelude.{◌≡◌, ◌≤◌, length};
-ghost use Rattle.operator_threads.specs.Acts.{octet_count};
+ghost use Rattle.std.specs.Prelude.{◌≡◌, []};
+ghost use Rattle.operator_connection.specs.LineLogs.{act_list};
 
-use crate::line::CallerLine;
-use crate::line_log::LineLog;
-use crate::talking::{Came, meaning};
 use mio::net::TcpStream;
 use mio::{Events, Interest, Poll, Token};
+use operator_connection::{CallerLine, Came, LineLog, meaning};
 use operator_lines::busy;
 use std::alloc::Global;
 use std::io;
@@ -59,8 +57,10 @@ impl<R: Net + Clock + Copy + Drop> CallerSocket<R> {
 }
 
 impl<R: Clock + Drop> CallerSocket<R> {
-    /// The socket as a line.
-    pub fn into_line(self) -> SocketLine<R> {
+    /// The socket as a line, on which nothing was done.
+    pub fn into_line(self) -> SocketLine<R>
+        ensures { act_list result.log ≡ [] }
+    {
         SocketLine {
             socket: self,
             log: LineLog::new(),
@@ -68,28 +68,8 @@ impl<R: Clock + Drop> CallerSocket<R> {
     }
 }
 
-impl<R: Clock + Drop> SocketLine<R> {
-    /// What a read of the socket gave: of octets, no more than the chunk has.
-    fn read_once(&mut self, chunk: &mut Vec<u8>) -> Came
-        ensures few { octet_count result ≤ length chunk.new.items }
-        ensures log { self.new.log ≡ self.old.log }
-    {
-        let came = meaning(&self.socket.stream.read(chunk));
-        came.at_most(chunk.len())
-    }
-
-    /// What a write to the socket gave: of octets, no more than these.
-    fn write_once(&mut self, octets: &[u8]) -> Came
-        ensures few { octet_count result ≤ length octets.now }
-        ensures log { self.new.log ≡ self.old.log }
-    {
-        let came = meaning(&self.socket.stream.write(octets));
-        came.at_most(octets.len())
-    }
-}
-
 impl<R: Clock + Drop> CallerLine for SocketLine<R> {
-    ghost use Rattle.operator_threads.specs.LineLogs.{act_list};
+    ghost use Rattle.operator_connection.specs.LineLogs.{act_list};
 
     ghost acts = { λ line. act_list line.log };
 
@@ -110,13 +90,13 @@ impl<R: Clock + Drop> CallerLine for SocketLine<R> {
     }
 
     fn read(&mut self, chunk: &mut Vec<u8>) -> Came {
-        let came = self.read_once(chunk);
+        let came = meaning(&self.socket.stream.read(chunk)).at_most(chunk.len());
         self.log.note_read(came, chunk);
         came
     }
 
     fn write(&mut self, octets: &[u8]) -> Came {
-        let came = self.write_once(octets);
+        let came = meaning(&self.socket.stream.write(octets)).at_most(octets.len());
         self.log.note_write(came, octets);
         came
     }

@@ -1,16 +1,14 @@
 //! The rounds of an operator's connection at the desk.
 
-ghost use Rattle.std.specs.Prelude.{◌≡◌, ◌-◌, List, not, true};
-ghost use Rattle.operator_threads.specs.Connection.{connection};
-ghost use Rattle.operator_threads.specs.Deeds.{SeatedDeed, AreSeatedDeeds};
-ghost use Rattle.operator_threads.specs.Talking.{is_over};
-ghost use Rattle.operator_threads.specs.Talks.{HasWaitedFor, HasHadRounds, HasSat, IsStep};
+ghost use Rattle.std.specs.Prelude.{◌≡◌, List, not};
+ghost use Rattle.operator_connection.specs.Connection.{is_seat_over};
+ghost use Rattle.operator_connection.specs.Deeds.{SeatedDeed, AreSeatedDeeds};
+ghost use Rattle.operator_connection.specs.Talks.{HasWaitedFor, HasHadRounds, HasSat, IsStep};
 
 use crate::at_desk::AtDesk;
-use crate::caller::{Caller, Heed};
-use crate::line::CallerLine;
 use crate::operators::Operators;
 use crate::wake::Wake;
+use operator_connection::{Caller, CallerLine, Heed};
 use operator_desk::DeskBrand;
 use operator_lines::LineDesk;
 use std::alloc::Global;
@@ -53,9 +51,7 @@ impl<'a, H: DeskBrand> Operators<'a, H> {
         caller: &mut Caller<L>,
         front: &'b F,
     ) -> Option<AtDesk<'b, 'a, H, R, F>>
-        ensures { HasWaitedFor
-            (connection (L.acts caller.old.line) caller.old.talk caller.old.ready caller.old.heard)
-            (connection (L.acts caller.new.line) caller.new.talk caller.new.ready caller.new.heard) }
+        ensures { HasWaitedFor caller.old.connection caller.new.connection }
     {
         for _ in rt.forever() {
             match self.greet(rt, alloc, caller, front) {
@@ -77,8 +73,7 @@ impl<'a, H: DeskBrand> Operators<'a, H> {
         front: &F,
     )
         ensures { HasSat D.replies D.shows
-            (desk.old, connection (L.acts caller.old.line) caller.old.talk caller.old.ready caller.old.heard)
-            (desk.new, connection (L.acts caller.new.line) caller.new.talk caller.new.ready caller.new.heard) }
+            (desk.old, caller.old.connection) (desk.new, caller.new.connection) }
     {
         for _ in rt.forever() {
             if !self.serve(alloc, caller, desk, front) {
@@ -96,12 +91,9 @@ impl<'a, H: DeskBrand> Operators<'a, H> {
         caller: &mut Caller<L>,
         front: &'b F,
     ) -> Seating<'b, 'a, H, R, F>
-        ensures waited { HasWaitedFor
-            (connection (L.acts caller.old.line) caller.old.talk caller.old.ready caller.old.heard)
-            (connection (L.acts caller.new.line) caller.new.talk caller.new.ready caller.new.heard) }
-        ensures some { (result ≡ Seating.Over → ⊥) → HasHadRounds
-            (connection (L.acts caller.old.line) caller.old.talk caller.old.ready caller.old.heard)
-            (connection (L.acts caller.new.line) caller.new.talk caller.new.ready caller.new.heard) }
+        ensures waited { HasWaitedFor caller.old.connection caller.new.connection }
+        ensures some { (result ≡ Seating.Over → ⊥)
+            → HasHadRounds caller.old.connection caller.new.connection }
     {
         let number = caller.number();
         if !self.is_there(rt, number) {
@@ -125,9 +117,7 @@ impl<'a, H: DeskBrand> Operators<'a, H> {
         caller: &mut Caller<L>,
         front: &'b F,
     ) -> Seating<'b, 'a, H, R, F>
-        ensures { HasWaitedFor
-            (connection (L.acts caller.old.line) caller.old.talk caller.old.ready caller.old.heard)
-            (connection (L.acts caller.new.line) caller.new.talk caller.new.ready caller.new.heard) }
+        ensures { HasWaitedFor caller.old.connection caller.new.connection }
     {
         match self.take(rt) {
             Some(taken) => {
@@ -154,24 +144,18 @@ impl<'a, H: DeskBrand> Operators<'a, H> {
         desk: &mut D,
         front: &F,
     ) -> bool
-        ensures over { result ≡ not (is_over caller.old.talk.standing true caller.old.talk.outgoing
-            (caller.old.looked - caller.old.talk.since)) }
+        ensures over { result ≡ not (is_seat_over caller.old) }
         ensures step { (deeds : List SeatedDeed) × IsStep result deeds × AreSeatedDeeds D.replies D.shows deeds
-            (desk.old, connection (L.acts caller.old.line) caller.old.talk caller.old.ready caller.old.heard)
-            (desk.new, connection (L.acts caller.new.line) caller.new.talk caller.new.ready caller.new.heard) }
+            (desk.old, caller.old.connection) (desk.new, caller.new.connection) }
     {
-        if caller.stops() && !self.has_stopped() {
+        if caller.is_stopping() && !self.has_stopped() {
             self.stop();
             front.wake();
         }
         if caller.is_over() {
             return false;
         }
-        if caller.has_heard() {
-            caller.answer_heard(alloc, desk, &self.stopped);
-        } else {
-            caller.round(alloc, desk, &self.stopped);
-        }
+        caller.round(alloc, desk, &self.stopped);
         true
     }
 }

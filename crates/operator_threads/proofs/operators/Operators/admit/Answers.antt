@@ -1,6 +1,6 @@
 use Rattle.std.proofs.Common.{inr, refl}
-use Rattle.operator_threads.specs.Deeds.{refused}
-use Rattle.operator_threads.proofs.SittingLemmas.{waited_none, waited_one}
+use Rattle.operator_connection.specs.Deeds.{refused}
+use Rattle.operator_connection.proofs.SittingLemmas.{waited_none, waited_one}
 use Rattle.operator_threads.proofs.operators.Operators.admit.Goals as goal
 
 pub returns-in-Some : goal.returns-in-Some

@@ -1,6 +1,6 @@
 use Rattle.std.proofs.Common.{inl, refl}
-use Rattle.operator_threads.specs.Deeds.{round_alone}
-use Rattle.operator_threads.proofs.SittingLemmas.{waited_none, waited_one, waited_both, had_one, had_more}
+use Rattle.operator_connection.specs.Deeds.{round_alone}
+use Rattle.operator_connection.proofs.SittingLemmas.{waited_none, waited_one, waited_both, had_one, had_more}
 use Rattle.operator_threads.proofs.operators.Operators.greet.Goals as goal
 
 pub returns-then-not-is_there-clause-waited : goal.returns-then-not-is_there-clause-waited

@@ -1,4 +1,4 @@
-use Rattle.operator_threads.proofs.SittingLemmas.{waited_none, waited_both}
+use Rattle.operator_connection.proofs.SittingLemmas.{waited_none, waited_both}
 use Rattle.operator_threads.proofs.operators.Operators.seated.Goals as goal
 
 pub loop-init : goal.loop-init

@@ -1,4 +1,4 @@
-use Rattle.operator_threads.proofs.SittingLemmas.{sat_none, sat_step}
+use Rattle.operator_connection.proofs.SittingLemmas.{sat_none, sat_step}
 use Rattle.operator_threads.proofs.operators.Operators.sit.Goals as goal
 
 pub loop-init : goal.loop-init

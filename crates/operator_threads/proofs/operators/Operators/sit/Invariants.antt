@@ -1,10 +1,9 @@
-use Rattle.operator_threads.specs.Connection.{connection}
-use Rattle.operator_threads.specs.Talks.{HasSat}
+use Rattle.operator_connection.specs.Talks.{HasSat}
 use Rattle.operator_threads.proofs.operators.Operators.sit.Given as goal
 
 -- there were rounds so far, and nothing else
 abbrev pub invariant-loop : goal.invariant-loop
 invariant-loop g l =
     HasSat g.D.LineDesk.replies g.D.LineDesk.shows
-    (l.fn.desk, connection (g.L.CallerLine.acts l.fn.caller.line) l.fn.caller.talk l.fn.caller.ready l.fn.caller.heard)
-    (l.desk, connection (g.L.CallerLine.acts l.caller.line) l.caller.talk l.caller.ready l.caller.heard)
+    (l.fn.desk, l.fn.caller.connection)
+    (l.desk, l.caller.connection)

@@ -1,0 +1,4 @@
+mod CallerLemmas
+mod LawLemmas
+pub mod SittingLemmas
+mod TalkLemmas
