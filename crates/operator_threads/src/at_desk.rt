@@ -1,8 +1,6 @@
 //! An operator at a shared desk.
 
-ghost use Rattle.std.specs.Prelude.{◌≡◌, ◌≤◌, ◌++◌, ℕ, List, length, IfOk, OnOk, OnErr};
-ghost use Rattle.desk_edit.specs.Asked.{asked_by};
-ghost use Rattle.operator_desk.specs.Answers.{IsAnswered};
+ghost use Rattle.std.specs.Prelude.{◌≡◌, ◌≤◌, ◌++◌, ℕ, List, length, OnOk, OnErr};
 ghost use Rattle.operator_threads.specs.Told.{IsKnown, IsTelling, SeatShows, SeatTellsPast};
 
 use crate::operators::Operators;
@@ -13,7 +11,7 @@ use crate::seats::TakenSeat;
 use crate::wake::Wake;
 use call_text::print_end;
 use desk_edit::Call;
-use operator_desk::{Answer, CallFault, DeskBrand};
+use operator_desk::{Answer, DeskBrand};
 use operator_lines::{LineDesk, View};
 use std::alloc::{AllocError, Global};
 use std::sync::{MutexGuard, Wait};
@@ -46,20 +44,6 @@ impl<'b, 'a, H: DeskBrand, R: Wait, F: Wake> AtDesk<'b, 'a, H, R, F> {
             told: _,
         } = self;
         operators.give(rt, taken);
-    }
-
-    /// Answers a call by the operator's seat. Learns the notice of an accepted one, and wakes the front. A desk has no
-    /// answer for a seat of another desk, nor once it has ended.
-    fn answer_call(&mut self, alloc: Global, call: Call) -> Result<Answer, CallFault>
-        ensures said { IfOk result (λ answer.
-            IsAnswered H.start H.publisher self.old.taken.seat self.new.taken.seat (asked_by call) answer) }
-        ensures known { IfOk result (λ answer. IsKnown answer self.new.known) }
-        ensures told { self.new.told ≡ self.old.told }
-    {
-        let desk = &self.operators.desk;
-        let answer = desk.call(self.rt, alloc, &mut self.taken.seat, call)?;
-        self.note(&answer);
-        Ok(answer)
     }
 
     /// Appends the rows of one version, a line for each, and the version. An `Err` appends nothing. The rows are
@@ -176,8 +160,13 @@ impl<'b, 'a, H: DeskBrand, R: Wait, F: Wake> LineDesk for AtDesk<'b, 'a, H, R, F
         SeatViews H.start (F.counts desk.front.now) (length desk.known.lists) desk.taken.seat view text };
 
     fn reply(&mut self, alloc: Global, call: Call, out: &mut Vec<u8>) -> Result<(), AllocError> {
-        match self.answer_call(alloc, call) {
-            Ok(answer) => print_answer(&answer, out),
+        let desk = &self.operators.desk;
+        match desk.call(self.rt, alloc, &mut self.taken.seat, call) {
+            Ok(answer) => {
+                self.note(&answer);
+                print_answer(&answer, out)
+            }
+            // It has no answer for a seat of another desk, nor once it has ended.
             Err(_) => Err(self.give_up()),
         }
     }

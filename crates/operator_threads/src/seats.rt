@@ -1,7 +1,6 @@
 //! The free seats.
 
 ghost use Rattle.std.specs.Prelude.{◌≡◌, ◌<◌, ◌++◌, ◌∷◌, ℕ, [], None, IfSome, IfNone, nat_eq, vec_len, vec_capacity};
-ghost use Rattle.std.specs.Prelude.{slice_index_or, swap_remove};
 ghost use Rattle.operator_desk.specs.Opening.{most_operators};
 ghost use Rattle.operator_threads.specs.Free.{seat_at, IsLowest, IsLowestAt, IsTakenFrom};
 
@@ -65,19 +64,11 @@ impl<'a, H: DeskBrand> FreeSeats<'a, H> {
     {
         match self.lowest() {
             None => None,
-            Some(at) => Some(self.take_at(at)),
+            Some(at) => {
+                let seat = self.seats.swap_remove(at);
+                Some(TakenSeat { seat })
+            }
         }
-    }
-
-    /// Takes the seat at this place.
-    fn take_at(&mut self, at: usize) -> TakenSeat<'a, H>
-        requires { at < vec_len self.old.seats }
-        ensures seat { result.seat ≡ slice_index_or self.old.seats.items at result.seat }
-        ensures left { self.new.seats.items ≡ swap_remove self.old.seats.items at result.seat }
-        ensures capacity { vec_capacity self.new.seats ≡ vec_capacity self.old.seats }
-    {
-        let seat = self.seats.swap_remove(at);
-        TakenSeat { seat }
     }
 
     /// Gives a seat back. It takes no memory: the list has capacity for the seats that were taken from it. A seat

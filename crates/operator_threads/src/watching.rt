@@ -59,27 +59,6 @@ impl<'b, 'a, H: DeskBrand, R: Wait, F: Wake> AtDesk<'b, 'a, H, R, F> {
             || self.taken.seat.has_seen() as u64 > told
     }
 
-    /// Appends the lines of the calls of the whole log, but for so many first ones. An `Err` appends nothing.
-    fn print_news(
-        &mut self,
-        alloc: Global,
-        told: usize,
-        out: &mut Vec<u8>,
-    ) -> Result<(), AllocError>
-        ensures ok { OnOk result (AppendsNews H.start told
-            (record { seat = self.old.taken.seat; known = self.old.known; told = self.old.told })
-            (record { seat = self.new.taken.seat; known = self.new.known; told = self.new.told })
-            out.old.items out.new.items) }
-        ensures err { OnErr result (out.new.items ≡ out.old.items) }
-    {
-        self.catch_up()?;
-        let seat = &self.taken.seat;
-        let calls = self.operators.desk.calls_after(alloc, seat, told)?;
-        print_news(&calls, out)?;
-        self.told = Some(told.max(seat.has_seen()));
-        Ok(())
-    }
-
     /// Appends the lines of the calls behind those that a watch has told, if there are any. An `Err` appends nothing.
     pub(crate) fn tell_behind(
         &mut self,
@@ -97,6 +76,11 @@ impl<'b, 'a, H: DeskBrand, R: Wait, F: Wake> AtDesk<'b, 'a, H, R, F> {
         if !self.has_news(told) {
             return Ok(());
         }
-        self.print_news(alloc, told, out)
+        self.catch_up()?;
+        let seat = &self.taken.seat;
+        let calls = self.operators.desk.calls_after(alloc, seat, told)?;
+        print_news(&calls, out)?;
+        self.told = Some(told.max(seat.has_seen()));
+        Ok(())
     }
 }
