@@ -6,12 +6,13 @@ middle leaves nothing that the next one doesn't put right.
 
 import threading
 import time
+import traceback
 
 from desk import BUSY
 from etcd import ANY
 from kept import commands_of, groups_of
 from known import DESKS, FLEET, NEW, Store
-from refused import Refused
+from refused import FAILED, Refused, words_of
 
 # The seconds between two looks, and those after which a refused room is tried again. How long a bridge of another agent
 # may be unknown before its rooms go elsewhere, beside the time of its lease.
@@ -43,8 +44,11 @@ class Agent:
             trouble = ""
             try:
                 work(*given)
-            except Refused as why:
-                trouble = str(why)
+            except Exception as why:
+                # A fault of the agent ends a look, and not the watch.
+                trouble = words_of(why)
+                if trouble == FAILED != self.troubles.get(name):
+                    traceback.print_exc()
             if trouble != self.troubles.get(name, ""):
                 log(f"{name}: {trouble or 'all is well again'}")
             self.troubles[name] = trouble

@@ -15,6 +15,7 @@ import time
 import urllib.error
 import urllib.request
 
+from body import FLAG, ROOM, text, whole
 from bridge import MEMBERS
 from desk import in_words
 from etcd import ANY
@@ -26,6 +27,7 @@ from web import Handler, room_of
 # How often a change is tried that others come before. How many seconds a request waits for a room that moves.
 TURNS, PATIENCE = 50, 5
 MOVING = 409
+U32 = 2**32 - 1
 
 
 class Asked:
@@ -78,7 +80,7 @@ class Asked:
         return record, revision
 
     def join(self, words):
-        address, codec = str(words["address"]), words.get("codec", "pcmu")
+        address, codec = words["address"], words.get("codec", "pcmu")
         if not re.fullmatch(r"[0-9.]+:[0-9]+", address) or codec not in ("pcmu", "l16"):
             raise Refused("A member has an address such as 10.0.0.9:6000, and the codec pcmu or l16.", 400)
         if not 0 < room_of(words) < LEAST // MEMBERS:
@@ -105,7 +107,7 @@ class Asked:
     def leave_here(self, bridge, room, words):
         with bridge.lock:
             record, revision = self.stands(bridge, room)
-            refusal = bridge.leave(room, int(words["member"]))
+            refusal = bridge.leave(room, words["member"])
             if refusal:
                 raise Refused(f"The bridge refuses: {refusal}", 404)
             self.agent.keep(bridge, room, record, revision)
@@ -160,10 +162,19 @@ class ForFleet(Handler):
     """The requests of signalling and of other agents. They come from no page."""
 
     asked, sites = None, [None]
+    # `passed`: another agent has passed the request on.
+    REQUESTS = {
+        "where": [{"room": ROOM}],
+        "join": [
+            {"room": ROOM, "address": text(200)},
+            {"voice": whole(U32), "camera": whole(U32), "slots": whole(16), "codec": text(4), "passed": FLAG},
+        ],
+        "leave": [{"room": ROOM, "member": whole(U32)}, {"passed": FLAG}],
+        "move": [{"room": ROOM, "to": text(200)}],
+        "drain": [{"bridge": text(200)}, {"move": FLAG, "off": FLAG}],
+    }
 
     def carried_out(self, path, words):
-        if path not in ("where", "join", "leave", "move", "drain"):
-            raise Refused(f"There is no request /{path}.", 404)
         return getattr(self.asked, path)(words)
 
     def do_GET(self):

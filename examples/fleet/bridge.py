@@ -81,9 +81,9 @@ class Bridge:
         """Makes a member by one group, which sees others and is seen where slots are free. A refusal, or the member."""
         taken = self.members(room)
         member = next(one for one in itertools.count(room * MEMBERS + 1) if one not in taken)
-        mix, slots = drawn(), [drawn() for _ in range(int(words.get("slots", 0)))]
+        mix, slots = drawn(), [drawn() for _ in range(words.get("slots", 0))]
         group = [f"add-member {member} {room} {words['address']} {words.get('codec', 'pcmu')} {mix} {firsts()}"]
-        sources = [(int(words[key]), kind) for key, kind in (("voice", "audio"), ("camera", "video")) if key in words]
+        sources = [(words[key], kind) for key, kind in (("voice", "audio"), ("camera", "video")) if key in words]
         group += [f"add-source {ssrc} {member} {kind}" for ssrc, kind in sources]
         group += [f"add-slot {slot} {member} {index} {firsts()}" for index, slot in enumerate(slots)]
         cameras = [row[1] for row in self.rows(room, "source") if row[3] == "video"]

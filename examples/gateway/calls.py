@@ -9,7 +9,7 @@ import time
 import sdp
 from desk import Desk, Rows, in_words
 from fleet_rooms import LEAST, Fleet
-from refused import Refused
+from refused import Refused, words_of
 from rtpengine import Rtpengine
 
 # A line of the desk holds 45 of the longest commands.
@@ -39,6 +39,8 @@ class Call:
         # The streams that the member gets. Slot 0 is the stage: it shows what operators pin, or who has the floor.
         self.mix, self.slots = secrets.randbits(32), [secrets.randbits(32) for _ in range(slots)]
         self.member = self.voice = self.camera = self.refused = None
+        # Whether rtpengine has the call.
+        self.is_open = False
         # How many packets had come when they were last counted, and when a sign of life came last.
         self.packets, self.alive = 0, time.monotonic()
 
@@ -88,14 +90,14 @@ class Calls:
             own = sdp.plain(self.bridge, "RTP/AVPF")
             ways = {"ICE": "force", "SDES": ["off"], "rtcp_mux": MUX, "direction": ["bridge", "outside"]}
             ways |= {"transport_protocol": "UDP/TLS/RTP/SAVPF", "flags": KNOWN}
-            said = self.engine.ask("offer", call_id=call.id, from_tag="bridge", sdp=own, **ways)
+            said = self.opened(call, from_tag="bridge", sdp=own, **ways)
             return {"id": call.id, "sdp": sdp.bundled(said["sdp"], [call.mix, *call.slots])}
 
     def answer(self, call, text):
         """Takes a browser's answer, and makes it a member."""
         with self.whole_or_not(call):
             found = sdp.demand(text, from_browser=True)
-            call.voice, call.camera = [*(one.ssrc() for one in found), None][:2]
+            call.voice, call.camera = [*(one.ssrc for one in found), None][:2]
             own = sdp.plain(("127.0.0.1", 9), "UDP/TLS/RTP/SAVPF", found[0].transport())
             said = self.engine.ask("answer", call_id=call.id, from_tag="bridge", to_tag="browser", sdp=own, flags=KNOWN)
             self.join(call, sdp.plain_address(said["sdp"]))
@@ -108,12 +110,12 @@ class Calls:
             found = sdp.demand(text, from_browser=False)
             ways = {"ICE": "remove", "rtcp_mux": MUX, "direction": ["outside", "bridge"]}
             ways |= {"transport_protocol": "RTP/AVPF", "codec": {"strip": ["all"], "offer": ["PCMU"]}}
-            said = self.engine.ask("offer", call_id=id, from_tag="phone", sdp=text, **ways)
+            said = self.opened(call, from_tag="phone", sdp=text, **ways)
             own = sdp.refusing_others(sdp.plain(self.bridge, "RTP/AVPF", types=[sdp.PCMU]), found)
             answer = self.engine.ask("answer", call_id=id, from_tag="phone", to_tag="bridge", sdp=own, flags=KNOWN)
             if call.member is None:
                 # Most phones don't say their SSRC: the watch learns it.
-                call.voice = found[0].ssrc()
+                call.voice = found[0].ssrc
                 self.join(call, sdp.plain_address(said["sdp"]))
         return {"sdp": answer["sdp"], "member": call.member}
 
@@ -126,6 +128,16 @@ class Calls:
             call = self.by_id[id] = Call(side, room, name, slots, id)
         return call
 
+    def opened(self, call, **words):
+        """What rtpengine says to an offer, by which it has the call."""
+        said = self.engine.ask("offer", call_id=call.id, **words)
+        call.is_open = True
+        if call.id not in self.by_id:
+            # It was ended meanwhile, when rtpengine didn't have it.
+            self.engine.ask("delete", call_id=call.id, delete_delay=0)
+            raise Refused(self.ended.get(call.id, "The call has ended."), 410)
+        return said
+
     @contextlib.contextmanager
     def whole_or_not(self, call):
         """Where a call is refused before it is a member, nothing of it stays behind."""
@@ -133,8 +145,8 @@ class Calls:
             yield
         except Exception as why:
             if call.member is None:
-                log(f"{call.side} {call.name!r} can't join room {call.room}: {why}")
-                self.end(call, str(why))
+                log(f"{call.side} {call.name!r} can't join room {call.room}: {words_of(why)}")
+                self.end(call, words_of(why))
             raise
 
     def join(self, call, address):

@@ -16,10 +16,10 @@ class Section:
         lines = text.split("\n")
         self.kind, self.port, self.protocol, *self.types = lines[0].split()
         self.attributes = [line[2:] for line in [*shared, *lines] if line.startswith("a=")]
-
-    def ssrc(self):
-        """The SSRC that is sent under, where the section names it."""
-        return next((int(one[5:].split()[0]) for one in self.attributes if one.startswith("ssrc:")), None)
+        # The SSRC that is sent under, where the section names it.
+        self.ssrc = next((int(one[5:].split()[0]) for one in self.attributes if one.startswith("ssrc:")), None)
+        if not 0 <= (self.ssrc or 0) < 2**32:
+            raise ValueError("an SSRC of over 32 bits")
 
     def transport(self):
         """What it says of ICE and DTLS, each line once."""
@@ -33,7 +33,10 @@ def sections(text):
 
 def demand(text, from_browser):
     """The sections of a browser's answer or a phone's offer, which has what the bridge and rtpengine need."""
-    found = sections(text)
+    try:
+        found = sections(text)
+    except (ValueError, IndexError):
+        raise Refused("Your program's description of the call (SDP) can't be read.", 400) from None
     audio = found[0] if found else None
     if audio is None or audio.kind != "audio" or audio.port == "0":
         raise Refused("This call needs audio, and your program offers none as the first of its media.", 406)

@@ -3,10 +3,11 @@
 import contextlib
 import itertools
 import time
+import traceback
 
 from calls import log
 from desk import in_words
-from refused import Refused
+from refused import FAILED, Refused, words_of
 from rtpengine import UnknownCall
 
 
@@ -20,20 +21,27 @@ class Watch:
         """Looks at all calls each second, and more often at phones whose SSRC isn't known yet."""
         for turn in itertools.count():
             time.sleep(0.2)
-            if turn % 5:
-                with contextlib.suppress(Refused):
-                    for call in self.calls:
-                        if call.side == "phone" and call.member is not None and call.voice is None:
-                            self.look_at(call)
-                continue
             try:
+                if turn % 5:
+                    self.look_at_new_phones()
+                    continue
                 self.look()
                 trouble = ""
-            except Refused as why:
-                trouble = str(why)
+            except Exception as why:
+                # A fault of the agent ends the look, and not the watch.
+                trouble = words_of(why)
+                if trouble == FAILED != self.trouble:
+                    traceback.print_exc()
             if trouble != self.trouble:
                 log(trouble or "All is well again.")
             self.trouble = trouble
+
+    def look_at_new_phones(self):
+        """Learns the SSRCs of phones that don't say them. Where rtpengine doesn't answer, the next look says so."""
+        with contextlib.suppress(Refused):
+            for call in self.calls:
+                if call.side == "phone" and call.member is not None and call.voice is None:
+                    self.look_at(call)
 
     def look(self):
         """Ends the calls that the bridge, rtpengine or the caller has left."""
@@ -60,6 +68,8 @@ class Watch:
 
     def look_at(self, call):
         """Asks rtpengine what comes from who calls. A page that asks how things stand is a sign of life too."""
+        if not call.is_open:
+            return
         try:
             packets, ssrc = self.calls.engine.received(call.id, call.side)
         except UnknownCall as why:

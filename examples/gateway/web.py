@@ -5,8 +5,10 @@ import json
 import pathlib
 import re
 import threading
+import traceback
 
-from refused import Refused
+from body import ROOM, fields_of, text
+from refused import FAILED, Refused
 
 FOLDER = pathlib.Path(__file__).parent
 FILES = {"/": ("join.html", "text/html"), "/join.js": ("join.js", "text/javascript")}
@@ -14,26 +16,47 @@ FILES = {"/": ("join.html", "text/html"), "/join.js": ("join.js", "text/javascri
 POLICY = "default-src 'self'; style-src 'self' 'unsafe-inline'; frame-ancestors 'none'"
 
 
+# How many octets of a body are read.
+MOST_OCTETS = 100_000
+# What names a call; a name, of which the first 40 characters are shown; and a session description.
+ID, NAME, SDP = text(200), text(200), text(50_000)
+
+
 class Handler(http.server.BaseHTTPRequestHandler):
-    """`served` gives it the calls, the watch, and `sites`, the origins that may ask."""
+    """`served` gives it the calls, the watch, and `sites`, the origins that may ask.
+
+    Its REQUESTS are by path: the fields that a body must have, and those that it may have.
+    """
 
     protocol_version = "HTTP/1.1"
+    server_version, sys_version = "confbridge", ""
     timeout = 30
 
     def do_POST(self):
+        size = self.headers.get("Content-Length", "")
+        fits = re.fullmatch("[0-9]{1,6}", size) and int(size) <= MOST_OCTETS
+        octets = self.rfile.read(int(size)) if fits else None
         try:
-            size = int(self.headers.get("Content-Length", 0))
-            if not 0 <= size <= 100_000:
-                raise Refused("The request is too long.", 413)
-            body = self.rfile.read(size)
-            if self.headers.get("Origin") not in self.sites:
-                raise Refused(f"A page of another site asks to join. Open {self.sites[0]}/ itself.", 403)
-            self.reply(200, "application/json", json.dumps(self.carried_out(self.path.strip("/"), json.loads(body))))
+            told = 200, "application/json", json.dumps(self.answered(octets))
         except Refused as why:
-            self.close_connection = True
-            self.reply(why.status, "text/plain", str(why))
-        except (AttributeError, KeyError, TypeError, ValueError, IndexError, StopIteration) as why:
-            self.reply(400, "text/plain", f"The request can't be read ({why!r}).")
+            told = why.status, "text/plain", str(why)
+        except Exception:
+            # The fault is for the log alone.
+            traceback.print_exc()
+            told = 500, "text/plain", FAILED
+        self.close_connection = told[0] != 200
+        self.reply(*told)
+
+    def answered(self, octets):
+        """What a request with this body is answered, which is None where it isn't read."""
+        path = self.path.strip("/")
+        if octets is None:
+            raise Refused(f"A request has a Content-Length of at most {MOST_OCTETS}.", 413)
+        if self.headers.get("Origin") not in self.sites:
+            raise Refused(f"A page of another site asks to join. Open {self.sites[0]}/ itself.", 403)
+        if path not in self.REQUESTS:
+            raise Refused(f"There is no request /{path[:40]}.", 404)
+        return self.carried_out(path, fields_of(octets, *self.REQUESTS[path]))
 
     def reply(self, status, kind, text):
         self.send_response(status)
@@ -49,6 +72,13 @@ class Handler(http.server.BaseHTTPRequestHandler):
 
 
 class ForBrowsers(Handler):
+    REQUESTS = {
+        "offer": [{"room": ROOM, "name": NAME}],
+        "answer": [{"id": ID, "sdp": SDP}],
+        "state": [{"id": ID}],
+        "leave": [{"id": ID}],
+    }
+
     def do_GET(self):
         file, kind = FILES.get(self.path.partition("?")[0], (None, None))
         if file:
@@ -58,7 +88,7 @@ class ForBrowsers(Handler):
 
     def carried_out(self, path, words):
         if path == "offer":
-            return self.calls.offer(room_of(words), str(words["name"]))
+            return self.calls.offer(room_of(words), words["name"])
         call = self.calls.by_id.get(words["id"])
         if call is None:
             why = self.calls.ended.get(words["id"], "The gateway has been restarted. Press Join to come back.")
@@ -71,12 +101,13 @@ class ForBrowsers(Handler):
 class ForKamailio(Handler):
     # Kamailio has no origin, and each page of a browser has one.
     sites = [None]
+    REQUESTS = {"phone": [{"id": ID, "room": ROOM, "name": NAME, "sdp": SDP}], "hang-up": [{"id": ID}]}
 
     def carried_out(self, path, words):
         # A browser's id is a secret that the agent drew. A phone's can't be one.
         id = f"phone {words['id']}"
         if path == "phone":
-            return self.calls.phone(id, room_of(words), str(words["name"]), words["sdp"])
+            return self.calls.phone(id, room_of(words), words["name"], words["sdp"])
         call = self.calls.by_id.get(id)
         return call and self.calls.end(call, "It has hung up.")
 

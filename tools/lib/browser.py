@@ -1,5 +1,6 @@
 """A browser without a window, driven over its debugging socket."""
 
+import atexit
 import base64
 import hashlib
 import http.client
@@ -32,6 +33,8 @@ class Browser:
         self.process = subprocess.Popen(
             words, stdin=subprocess.DEVNULL, stdout=subprocess.DEVNULL, stderr=subprocess.DEVNULL
         )
+        # A tool that fails leaves no browser behind.
+        atexit.register(self.process.kill)
         self.stream = self.connected(profile / "DevToolsActivePort")
         self.count = 0
 

@@ -9,6 +9,7 @@ import time
 
 from lib.browser import Browser
 from lib.shared import fail
+from lib.waits import ended
 
 # Addresses of ICE are those of all interfaces, loopback among them, and no page waits for a press to play sound.
 PREFERENCES = {
@@ -75,4 +76,4 @@ class Firefox(Browser):
     def close(self):
         super().close()
         self.sound.terminate()
-        self.sound.wait()
+        ended(self.sound)

@@ -5,6 +5,7 @@ import pathlib
 import re
 import socket
 import subprocess
+import threading
 
 from lib.shared import fail
 
@@ -29,6 +30,29 @@ def free_port(kind):
     with socket.socket(socket.AF_INET, kind) as one:
         one.bind(("127.0.0.1", 0))
         return port_of(one)
+
+
+class Answering(threading.Thread):
+    """A UDP port of a program that isn't there: `answer` says what each datagram is answered, or None."""
+
+    def __init__(self):
+        super().__init__(daemon=True)
+        self.socket = udp_socket()
+        self.port = port_of(self.socket)
+        self.start()
+
+    def run(self):
+        while True:
+            try:
+                octets, sender = self.socket.recvfrom(65536)
+            except OSError:
+                return
+            answer = self.answer(octets)
+            if answer:
+                self.socket.sendto(answer, sender)
+
+    def close(self):
+        self.socket.close()
 
 
 def settings(folder, udp=0, tcp=0, operators=2, lanes=1):

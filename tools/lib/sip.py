@@ -27,6 +27,8 @@ def asked(method, user, address, id, body="", seconds=2):
 
 def kamailio_lacks():
     """What Kamailio with a script in Python lacks on this machine, by the names of Debian's packages."""
-    has_module = glob.glob("/usr/lib*/**/kamailio/modules/app_python3.so", recursive=True)
+    # A search of all folders below would not end where a link leads back to one of them.
+    roots = "/usr/lib*", "/usr/lib*/*", "/usr/local/lib*"
+    has_module = any(glob.glob(f"{root}/kamailio/modules/app_python3.so") for root in roots)
     packages = {"kamailio": shutil.which("kamailio"), "kamailio-python3-modules": has_module}
     return " and no ".join(name for name, found in packages.items() if not found)

@@ -7,8 +7,8 @@ import socket
 import subprocess
 import sys
 
-from lib.fleet_call.parts import FLEET, Answering, begun, ended, until
-from lib.serving import free_port
+from lib.fleet_call.parts import FLEET, begun, ended, until
+from lib.serving import Answering, free_port
 from lib.sip import asked, kamailio_lacks
 
 

@@ -3,9 +3,10 @@
 import itertools
 import json
 
-from lib.fleet_call.parts import PAGES, Answering, until
+from lib.fleet_call.parts import PAGES, until
 from lib.gateway_call.parts import Parts
 from lib.gateway_call.refusals import answer_of, offer_of
+from lib.serving import Answering
 
 # The rooms that this uses, and the SSRC of a browser that keeps it: real ones draw another one for each call.
 HERE, THERE, SSRC = 60, 61, 600_000

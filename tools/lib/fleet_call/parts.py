@@ -7,12 +7,11 @@ import signal
 import socket
 import subprocess
 import sys
-import threading
 import time
 import urllib.error
 import urllib.request
 
-from lib.serving import Operator, free_port, port_of, started, udp_socket
+from lib.serving import Operator, free_port, started
 from lib.shared import ROOT, fail
 
 for one in "fleet", "gateway":
@@ -58,29 +57,6 @@ def begun(command, log, environment=None):
         process = subprocess.Popen(command, env=environment, stdin=null, stdout=told, stderr=told)
     atexit.register(ended, process, signal.SIGTERM)
     return process
-
-
-class Answering(threading.Thread):
-    """A UDP port of a program that isn't there: `answer` says what each datagram is answered, or None."""
-
-    def __init__(self):
-        super().__init__(daemon=True)
-        self.socket = udp_socket()
-        self.port = port_of(self.socket)
-        self.start()
-
-    def run(self):
-        while True:
-            try:
-                octets, sender = self.socket.recvfrom(65536)
-            except OSError:
-                return
-            answer = self.answer(octets)
-            if answer:
-                self.socket.sendto(answer, sender)
-
-    def close(self):
-        self.socket.close()
 
 
 class BridgePart:

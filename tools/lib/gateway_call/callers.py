@@ -13,6 +13,7 @@ import wave
 from lib.browser import Browser
 from lib.firefox import Firefox
 from lib.shared import fail
+from lib.waits import ended, within
 
 PROBE = pathlib.Path(__file__).with_name("probe.js").read_text()
 # The tone of each caller in Hz. A browser's picture has a colour of its own besides.
@@ -21,6 +22,8 @@ COLOURS = {"A": "red", "B": "blue", "C": "green", "F": "yellow"}
 # The share of full sound that each sends. All together are no full sound, which would be clamped.
 LEVEL = 0.15
 WIDTH, HEIGHT, RATE = 320, 240, 15
+# The most that a browser may take, in seconds: to start, to load the page, to join, and to say what it sees or hears.
+STARTING, LOADING, JOINING, SAYING = 90, 60, 60, 30
 
 
 def write_tone(path, hertz, rate, seconds):
@@ -51,27 +54,31 @@ class Caller:
     def hears(self, names, seconds=15):
         """Whether these callers' tones and no others are heard before long, and the last levels."""
         end = time.monotonic() + seconds
-        while True:
-            heard, levels = self.heard()
-            quiet = all(one < LEVEL / 20 for name, one in levels.items() if name not in names)
-            if (heard == names and quiet) or time.monotonic() > end:
-                return heard == names and quiet, levels
+        with within(seconds + SAYING, f"what {self.name} hears"):
+            while True:
+                heard, levels = self.heard()
+                quiet = all(one < LEVEL / 20 for name, one in levels.items() if name not in names)
+                if (heard == names and quiet) or time.monotonic() > end:
+                    return heard == names and quiet, levels
 
 
 class AtPage(Caller):
     """A browser at the gateway's page."""
 
     def at_page(self, page, room=1):
-        self.open(f"{page}/?room={room}&plain&name={self.name}")
-        self.wait("document.readyState === 'complete' && !!document.getElementById('join')", 60)
-        self.run(PROBE)
+        with within(LOADING, f"{self.name}'s page to load"):
+            self.open(f"{page}/?room={room}&plain&name={self.name}")
+            self.wait("document.readyState === 'complete' && !!document.getElementById('join')", LOADING)
+            self.run(PROBE)
 
     def join(self):
         """Presses Join once no call is left, and waits until the page is a member or says why it isn't."""
-        self.wait("!document.getElementById('join').disabled")
-        self.run("document.getElementById('join').click()")
-        self.wait("!!(call && call.told) || document.getElementById('state').classList.contains('wrong')", 60)
-        self.joined = self.run("call && call.told")
+        with within(JOINING, f"{self.name} to join"):
+            self.wait("!document.getElementById('join').disabled", JOINING)
+            self.run("document.getElementById('join').click()")
+            wrong = "document.getElementById('state').classList.contains('wrong')"
+            self.wait(f"!!(call && call.told) || {wrong}", JOINING)
+            self.joined = self.run("call && call.told")
         if not self.joined:
             fail(f"{self.name} can't join: {self.says()}")
         self.run("shown = {}; watchFrames()")
@@ -91,15 +98,21 @@ class AtPage(Caller):
         told = self.run(f"levels({list(TONES.values())})")
         return {name: round(one, 4) for name, one in zip(TONES, told)}
 
-    def sees(self, wanted, seconds=15):
-        """Whether the slots show these callers' pictures before long, and what they show: names, a `-` for none."""
+    def shows_now(self):
+        """The callers whose pictures the slots show: names, a `-` for none."""
         names = {colour: name for name, colour in COLOURS.items()}
-        end = time.monotonic() + seconds
-        while True:
-            shown = self.run("colours()")
-            told = "".join(names[shown[str(slot)]] if str(slot) in shown else "-" for slot in range(len(wanted)))
-            if told == wanted or time.monotonic() > end:
-                return told == wanted, told
+        shown = self.run("colours()")
+        return "".join(names[shown[str(slot)]] if str(slot) in shown else "-" for slot in range(4))
+
+    def sees(self, stage, others, seconds=15):
+        """Whether slot 0 shows the first and the others show these before long, in any order, and what they show."""
+        end, wanted = time.monotonic() + seconds, sorted(others.ljust(3, "-"))
+        with within(seconds + SAYING, f"what {self.name} sees"):
+            while True:
+                told = self.shows_now()
+                good = told[0] == stage and sorted(told[1:]) == wanted
+                if good or time.monotonic() > end:
+                    return good, told
 
     def shown_since(self, slot, name, moment):
         """How many ms after a moment (of time.time) a slot had its first decoded frame of a picture, or None."""
@@ -123,12 +136,14 @@ class BrowserCaller(AtPage, Browser):
         source = f"testsrc2=size={WIDTH}x{HEIGHT}:rate={RATE}:duration=4"
         paint = f"drawbox=0:0:iw:{HEIGHT // 2}:{COLOURS[name]}:fill"
         made = ["-f", "lavfi", "-i", source, "-vf", paint, "-c:v", "mjpeg", "-q:v", "5", "-pix_fmt", "yuvj420p", camera]
-        subprocess.run(["ffmpeg", "-v", "error", "-y", *made], check=True)
+        with within(STARTING, f"ffmpeg to make {name}'s picture"):
+            subprocess.run(["ffmpeg", "-v", "error", "-y", *made], check=True)
         faked = ["--use-fake-ui-for-media-stream", "--use-fake-device-for-media-stream"]
         faked += [f"--use-file-for-fake-audio-capture={voice}", f"--use-file-for-fake-video-capture={camera}"]
         # A machine may have no address but loopback.
         own = ["--autoplay-policy=no-user-gesture-required", "--allow-loopback-in-peer-connection"]
-        super().__init__(command, folder, [*faked, *own, *flags])
+        with within(STARTING, f"browser {name} to start"):
+            super().__init__(command, folder, [*faked, *own, *flags])
 
 
 class FirefoxCaller(AtPage, Firefox):
@@ -136,7 +151,8 @@ class FirefoxCaller(AtPage, Firefox):
 
     def __init__(self, name, command, folder):
         self.name, self.joined = name, None
-        super().__init__(command, folder)
+        with within(STARTING, f"Firefox {name} to start"):
+            super().__init__(command, folder)
 
     def at_page(self, page, room=1):
         super().at_page(page, room)
@@ -169,7 +185,7 @@ class Phone(Caller):
     def close(self):
         """Hangs up."""
         self.process.terminate()
-        self.process.wait()
+        ended(self.process)
         self.log.close()
 
 
@@ -213,7 +229,7 @@ class LinphoneCaller(Phone):
         self.process.stdin.flush()
 
     def close(self):
-        self.say("terminate", "quit")
-        with contextlib.suppress(subprocess.TimeoutExpired):
-            self.process.wait(5)
+        with contextlib.suppress(OSError):
+            self.say("terminate", "quit")
+        ended(self.process, 5)
         super().close()

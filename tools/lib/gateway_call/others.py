@@ -1,7 +1,7 @@
 """Callers that join later than the call's own: Firefox, Linphone, and who is behind a NAT."""
 
 from lib.gateway_call import natted
-from lib.gateway_call.callers import BrowserCaller, FirefoxCaller, LinphoneCaller, PhoneCaller
+from lib.gateway_call.callers import FirefoxCaller, LinphoneCaller, PhoneCaller
 from lib.gateway_call.parts import Parts
 from lib.gateway_call.trial import Trial, lacking
 from lib.sip import kamailio_lacks
@@ -16,26 +16,26 @@ class Others(Trial):
         if missing:
             print(f"skipped: Firefox ({missing})")
             return
-        a = self.browsers()[0]
+        a = self.callers["A"]
         f = self.callers["F"] = FirefoxCaller("F", "firefox-esr", self.folder)
         f.at_page(self.parts.page)
         f.join()
         self.everyone_hears("Firefox joins", show=True)
-        self.check(*self.seen(f, "-ABC", "Firefox joins"))
-        self.check(*self.seen(a, "-BCF", "Firefox joins"))
-        self.check_decoding([f], (2, 3, 4))
-        named = lambda: all(name in f.names() for name in "ABC")
-        self.comes(named, "its page names whom it hears and sees", f.names)
+        self.sees(f, "Firefox joins")
+        self.sees(a, "Firefox joins")
+        others = [one.name for one in self.browsers() if one is not f]
+        self.check_decoding([f], range(2, 2 + len(others)))
+        self.comes(lambda: all(name in f.names() for name in others), "its page names whom it hears and sees", f.names)
         number = self.do(f"group mute {f.joined['voice']} / pin 1 {f.joined['camera']}")
         self.everyone_hears("Firefox is muted", silent="F")
-        self.check(*self.seen(a, "FBCF", "Firefox is pinned"))
+        self.sees(a, "Firefox is pinned", stage="F")
         self.undo(number)
         number = self.do(f"pin 1 {a.joined['camera']}")
-        self.check(*self.seen(f, "AABC", "A is pinned"))
+        self.sees(f, "A is pinned", stage="A")
         self.undo(number)
         f.leave()
         self.callers.pop("F").close()
-        self.check(*self.seen(a, "-BC-", "Firefox leaves"))
+        self.sees(a, "Firefox leaves")
 
     def step_linphone(self):
         """Linphone joins, is heard by all and hears them, and hangs up."""
@@ -72,8 +72,7 @@ class Others(Trial):
         a.join()
         flags = [f"--unsafely-treat-insecure-origin-as-secure={parts.far_page}"]
         with nat.within():
-            b = self.callers["B"] = BrowserCaller("B", self.args.browser, self.folder, flags)
-        b.at_page(parts.far_page)
+            b = self.browser("B", parts.far_page, flags)
         b.join()
         if not (lacking("baresip") or kamailio_lacks()):
             parts.start("kamailio")
@@ -83,11 +82,9 @@ class Others(Trial):
                 self.callers["D"] = PhoneCaller("D", self.folder / "behind", 5070, parts.sip, natted.BEHIND)
             self.comes(lambda: self.members() > before, "a phone behind a NAT is a member", self.rows, 20)
         self.everyone_hears("B and D are behind a NAT", show=True)
-        self.check(*self.seen(a, "-B--", "B is behind a NAT"))
-        self.check(*self.seen(b, "-A--", "B is behind a NAT"))
+        self.sees(a, "B is behind a NAT")
+        self.sees(b, "B is behind a NAT")
         self.check_decoding([a, b], (2,))
         print(f"      the NAT has {nat.flows()} flows of UDP")
-        for one in self.callers.values():
-            one.close()
-        self.callers.clear()
+        self.close_callers()
         self.comes(lambda: not self.rows(), "all leave: nobody is a member", self.rows, 40)

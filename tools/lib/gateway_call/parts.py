@@ -13,12 +13,15 @@ import urllib.request
 from lib.serving import free_port
 from lib.shared import ROOT, fail
 from lib.sip import asked
+from lib.waits import ended, within
 
 sys.path.insert(0, str(ROOT / "examples/gateway"))
 
 from rtpengine import Rtpengine  # noqa: E402
 
 GATEWAY = ROOT / "examples/gateway/gateway.py"
+# How many seconds a part may take to answer, once it is started.
+MOST = 60
 
 
 def until(condition, seconds=10):
@@ -72,21 +75,23 @@ class Parts:
         ]
         self.path.write_text("".join(lines))
 
+    def log(self, part):
+        """What a part has said."""
+        return (self.folder / f"{part}{self.page_port}.log").read_text()
+
     def start(self, part):
         log = (self.folder / f"{part}{self.page_port}.log").open("a")
         words = [sys.executable, "-B", GATEWAY, part, self.path]
         self.running[part] = subprocess.Popen(words, stdin=subprocess.DEVNULL, stdout=log, stderr=log)
-        if part == "agent" and until(self.serves, 60) is None:
-            fail("the agent serves no page")
-        if part == "rtpengine" and until(self.pings, 60) is None:
-            fail("rtpengine doesn't answer")
-        if part == "kamailio" and until(lambda: asked("OPTIONS", "1", self.sip, "up"), 60) is None:
-            fail("Kamailio doesn't answer")
+        is_up = {"agent": self.serves, "rtpengine": self.pings, "kamailio": self.takes_calls}[part]
+        with within(MOST, f"{part} to answer"):
+            if until(is_up, MOST) is None:
+                fail(f"{part} doesn't answer after {MOST} s")
 
     def stop(self, part, by=signal.SIGTERM):
         one = self.running.pop(part)
         one.send_signal(by)
-        one.wait(timeout=30)
+        ended(one, 30)
 
     def close(self):
         for part in list(self.running):
@@ -106,14 +111,22 @@ class Parts:
             return self.engine.ask("ping")
         return False
 
+    def takes_calls(self):
+        """Whether Kamailio answers."""
+        return asked("OPTIONS", "1", self.sip, "up")
+
     def calls(self):
         """How many calls rtpengine has."""
         return len(self.engine.ask("list")["calls"])
 
     def ask(self, path, origin=None, for_phones=False, **words):
         """The status of a request, and what it is answered."""
+        return self.post(path, json.dumps(words).encode(), origin, for_phones)
+
+    def post(self, path, octets, origin=None, for_phones=False):
+        """The same of a request with this body."""
         port = self.phones_port if for_phones else self.page_port
-        request = urllib.request.Request(f"http://127.0.0.1:{port}/{path}", json.dumps(words).encode(), method="POST")
+        request = urllib.request.Request(f"http://127.0.0.1:{port}/{path}", octets, method="POST")
         if not for_phones:
             request.add_header("Origin", origin or self.page)
         try:

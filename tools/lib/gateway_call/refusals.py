@@ -1,14 +1,16 @@
 """What can't be had of the gateway: it is told in words, and leaves nothing behind. Neither browser nor phone is
 needed."""
 
+import json
 import re
 import signal
 import time
 
+from lib.gateway_call.bodies import are_refused
 from lib.gateway_call.parts import Parts, until
 from lib.gateway_call.trial import Trial
 from lib.packets import rtp
-from lib.serving import udp_socket
+from lib.serving import Answering, udp_socket
 from lib.shared import fail
 
 
@@ -43,6 +45,13 @@ class RawPhone:
         self.parts.ask("hang-up", for_phones=True, id=self.id)
 
 
+class Rubbish(Answering):
+    """A port of rtpengine that answers each command well, and tells nothing."""
+
+    def answer(self, octets):
+        return octets.partition(b" ")[0] + b' {"result": "ok"}'
+
+
 class Refusals(Trial):
     def refused(self, text, wanted, said):
         """Whether words come, and nothing stays behind at the desk and at rtpengine."""
@@ -58,6 +67,30 @@ class Refusals(Trial):
         parts = parts or self.parts
         status, told = parts.ask("offer", room=room, name="test")
         return parts.ask("answer", id=told["id"], sdp=answer_of(**answer)) if status == 200 else (status, told)
+
+    def try_bodies(self):
+        """Bodies of requests that aren't what they should be, and an agent that fails by itself."""
+        are_refused(self.check, self.parts.post, "offer", {"room": "1", "name": "x"}, "name")
+        for_phones = lambda path, octets: self.parts.post(path, octets, for_phones=True)
+        phone = {"id": "x", "room": "1", "name": "x", "sdp": "v=0"}
+        are_refused(self.check, for_phones, "phone", phone, "sdp")
+        voice = "v=0\nm=audio 9 RTP/AVP 0"
+        for sdp in "v=0\nm=audio", f"{voice}\na=ssrc:x", f"{voice}\na=ssrc:4294967296 a":
+            said = for_phones("phone", json.dumps(phone | {"sdp": sdp}).encode())
+            self.refused(f"the description {sdp!r}", "description of the call (SDP) can't be read", said)
+        said = self.parts.ask("offer", room=1, name="x", more=[1])
+        self.check(said[0] == 200, "a room as a number is one too, and a field that nobody asked for is passed over")
+        self.parts.ask("leave", id=said[1]["id"])
+        engine = Rubbish()
+        parts = Parts(self.folder, self.udp, self.tcp, engine.port, first_member=300_000)
+        self.others += [engine, parts]
+        parts.start("agent")
+        said = parts.ask("offer", room="1", name="x")
+        words = "The agent has failed at this. Try again, and tell who runs it to look into its log."
+        self.check(said == (500, words), "a fault of the agent tells nothing of its inside", said)
+        self.check("Traceback" in parts.log("agent"), "and its log has it", parts.log("agent"))
+        self.check(parts.serves(), "and it goes on")
+        parts.stop("agent")
 
     def try_bad_answers(self):
         self.refused("an answer without audio", "needs audio", self.joins(port=0))
@@ -102,9 +135,9 @@ class Refusals(Trial):
                 "a call that the agent doesn't know is told so",
             ),
             (
-                *self.parts.ask("answer", id=told["id"], sdp=7),
+                *self.parts.ask("answer", id=told["id"], sdp="v=0\nm=audio"),
                 "can't be read",
-                "a request that can't be read is told so",
+                "a browser whose answer can't be read is told so",
             ),
         ):
             print(f"      {status}: {words}")

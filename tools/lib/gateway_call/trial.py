@@ -8,6 +8,11 @@ from lib.gateway_call.callers import BrowserCaller
 from lib.gateway_call.parts import Parts, until
 from lib.serving import Operator, settings, started
 from lib.shared import fail, release_program
+from lib.sip import kamailio_lacks
+from lib.waits import within
+
+# The callers that are browsers.
+BROWSERS = "ABCF"
 
 
 def lacking(*programs):
@@ -19,16 +24,37 @@ def lacking(*programs):
 class Trial:
     def __init__(self, args, check, folder):
         self.args, self.check, self.folder, self.program = args, check, folder, release_program(args.binary)
-        self.bridge, self.udp, self.tcp = started(self.program, settings(folder, operators=4))
+        self.udp = self.tcp = 0
+        self.start_bridge()
         self.parts, self.callers, self.others = Parts(folder, self.udp, self.tcp), {}, []
-        self.operator = self.seated()
+
+    def start_bridge(self):
+        """Starts the bridge, at the same ports if it had some."""
+        with within(60, "the bridge to say where it listens"):
+            path = settings(self.folder, self.udp, self.tcp, operators=4)
+            self.bridge, self.udp, self.tcp = started(self.program, path)
+            self.operator = self.seated()
+
+    def start_parts(self):
+        """Starts rtpengine, the agent, and Kamailio if it is there."""
+        for part in ["rtpengine", "agent"] + ["kamailio"] * (not kamailio_lacks()):
+            if part not in self.parts.running:
+                self.parts.start(part)
+
+    def begin_anew(self):
+        """Ends all callers and parts, and starts a bridge with an empty desk."""
+        with within(120, "all parts to begin anew"):
+            self.close_callers()
+            for one in [*self.others, self.parts]:
+                one.close()
+            self.others.clear()
+            self.restart_bridge()
+            self.start_parts()
 
     def restart_bridge(self):
-        """Kills the bridge, and starts it anew at the same ports."""
         self.bridge.kill()
         self.bridge.wait()
-        self.bridge, _, _ = started(self.program, settings(self.folder, self.udp, self.tcp, operators=4))
-        self.operator = self.seated()
+        self.start_bridge()
 
     def seated(self):
         return Operator(socket.create_connection(("127.0.0.1", self.tcp), timeout=30))
@@ -54,15 +80,17 @@ class Trial:
     def undo(self, number):
         return self.do(f"undo {number}")
 
-    def caller(self, name):
-        one = self.callers[name] = BrowserCaller(name, self.args.browser, self.folder)
-        one.at_page(self.parts.page)
+    def browser(self, name, page=None, flags=()):
+        """A browser at a page that hasn't joined yet."""
+        one = self.callers[name] = BrowserCaller(name, self.args.browser, self.folder, flags)
+        one.at_page(page or self.parts.page)
         return one
 
     def comes(self, condition, text, seen=lambda: "", seconds=10):
         """Checks that something holds before long. After how many seconds it did."""
-        took = until(condition, seconds)
-        self.check(took is not None, text, seen())
+        with within(seconds + 30, text):
+            took = until(condition, seconds)
+        self.check(took is not None, f"{text}{'' if took is not None else f': not within {seconds} s'}", seen())
         return took
 
     def everyone_hears(self, text, silent="", gone="", show=False):
@@ -76,11 +104,15 @@ class Trial:
                 print(f"      {levels}")
 
     def browsers(self):
-        return [one for name, one in self.callers.items() if name in "ABC"]
+        return [one for name, one in self.callers.items() if name in BROWSERS]
 
-    def seen(self, one, wanted, text):
-        good, told = one.sees(wanted)
-        return good, f"{text}: {one.name} sees {wanted.replace('-', '') or 'nobody'}", told
+    def sees(self, one, text, stage="-", without=""):
+        """Checks that a browser sees all others but some, and on its stage one of them or nobody."""
+        others = "".join(other.name for other in self.browsers() if other is not one and other.name not in without)
+        stage = "-" if stage == one.name else stage
+        good, told = one.sees(stage, others)
+        shown = f"{stage} on its stage, and " * (stage != "-") + (others or "nobody")
+        self.check(good, f"{text}: {one.name} sees {shown}", told)
 
     def take_pictures(self, name):
         for one in self.browsers() if self.args.pictures else []:
@@ -89,8 +121,13 @@ class Trial:
             one.picture(self.args.pictures / f"{name}_{one.name.lower()}.png")
 
     def close(self):
-        for one in self.callers.values():
-            one.close()
+        self.close_callers()
         for parts in [*self.others, self.parts]:
             parts.close()
         self.bridge.kill()
+
+    def close_callers(self):
+        """Ends all callers without a word."""
+        for one in self.callers.values():
+            one.close()
+        self.callers.clear()
