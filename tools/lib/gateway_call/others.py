@@ -61,13 +61,15 @@ class Others(Trial):
         for name in [*self.callers]:
             if name != "A":
                 self.callers.pop(name).close()
-        a, nat = self.callers["A"], natted.Nat()
+        a = self.callers["A"]
+        a.leave()
+        self.comes(lambda: not self.rows(), "the call before is over", self.rows, 40)
+        nat = natted.Nat()
         self.others.append(nat)
         parts = Parts(self.folder, self.udp, self.tcp, first_member=500_000, outside=natted.OUTSIDE)
         self.others.append(parts)
         parts.start("rtpengine")
         parts.start("agent")
-        a.leave()
         a.at_page(parts.page)
         a.join()
         flags = [f"--unsafely-treat-insecure-origin-as-secure={parts.far_page}"]
