@@ -178,9 +178,10 @@ class Phone(Caller):
         time.sleep(0.6)
         files = sorted(self.folder.glob(self.HEARD))
         octets = files[-1].read_bytes() if files else bytes(44)
-        rate, octets = int.from_bytes(octets[24:28], "little"), octets[44:]
+        # Linphone writes the rate to the file's head at the end of a call alone.
+        rate, octets = int.from_bytes(octets[24:28], "little") or self.RATE, octets[44:]
         sound = [sample for sample, in struct.iter_unpack("<h", octets[: len(octets) // 2 * 2][-rate:])]
-        return {name: round(level(sound, hertz, rate or self.RATE), 4) for name, hertz in TONES.items()}
+        return {name: round(level(sound, hertz, rate), 4) for name, hertz in TONES.items()}
 
     def close(self):
         """Hangs up."""
