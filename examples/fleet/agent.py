@@ -30,17 +30,19 @@ class Agent:
         self.url, self.lasts = settings["agent"]["url"], settings["agent"]["lease"]
         self.store, self.bridges = Store(settings["etcd"]["servers"]), {one.name: one for one in bridges}
         self.lease, self.renewed, self.missing, self.troubles = None, 0.0, {}, {}
-        self.closed = threading.Event()
+        # `lost`: a bridge has just ended, whose rooms want another one.
+        self.closed, self.lost = threading.Event(), threading.Event()
 
     def run(self):
         for bridge in self.bridges.values():
-            threading.Thread(target=self.again, args=(self.tend, bridge), daemon=True).start()
-        threading.Thread(target=self.again, args=(self.settle,), daemon=True).start()
+            threading.Thread(target=self.again, args=(self.closed, self.tend, bridge), daemon=True).start()
+        threading.Thread(target=self.again, args=(self.lost, self.settle), daemon=True).start()
 
-    def again(self, work, *given):
-        """Does a work again and again. What hinders it is told once."""
+    def again(self, early, work, *given):
+        """Does a work again and again, also early. What hinders it is told once."""
         name = given[0].name if given else "the fleet"
-        while not self.closed.wait(PAUSE):
+        while not self.closed.is_set():
+            early.wait(PAUSE)
             trouble = ""
             try:
                 work(*given)
@@ -57,6 +59,7 @@ class Agent:
 
     def settle(self):
         """Keeps the lease, and gives each room without a bridge one."""
+        self.lost.clear()
         if self.lease is None or time.monotonic() - self.renewed > self.lasts / 3:
             try:
                 if self.lease is None or not self.store.renew(self.lease):
@@ -110,16 +113,20 @@ class Agent:
                 bridge.look()
             except Refused as why:
                 if str(why) != BUSY:
+                    if bridge.is_there:
+                        self.lost.set()
                     bridge.is_there, bridge.kept = False, {}
                     if known.bridges.get(bridge.name, {}).get("agent") == self.url:
                         self.store.swap([(f"{FLEET}bridges/{bridge.name}", None, ANY)])
                 raise
             self.announce(bridge, known)
+            may_come = lambda one: one["to"] == bridge.name != one["on"] and (one["on"] is None or one["ready"])
+            coming = {room: one for room, one in known.rooms.items() if may_come(one[0])}
+            if coming:
+                self.bring(bridge, dict(list(coming.items())[:AT_ONCE]))
             for room, (record, revision) in known.rooms.items():
                 if record["on"] == bridge.name:
                     self.keep(bridge, room, record, revision)
-                elif record["to"] == bridge.name and (record["on"] is None or record["ready"]):
-                    self.bring(bridge, room, record, revision)
             for room in list(bridge.rooms):
                 record, _ = known.rooms.get(room, (None, 0))
                 if record is None:
@@ -161,15 +168,21 @@ class Agent:
         if self.store.put_room(room, later, revision, (f"{DESKS}{room}", groups, ANY)):
             bridge.kept[room] = bridge.rooms[room]
 
-    def bring(self, bridge, room, record, revision):
-        """Makes a room on a bridge, and then says that it is there."""
-        refusal = bridge.bring(room, self.store.groups(room))
-        later = record | {"to": None, "ready": False}
-        if refusal is None:
-            later |= {"on": bridge.name, "version": bridge.version, "tried": [], "why": ""}
-        else:
-            why = f"Bridge {bridge.name} refuses room {room}: {refusal}"
-            later |= {"tried": [*record["tried"], bridge.name], "why": why}
-            log(why)
-        if not self.store.put_room(room, later, revision) and refusal is None:
-            bridge.remove(room)
+    def bring(self, bridge, rooms):
+        """Makes rooms on a bridge by their records and revisions, and then says which of them are there."""
+        refusals, later = bridge.bring(self.store.groups(rooms)), {}
+        for room, (record, _) in rooms.items():
+            later[room] = record | {"to": None, "ready": False}
+            if refusals[room] is None:
+                later[room] |= {"on": bridge.name, "version": bridge.version, "tried": [], "why": ""}
+            else:
+                why = f"Bridge {bridge.name} refuses room {room}: {refusals[room]}"
+                later[room] |= {"tried": [*record["tried"], bridge.name], "why": why}
+                log(why)
+        revisions = {room: revision for room, (_, revision) in rooms.items()}
+        if self.store.swap_rooms(later, revisions):
+            return
+        # Some record has changed meanwhile: that room isn't to come any more.
+        for room in rooms:
+            if not self.store.put_room(room, later[room], revisions[room]) and refusals[room] is None:
+                bridge.remove(room)

@@ -73,7 +73,7 @@ class Asked:
         bridge.look()
         record, revision = self.store.room(room)
         if record and record["on"] is None and record["to"] == bridge.name:
-            self.agent.bring(bridge, room, record, revision)
+            self.agent.bring(bridge, {room: (record, revision)})
             record, revision = self.store.room(room)
         if not record or record["on"] != bridge.name or record["to"] or room not in bridge.rooms:
             raise Refused((record or NEW)["why"] or f"Room {room} moves. Try again in a second.", MOVING)

@@ -58,19 +58,22 @@ class Bridge:
     def members(self, room):
         return [int(row[2]) for row in self.rows(room, "member")]
 
-    def bring(self, room, groups):
-        """Makes a room by its groups. A refusal, which leaves nothing behind, or None."""
-        if room in self.rooms:
+    def bring(self, rooms):
+        """Makes rooms by their groups. The refusal of each, which leaves nothing behind, or None."""
+        for room in rooms.keys() & self.rooms.keys():
             # Half of a move that was cut.
             self.remove(room)
-        for at, group in enumerate(groups):
-            said = self.desk.ask(group)[0]
-            if not said.startswith("ok "):
-                if at:
-                    self.remove(room)
-                return said
+        # All at once: a bridge that has little of its processor would make each answer a wait.
+        groups = [group for one in rooms.values() for group in one]
+        said = iter(self.desk.ask("\n".join(groups), count=len(groups)))
+        refusals = {}
+        for room, one in rooms.items():
+            answers = [next(said) for _ in one]
+            refusals[room] = next((each for each in answers if not each.startswith("ok ")), None)
+            if refusals[room] and any(each.startswith("ok ") for each in answers):
+                self.remove(room)
         self.look()
-        return None
+        return refusals
 
     def remove(self, room):
         self.desk.group([f"remove-room {room}"])

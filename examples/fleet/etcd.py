@@ -50,6 +50,12 @@ class Etcd:
         found = self.ask("kv/range", key=packed(key)).get("kvs")
         return (json.loads(unpacked(found[0]["value"])), int(found[0]["mod_revision"])) if found else (None, 0)
 
+    def values(self, keys):
+        """The values of some keys, None where there is none."""
+        asked = [{"request_range": {"key": packed(key)}} for key in keys]
+        found = [one["response_range"].get("kvs") for one in self.ask("kv/txn", success=asked)["responses"]]
+        return [json.loads(unpacked(one[0]["value"])) if one else None for one in found]
+
     def swap(self, changes, lease=None):
         """Gives keys new values, None to remove one, if each has the revision that the change names. Whether it did."""
         compared, done = [], []

@@ -66,11 +66,17 @@ class Store(Etcd):
     def end_room(self, room, revision):
         return self.put_room(room, None, revision, (f"{DESKS}{room}", None, ANY))
 
+    def swap_rooms(self, records, revisions, *others):
+        """Changes rooms, if each has its revision, and other keys with them. Whether it did."""
+        changes = [(f"{FLEET}rooms/{room}", one, revisions.get(room, 0)) for room, one in records.items()]
+        return self.swap([*changes, *others])
+
     def put_rooms(self, records, known):
         """Changes rooms, of which some get a bridge that was chosen by what is known. Whether nobody was faster."""
-        changes = [(f"{FLEET}rooms/{room}", one, known.rooms.get(room, (None, 0))[1]) for room, one in records.items()]
-        return self.swap([*changes, (f"{FLEET}turn", {}, known.turn)])
+        revisions = {room: revision for room, (_, revision) in known.rooms.items()}
+        return self.swap_rooms(records, revisions, (f"{FLEET}turn", {}, known.turn))
 
-    def groups(self, room):
-        """The groups that make a room again."""
-        return self.value(f"{DESKS}{room}")[0] or [f"group add-room {room}"]
+    def groups(self, rooms):
+        """The groups that make rooms again, by room."""
+        found = self.values([f"{DESKS}{room}" for room in rooms])
+        return {room: one or [f"group add-room {room}"] for room, one in zip(rooms, found)}

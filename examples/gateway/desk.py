@@ -42,8 +42,8 @@ class Desk:
     def __init__(self, address):
         self.address, self.lock, self.lines = address, threading.Lock(), None
 
-    def ask(self, line, is_last=lambda said: True):
-        """The lines that answer a line, up to the last one."""
+    def ask(self, line, is_last=lambda said: True, count=1):
+        """The lines that answer a line, up to the last one. Of several lines: so many answers."""
         with self.lock:
             try:
                 if self.lines is None:
@@ -52,7 +52,7 @@ class Desk:
                 self.lines.write(line + "\n")
                 self.lines.flush()
                 answer = []
-                while not answer or not is_last(answer[-1]):
+                while len(answer) < count or not is_last(answer[-1]):
                     answer.append(self.lines.readline().strip())
                     if answer[-1] in ("", "busy"):
                         raise OSError(answer[-1])

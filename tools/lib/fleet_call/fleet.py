@@ -129,7 +129,7 @@ class Fleet(Dispatched, Gatewayed):
         """Whether etcd has each room as it is."""
         for rooms, _ in self.desks().values():
             for room, rows in rooms.items():
-                if self.etcd.store.groups(room) != groups_of(commands_of(rows)):
+                if self.etcd.store.groups([room])[room] != groups_of(commands_of(rows)):
                     return False
         return True
 
@@ -210,7 +210,7 @@ class Fleet(Dispatched, Gatewayed):
         self.comes(lambda: self.stand_once(everywhere), "it is started anew: the room stands on c alone")
         room = self.one_on("b")
         self.agents["c"].close()
-        for group in store.groups(room):
+        for group in store.groups([room])[room]:
             self.bridges["c"].do(group)
         record, revision = store.room(room)
         store.put_room(room, record | {"to": "c", "ready": True}, revision)
@@ -219,7 +219,7 @@ class Fleet(Dispatched, Gatewayed):
         self.check(self.places()[room] == ["c"], "it is where the move goes", self.places()[room])
         room = self.one_on("b")
         self.agents["c"].close()
-        for group in store.groups(room):
+        for group in store.groups([room])[room]:
             self.bridges["c"].do(group)
         self.bridges["c"].do(f"remove-room {room}")
         self.agents["c"].start()
