@@ -41,7 +41,6 @@ impl<A: Allocator + Copy> Model for ReadyFrame<A> {
     ghost view = { λ r. record { receiver = r.receiver; begun = r.begun; prepared = r.prepared } };
 }
 
-/// Prepares a frame for one receiver.
 fn prepare_one<A: Allocator + Copy>(
     alloc: A,
     table: &StreamTable<A>,

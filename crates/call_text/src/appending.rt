@@ -57,7 +57,6 @@ fn append_half<A: Allocator>(
     append_part(u64::from(second), mark, out)
 }
 
-/// Appends an address.
 fn append_address<A: Allocator>(address: Address, out: &mut Vec<u8, A>) -> Result<(), AllocError>
     ensures { Grows (buffer_of out.old) (buffer_of out.new) (address_text address) result }
 {
@@ -87,7 +86,6 @@ fn media_text(media: Media) -> &'static [u8]
     }
 }
 
-/// Appends a value.
 fn append_value<A: Allocator>(value: RowValue, out: &mut Vec<u8, A>) -> Result<(), AllocError>
     ensures { Grows (buffer_of out.old) (buffer_of out.new) (value_text (of_row value)) result }
 {

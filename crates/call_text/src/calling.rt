@@ -14,7 +14,6 @@ use desk_edit::{Call, Command};
 use desk_rows::RowValue;
 use std::alloc::{AllocError, Allocator};
 
-/// Appends a name and the values behind it.
 fn append_named<A: Allocator>(
     name: &[u8],
     values: &[RowValue],

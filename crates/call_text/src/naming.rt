@@ -35,7 +35,6 @@ pub(crate) fn name(command: &Command) -> &'static [u8]
     }
 }
 
-/// One number.
 fn one(number: u32) -> RowValues
     ensures { result.items ≡ U32 number ∷ [] }
 {

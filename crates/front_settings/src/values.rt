@@ -70,7 +70,6 @@ fn cname(value: &Value) -> Option<&[u8]>
     }
 }
 
-/// The value at a key.
 fn value_at(table: &Table, key: SettingKey) -> Option<&Value>
     ensures { option_map (λ x. view x.now) result ≡ get_member (key_text key) (table_view table.now) }
 {

@@ -30,7 +30,6 @@ fn put_blocks<A: Allocator + Copy>(
     Ok(())
 }
 
-/// Appends the items of a packet.
 fn put_asked<A: Allocator + Copy>(
     alloc: A,
     items: &mut Vec<Item<A>, A>,

@@ -25,7 +25,10 @@ use upward::receiver_report;
 fn sources_in<A: Allocator>(alloc: A, these: &[Row]) -> Result<Vec<Source, A>, AllocError>
     ensures { IfOk result (λ v. v.items ≡ filter_map source_in these.now) }
 {
-    these.iter().filter_map(|row| row.as_source()).collect(alloc)
+    these
+        .iter()
+        .filter_map(|row| row.as_source())
+        .collect(alloc)
 }
 
 /// The sources of the desk, by SSRC.

@@ -14,7 +14,6 @@ use rtp_codec::Address;
 use std::alloc::{AllocError, Allocator};
 use upward::upstream;
 
-/// One datagram to an address.
 fn one_datagram<A: Allocator + Copy>(
     alloc: A,
     to: &Address,

@@ -84,7 +84,6 @@ fn inputs_of<A: Allocator + Copy>(
     Ok(inputs)
 }
 
-/// The sources of a room.
 fn sources_of<A: Allocator + Copy>(
     alloc: A,
     voices: &[Voice<A>],

@@ -40,7 +40,6 @@ fn choice_in<A: Allocator + Copy>(rows: &Rows<A>, row: &Row) -> Option<SlotChoic
     })
 }
 
-/// The choices of the slots in these rows.
 fn choices_in<A: Allocator + Copy>(
     alloc: A,
     rows: &Rows<A>,

@@ -37,14 +37,12 @@ impl Default for Word<'_> {
     }
 }
 
-/// Appends a text.
 fn append<A: Allocator>(text: &[u8], out: &mut Vec<u8, A>) -> Result<(), AllocError>
     ensures { Grows (buffer_of out.old) (buffer_of out.new) text.now result }
 {
     out.extend_from_slice(text)
 }
 
-/// Appends a number.
 fn append_number<A: Allocator>(number: u64, out: &mut Vec<u8, A>) -> Result<(), AllocError>
     ensures { Grows (buffer_of out.old) (buffer_of out.new) (decimal number) result }
 {
@@ -60,7 +58,6 @@ fn append_signed<A: Allocator>(number: i64, out: &mut Vec<u8, A>) -> Result<(), 
     append(buffer.format(number).as_bytes(), out)
 }
 
-/// Appends a number and a mark behind it.
 fn append_part<A: Allocator>(number: u8, mark: u8, out: &mut Vec<u8, A>) -> Result<(), AllocError>
     ensures { Grows (buffer_of out.old) (buffer_of out.new) (decimal number ++ mark ∷ []) result }
 {
@@ -82,7 +79,6 @@ fn append_half<A: Allocator>(
     append_part(second, mark, out)
 }
 
-/// Appends an address.
 fn append_address<A: Allocator>(address: Address, out: &mut Vec<u8, A>) -> Result<(), AllocError>
     ensures { Grows (buffer_of out.old) (buffer_of out.new) (address_text address) result }
 {
@@ -112,7 +108,6 @@ fn media_text(media: Media) -> &'static [u8]
     }
 }
 
-/// Appends a value.
 fn append_value<A: Allocator>(value: Value, out: &mut Vec<u8, A>) -> Result<(), AllocError>
     ensures { Grows (buffer_of out.old) (buffer_of out.new) (value_text value) result }
 {
@@ -154,7 +149,6 @@ fn append_parts<A: Allocator>(
     append_hex(rest, out)
 }
 
-/// Appends a word.
 fn append_word<A: Allocator>(word: Word<'_>, out: &mut Vec<u8, A>) -> Result<(), AllocError>
     ensures { Grows (buffer_of out.old) (buffer_of out.new) (word_text (said word.entry)) result }
 {

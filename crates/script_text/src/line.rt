@@ -185,7 +185,6 @@ fn wait<A: Allocator + Copy>(
     Ok(Line::Wait { moment, from, ssrc })
 }
 
-/// A tick at a moment.
 fn tick<A: Allocator + Copy>(moment: u64, words: Option<&[u8]>) -> Result<Line<A>, ParseFault>
     ensures { Gives view result (tick_item moment (words_in words.entry)) }
 {
@@ -193,7 +192,6 @@ fn tick<A: Allocator + Copy>(moment: u64, words: Option<&[u8]>) -> Result<Line<A
     Ok(Line::Tick { moment })
 }
 
-/// The reports of a moment.
 fn report<A: Allocator + Copy>(moment: u64, words: Option<&[u8]>) -> Result<Line<A>, ParseFault>
     ensures { Gives view result (report_of moment (words_in words.entry)) }
 {

@@ -94,7 +94,6 @@ fn audible_seat<A: Allocator + Copy>(
     })
 }
 
-/// The audio source in a row.
 fn audio_in(row: &Row) -> Option<Source>
     ensures { result ≡ audio_in row.now }
 {

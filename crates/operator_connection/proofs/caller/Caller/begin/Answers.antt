@@ -35,7 +35,11 @@ returns-then-load g c =
                   standing = c.note_stop.ensures.standing;
                   since = c.note_stop.ensures.since;
                   silent =
-                      record { kept = c.note_stop.ensures.lines; waiting = c.note_stop.ensures.outgoing; heeded = refl };
+                      record {
+                        kept = c.note_stop.ensures.lines;
+                        waiting = c.note_stop.ensures.outgoing;
+                        heeded = refl;
+                      };
                 }),
             refl,
           ),
