@@ -22,6 +22,7 @@ mod admission;
 mod bridge_connection;
 mod bridge_metrics;
 mod bridge_request;
+mod bridge_shapes;
 mod desk_shapes;
 mod labelling;
 mod laws;

@@ -26,7 +26,7 @@ const STREAM: Labels = Labels::One(Label {
 });
 
 /// What comes and goes.
-pub(crate) const MEDIA: [Family; 16] = [
+pub(crate) const MEDIA: [Family; 24] = [
     Family {
         name: "confbridge_datagrams_total",
         help: "Datagrams that came, by what became of them.",
@@ -118,6 +118,42 @@ pub(crate) const MEDIA: [Family; 16] = [
         unit: Unit::Thousandth,
     },
     Family {
+        name: "confbridge_source_jitter_seconds",
+        help: "Interarrival jitter of a source.",
+        kind: "gauge",
+        line: "source",
+        labels: SENDER,
+        value: WordPlace::Behind("jitter", 1),
+        unit: Unit::Thousandth,
+    },
+    Family {
+        name: "confbridge_source_frames",
+        help: "Whole frames of a video source, since it last began.",
+        kind: "gauge",
+        line: "source",
+        labels: SENDER,
+        value: WordPlace::Behind("frames", 1),
+        unit: Unit::One,
+    },
+    Family {
+        name: "confbridge_source_given_up_gaps",
+        help: "Gaps of a video source that the bridge gave up, since it last began.",
+        kind: "gauge",
+        line: "source",
+        labels: SENDER,
+        value: WordPlace::Behind("given-up", 1),
+        unit: Unit::One,
+    },
+    Family {
+        name: "confbridge_source_waiting_seconds",
+        help: "For how long a missing packet of a video source has been waited for.",
+        kind: "gauge",
+        line: "source",
+        labels: SENDER,
+        value: WordPlace::Behind("waiting", 1),
+        unit: Unit::Thousandth,
+    },
+    Family {
         name: "confbridge_stranger_packets_total",
         help: "Packets of a sender that is no source.",
         kind: "counter",
@@ -128,7 +164,7 @@ pub(crate) const MEDIA: [Family; 16] = [
     },
     Family {
         name: "confbridge_uncounted_datagrams_total",
-        help: "Datagrams that were not counted for sources or strangers, since memory was refused.",
+        help: "Datagrams and reports that were not counted apart, since memory was refused.",
         kind: "counter",
         line: "left-out",
         labels: Labels::One(Label {
@@ -148,6 +184,18 @@ pub(crate) const MEDIA: [Family; 16] = [
             place: WordPlace::Fixed("strangers"),
         }),
         value: WordPlace::Behind("strangers", 1),
+        unit: Unit::One,
+    },
+    Family {
+        name: "confbridge_uncounted_datagrams_total",
+        help: "",
+        kind: "counter",
+        line: "left-out",
+        labels: Labels::One(Label {
+            name: "kind",
+            place: WordPlace::Fixed("streams"),
+        }),
+        value: WordPlace::Behind("streams", 1),
         unit: Unit::One,
     },
     Family {
@@ -175,6 +223,33 @@ pub(crate) const MEDIA: [Family; 16] = [
         line: "stream",
         labels: STREAM,
         value: WordPlace::Behind("highest", 2),
+        unit: Unit::One,
+    },
+    Family {
+        name: "confbridge_stream_packets_total",
+        help: "Packets of an outgoing stream that the system took.",
+        kind: "counter",
+        line: "stream",
+        labels: STREAM,
+        value: WordPlace::Behind("packets", 1),
+        unit: Unit::One,
+    },
+    Family {
+        name: "confbridge_stream_bytes_total",
+        help: "Octets of the packets of an outgoing stream that the system took.",
+        kind: "counter",
+        line: "stream",
+        labels: STREAM,
+        value: WordPlace::Behind("octets", 1),
+        unit: Unit::One,
+    },
+    Family {
+        name: "confbridge_stream_resent_packets_total",
+        help: "Packets of an outgoing stream that were sent again.",
+        kind: "counter",
+        line: "stream",
+        labels: STREAM,
+        value: WordPlace::Behind("resent", 1),
         unit: Unit::One,
     },
 ];

@@ -1,5 +1,6 @@
 //! What a bridge counts as JSON. A row here is a key.
 
+use crate::bridge_shapes::{LANE, LIMITED, SEATS};
 use crate::reading::WordPlace;
 use crate::rows::{HistoryPart, RowField, RowKind, RowShape};
 
@@ -18,7 +19,7 @@ const DATAGRAMS: [RowField; 3] = [
     },
 ];
 
-const SENDER: [RowField; 10] = [
+const SENDER: [RowField; 14] = [
     RowField {
         name: "address",
         place: WordPlace::Word(1),
@@ -59,6 +60,22 @@ const SENDER: [RowField; 10] = [
         name: "ago_ms",
         place: WordPlace::Behind("ago", 1),
     },
+    RowField {
+        name: "jitter_ms",
+        place: WordPlace::Behind("jitter", 1),
+    },
+    RowField {
+        name: "frames",
+        place: WordPlace::Behind("frames", 1),
+    },
+    RowField {
+        name: "given_up",
+        place: WordPlace::Behind("given-up", 1),
+    },
+    RowField {
+        name: "waiting_ms",
+        place: WordPlace::Behind("waiting", 1),
+    },
 ];
 
 const STRANGER: [RowField; 4] = [
@@ -80,7 +97,7 @@ const STRANGER: [RowField; 4] = [
     },
 ];
 
-const LEFT_OUT: [RowField; 2] = [
+const LEFT_OUT: [RowField; 3] = [
     RowField {
         name: "sources",
         place: WordPlace::Behind("sources", 1),
@@ -89,9 +106,13 @@ const LEFT_OUT: [RowField; 2] = [
         name: "strangers",
         place: WordPlace::Behind("strangers", 1),
     },
+    RowField {
+        name: "streams",
+        place: WordPlace::Behind("streams", 1),
+    },
 ];
 
-const STREAM: [RowField; 5] = [
+const STREAM: [RowField; 8] = [
     RowField {
         name: "out_ssrc",
         place: WordPlace::Word(1),
@@ -112,25 +133,6 @@ const STREAM: [RowField; 5] = [
         name: "highest",
         place: WordPlace::Behind("highest", 2),
     },
-];
-
-const LANE: [RowField; 13] = [
-    RowField {
-        name: "lane",
-        place: WordPlace::Word(1),
-    },
-    RowField {
-        name: "items",
-        place: WordPlace::Behind("items", 1),
-    },
-    RowField {
-        name: "dropped",
-        place: WordPlace::Behind("dropped", 1),
-    },
-    RowField {
-        name: "waiting",
-        place: WordPlace::Behind("waiting", 1),
-    },
     RowField {
         name: "packets",
         place: WordPlace::Behind("packets", 1),
@@ -140,58 +142,8 @@ const LANE: [RowField; 13] = [
         place: WordPlace::Behind("octets", 1),
     },
     RowField {
-        name: "waited",
-        place: WordPlace::Behind("waited", 1),
-    },
-    RowField {
-        name: "not_ready",
-        place: WordPlace::Behind("not-ready", 1),
-    },
-    RowField {
-        name: "denied",
-        place: WordPlace::Behind("denied", 1),
-    },
-    RowField {
-        name: "refused",
-        place: WordPlace::Behind("refused", 1),
-    },
-    RowField {
-        name: "unreachable",
-        place: WordPlace::Behind("unreachable", 1),
-    },
-    RowField {
-        name: "too_long",
-        place: WordPlace::Behind("too-long", 1),
-    },
-    RowField {
-        name: "other",
-        place: WordPlace::Behind("other", 1),
-    },
-];
-
-const LIMITED: [RowField; 3] = [
-    RowField {
-        name: "nacks",
-        place: WordPlace::Behind("nacks", 1),
-    },
-    RowField {
-        name: "blocks",
-        place: WordPlace::Behind("blocks", 1),
-    },
-    RowField {
-        name: "plis",
-        place: WordPlace::Behind("plis", 1),
-    },
-];
-
-const SEATS: [RowField; 2] = [
-    RowField {
-        name: "used",
-        place: WordPlace::Word(1),
-    },
-    RowField {
-        name: "of",
-        place: WordPlace::Behind("of", 1),
+        name: "resent",
+        place: WordPlace::Behind("resent", 1),
     },
 ];
 
