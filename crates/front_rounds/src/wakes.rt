@@ -4,7 +4,8 @@ ghost use Rattle.std.specs.Prelude.{◌≡◌, ◌<◌, ◌≤◌, ◌+◌, ◌-
 ghost use Rattle.std.specs.Prelude.{None, Some, IfSome};
 ghost use Rattle.playout.specs.Playout.{is_reset};
 ghost use Rattle.udp_wire.specs.Pacing.{tick_gap, most_ticks};
-ghost use Rattle.media_front.specs.PlacesLeft.{ring_places, left_by_media};
+ghost use Rattle.media_workers.specs.Ports.{ring_places};
+ghost use Rattle.media_front.specs.PlacesLeft.{left_by_media};
 ghost use Rattle.front_rounds.specs.Sleeps.{samples_last, awake_for, asleep_for};
 
 /// For how long lanes are still woken in each round once the desk has no members, in nanoseconds: 2 s. After that no

@@ -2,11 +2,7 @@
 use Rattle.std.specs.Prelude.{ℕ}
 use Rattle.media_items.specs.Inputs.{Input, frame, audio, tick, nack, block, pli, report, renew}
 
--- how many parcels a lane's ring holds
-abbrev pub ring_places : ℕ
-ring_places = 1024
-
--- how many places a NACK, a report block or a PLI leaves free: a half
+-- how many of a ring's 1,024 places a NACK, a report block or a PLI leaves free: a half
 abbrev pub left_by_requests : ℕ
 left_by_requests = 512
 

@@ -1,10 +1,12 @@
-//! Whether the lanes of a feed have ended.
+//! Whether the lanes of a feed have ended, and how much waits for each.
 
-ghost use Rattle.std.specs.Prelude.{◌<◌, length};
+ghost use Rattle.std.specs.Prelude.{◌≡◌, ◌<◌, ◌≤◌, length};
+ghost use Rattle.media_workers.specs.Ports.{ring_places};
 ghost use Rattle.media_front.specs.FedLanes.{FedLane};
 
 use crate::asking::{AskedLanes, any_has_ended};
 use crate::feed::LaneFeed;
+use crate::front::MediaFront;
 use media_workers::{Pace, PublisherName, Sink};
 
 impl<N: PublisherName, P: Pace, S: Sink> AskedLanes for LaneFeed<N, P, S> {
@@ -34,5 +36,26 @@ impl<N: PublisherName, P: Pace, S: Sink> LaneFeed<N, P, S> {
     /// Whether any lane has ended. No contract speaks of the answer for lanes on threads.
     pub fn has_ended(&self) -> bool {
         any_has_ended(self)
+    }
+
+    /// How many parcels wait for a lane.
+    fn waiting(&mut self, lane: u32) -> usize
+        requires lane { lane < length self.old }
+        ensures same { self.new ≡ self.old }
+        ensures few { result ≤ ring_places }
+    {
+        self.bridge.waiting(lane)
+    }
+}
+
+impl<N: PublisherName, P: Pace, S: Sink> MediaFront<N, P, S> {
+    /// How many parcels wait for a lane in its ring: items that it was given and has not begun. It may begin some at
+    /// any time.
+    pub fn waiting(&mut self, lane: u32) -> usize
+        requires lane { lane < length self.old.feed }
+        ensures same { self.new ≡ self.old }
+        ensures few { result ≤ ring_places }
+    {
+        self.feed.waiting(lane)
     }
 }

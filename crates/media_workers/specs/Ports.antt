@@ -7,6 +7,10 @@ use Rattle.media_workers.specs.declared.parcel.Parcel.TheVariants.{Work, End}
 use Rattle.media_workers.specs.Parcels.{works}
 use Rattle.media_workers.specs.LaneRuns.{LaneNow, Ran, RunEnd, Traffic}
 
+-- how many parcels a lane's ring holds
+abbrev pub ring_places : ℕ
+ring_places = 1024
+
 -- a lane that was handed in, with its pace and its sink; the parcels with items that `push` accepted for it; and
 -- whether it has had its End
 pub record PortOf (P S : Type 0) : Type 0 where

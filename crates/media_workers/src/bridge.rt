@@ -1,10 +1,10 @@
 //! A bridge's lanes, each on a thread of its own.
 
-ghost use Rattle.std.specs.Prelude.{◌≡◌, ◌≢◌, ◌⊎◌, ◌↔◌, ◌<◌, ◌^◌, false, [], Some, length, All};
+ghost use Rattle.std.specs.Prelude.{◌≡◌, ◌≢◌, ◌⊎◌, ◌↔◌, ◌<◌, ◌≤◌, ◌^◌, false, [], Some, length, All};
 ghost use Rattle.std.specs.Prelude.{IfOk, OnOk, IfErr, slice_get, slice_set, vec_len};
 ghost use Rattle.media_workers.specs.Parcels.{IsFit};
 ghost use Rattle.media_workers.specs.LaneRuns.{LaneNow};
-ghost use Rattle.media_workers.specs.Ports.{PortOf, accept};
+ghost use Rattle.media_workers.specs.Ports.{PortOf, ring_places, accept};
 ghost use Rattle.media_workers.specs.Bridges.{AreNew, AllEnded, AllFeed, ports_of};
 ghost use Rattle.media_workers.specs.declared.parcel.Parcel.TheVariants.{End};
 
@@ -119,6 +119,15 @@ impl<N: PublisherName, P: Pace, S: Sink> Bridge<N, P, S> {
         ensures err { IfErr result (λ back. (back ≡ parcel) × (self.new ≡ self.old)) }
     {
         self.ports[lane as usize].push_leaving(parcel, free)
+    }
+
+    /// How many parcels wait for a lane in its ring. The lane may take some off at any time.
+    pub fn waiting(&mut self, lane: u32) -> usize
+        requires lane { lane < length self.old }
+        ensures same { self.new ≡ self.old }
+        ensures few { result ≤ ring_places }
+    {
+        self.ports[lane as usize].waiting()
     }
 
     /// Whether a lane has ended. No contract speaks of the answer.

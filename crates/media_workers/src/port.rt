@@ -1,9 +1,9 @@
 //! A lane's thread, with the ring to it.
 
-ghost use Rattle.std.specs.Prelude.{◌≡◌, ◌≢◌, false, [], Err, IfOk, OnOk, IfErr};
+ghost use Rattle.std.specs.Prelude.{◌≡◌, ◌≢◌, ◌≤◌, false, [], Err, IfOk, OnOk, IfErr};
 ghost use Rattle.rtrb.specs.Ring.{sent, received, IsPair};
 ghost use Rattle.media_workers.specs.Parcels.{IsFit};
-ghost use Rattle.media_workers.specs.Ports.{port_of, accept};
+ghost use Rattle.media_workers.specs.Ports.{ring_places, port_of, accept};
 ghost use Rattle.media_workers.specs.Bridges.{EndsAs, StillFeeds};
 ghost use Rattle.media_workers.specs.inner.Threads.{IsRunOf, is_end};
 
@@ -159,6 +159,14 @@ impl<N: PublisherName, P: Pace, S: Sink> Port<N, P, S> {
         } else {
             Err(parcel)
         }
+    }
+
+    /// How many parcels wait in the ring. The lane may take some off at any time.
+    pub fn waiting(&mut self) -> usize
+        ensures same { self.new ≡ self.old }
+        ensures few { result ≤ ring_places }
+    {
+        PARCELS.saturating_sub(self.parcels.slots())
     }
 
     /// Whether the lane has ended. No contract speaks of the answer.
