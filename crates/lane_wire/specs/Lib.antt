@@ -2,4 +2,4 @@ pub mod Tries
 pub mod Logs
 pub mod Counted
 pub mod Sendings
-pub mod Reported
+pub mod Streams

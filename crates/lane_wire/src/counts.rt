@@ -1,9 +1,12 @@
 //! How much was sent, and how much was not.
 
 ghost use Rattle.std.specs.Prelude.{◌≡◌};
+ghost use Rattle.udp_wire.specs.Attempts.{datagrams_of};
 ghost use Rattle.lane_wire.specs.Counted.{no_counts, failed_by, after_pauses, after_answer};
+ghost use Rattle.lane_wire.specs.Sendings.{octets_together};
 
 use crate::fault::SendFault;
+use bridge_core::Egress;
 
 /// How many datagrams were sent, and how many were not, by cause. Each count ends at 2^64 - 1.
 #[derive(Clone, Copy, Debug, PartialEq, Eq)]
@@ -26,6 +29,20 @@ pub struct SendCounts {
     pub too_long: u64,
     /// How many failed for another reason.
     pub other: u64,
+}
+
+/// How many octets the datagram of an egress has; a note has none.
+pub(crate) fn octets_in(egress: &Egress) -> u64
+    ensures { result ≡ octets_together (datagrams_of egress.now) }
+{
+    match egress {
+        Egress::Media { bytes, .. } => {
+            let (first, rest) = bytes.parts();
+            first.len() as u64 + rest.len() as u64
+        }
+        Egress::Control { bytes, .. } => bytes.len() as u64,
+        Egress::Note { .. } => 0,
+    }
 }
 
 impl SendCounts {

@@ -2,7 +2,8 @@
 //!
 //! Begin with [`WireSink::new`], of a [`LaneWire`] such as a socket, and hand it to `Bridge::start` of media_workers.
 //! When the lane has ended, [`WireSink::into_sent`] tells what it took and how much of that was sent. Meanwhile
-//! [`SharedCounts::read`] tells the latter, and [`SharedCounts::last_note`] what a receiver reported last.
+//! [`SharedCounts::read`] tells the latter. [`SharedCounts::copy_streams`] tells how much was sent of each stream, and
+//! what its receiver reported last.
 //!
 //! Contracts see a sink as the list of what it took, and a wire as the list of what was done on it: each try to send a
 //! datagram, with its answer, and each pause. Of a socket both lists exist in proofs alone: [`Taken`] and [`WireLog`]
@@ -20,18 +21,20 @@
 
 mod counts;
 mod fault;
-mod last_notes;
 mod sending;
 mod shared_counts;
+mod stream_counts;
+mod stream_numbers;
 mod taken;
 mod wire_log;
 mod wire_sink;
 
 pub use self::counts::SendCounts;
 pub use self::fault::SendFault;
-pub use self::last_notes::LastNotes;
 pub use self::sending::LaneWire;
 pub use self::shared_counts::SharedCounts;
+pub use self::stream_counts::StreamCounts;
+pub use self::stream_numbers::{StreamNews, StreamNumbers};
 pub use self::taken::Taken;
 pub use self::wire_log::WireLog;
 pub use self::wire_sink::{LaneSent, WireSink};

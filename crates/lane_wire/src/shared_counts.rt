@@ -1,14 +1,18 @@
-//! The counts of a lane that runs and its receivers' reports, for whoever asks.
+//! The counts of a lane that runs and of its streams, for whoever asks.
 
 use crate::counts::SendCounts;
-use crate::last_notes::LastNotes;
-use bridge_core::LossNote;
+use crate::fault::SendFault;
+use crate::stream_counts::StreamCounts;
+use crate::stream_numbers::StreamNumbers;
+use bridge_core::Egress;
 use std::alloc::{AllocError, Global};
 use std::sync::atomic::{AtomicU64, Ordering};
 use std::sync::{Mutex, MutexGuard, Wait};
 
-/// What a lane's sink has counted so far, and what its receivers reported last, as other threads may read it. Each
-/// count is exact, and they may be of moments that a datagram or so lies between. No contract speaks of it.
+/// What a lane's sink has counted so far, in all and of each stream, as other threads may read it. Each count is exact,
+/// and they may be of moments that a datagram or so lies between. No contract speaks of it.
+///
+/// A lane that sends while the counts of streams are read waits until they are copied.
 #[derive(Drop)]
 pub struct SharedCounts {
     packets: AtomicU64,
@@ -20,7 +24,7 @@ pub struct SharedCounts {
     unreachable: AtomicU64,
     too_long: AtomicU64,
     other: AtomicU64,
-    notes: Mutex<LastNotes>,
+    streams: Mutex<StreamCounts>,
 }
 
 impl SharedCounts {
@@ -36,23 +40,37 @@ impl SharedCounts {
             unreachable: AtomicU64::new(0),
             too_long: AtomicU64::new(0),
             other: AtomicU64::new(0),
-            notes: Mutex::new(LastNotes::new(alloc)?),
+            streams: Mutex::new(StreamCounts::new(alloc)?),
         })
     }
 
-    /// What the receiver of a stream reported last, if that is kept.
-    pub fn last_note<R: Wait>(&self, rt: &R, out_ssrc: u32) -> Option<LossNote> {
-        let notes = self.notes.lock(rt);
-        let note = notes.last_of(out_ssrc);
-        MutexGuard::unlock(notes);
-        note
+    /// How many streams are kept, and how many packets and reports were left out since memory was refused.
+    pub fn streams<R: Wait>(&self, rt: &R) -> (usize, u64) {
+        let streams = self.streams.lock(rt);
+        let kept = (streams.len(), streams.left_out());
+        MutexGuard::unlock(streams);
+        kept
     }
 
-    /// Keeps what a receiver reported.
-    pub(crate) fn note<R: Wait>(&self, rt: &R, note: &LossNote) {
-        let mut notes = self.notes.lock(rt);
-        notes.note(note);
-        MutexGuard::unlock(notes);
+    /// Copies what is counted of each stream, the latest one first: of so many at most. The only error is out of
+    /// memory.
+    pub fn copy_streams<R: Wait>(
+        &self,
+        rt: &R,
+        most: usize,
+        out: &mut Vec<(u32, StreamNumbers)>,
+    ) -> Result<(), AllocError> {
+        let streams = self.streams.lock(rt);
+        let done = streams.copy(most, out);
+        MutexGuard::unlock(streams);
+        done
+    }
+
+    /// Counts what a lane sent for its stream.
+    pub(crate) fn count<R: Wait>(&self, rt: &R, egress: &Egress, answer: Result<(), SendFault>) {
+        let mut streams = self.streams.lock(rt);
+        streams.count(egress, answer);
+        MutexGuard::unlock(streams);
     }
 
     /// What was counted so far.

@@ -8,9 +8,9 @@ ghost use Rattle.bridge_core.specs.declared.egress.Egress.{Egress as AnEgress};
 ghost use Rattle.udp_wire.specs.Attempts.{datagrams_of};
 ghost use Rattle.lane_wire.specs.Logs.{taken_list};
 ghost use Rattle.lane_wire.specs.Counted.{no_counts};
-ghost use Rattle.lane_wire.specs.Sendings.{octets_together, so_far, WereSent};
+ghost use Rattle.lane_wire.specs.Sendings.{so_far, WereSent};
 
-use crate::counts::SendCounts;
+use crate::counts::{SendCounts, octets_in};
 use crate::sending::{LaneWire, Trial, is_unready, patience, send_patiently};
 use crate::shared_counts::SharedCounts;
 use crate::taken::Taken;
@@ -28,7 +28,8 @@ pub struct LaneSent {
     pub counts: SendCounts,
 }
 
-/// A sink that sends each datagram, in the order in which they are put. Of notes it shows the last one of each stream.
+/// A sink that sends each datagram, in the order in which they are put. It counts each for its stream, and of notes it
+/// keeps the last one of each stream.
 ///
 /// Where the wire isn't ready, it makes a pause and tries the same datagram again, for 20 ms at most. A datagram that
 /// is given up, or fails otherwise, is counted by its cause, and the next one is sent. After one that was given up it
@@ -43,20 +44,6 @@ pub struct WireSink<W: LaneWire + Drop> {
     pub is_stuck: bool,
     /// Where others read the counts.
     shown: Arc<SharedCounts, Global>,
-}
-
-/// How many octets the datagram of an egress has; a note has none.
-fn octets_in(egress: &Egress) -> u64
-    ensures { result ≡ octets_together (datagrams_of egress.now) }
-{
-    match egress {
-        Egress::Media { bytes, .. } => {
-            let (first, rest) = bytes.parts();
-            first.len() as u64 + rest.len() as u64
-        }
-        Egress::Control { bytes, .. } => bytes.len() as u64,
-        Egress::Note { .. } => 0,
-    }
 }
 
 impl<W: LaneWire + Drop> WireSink<W> {
@@ -101,6 +88,7 @@ impl<W: LaneWire + Drop> WireSink<W> {
         counts.count_answer(octets_in(egress), answer);
         self.shown
             .show(&self.sent.counts, pauses > 0 || answer.is_err());
+        self.shown.count(rt, egress, answer);
     }
 }
 
@@ -119,7 +107,7 @@ impl<W: LaneWire + Drop> Sink for WireSink<W> {
     {
         match &egress {
             Egress::Media { .. } | Egress::Control { .. } => self.send(rt, &egress),
-            Egress::Note { note, .. } => self.shown.note(rt, note),
+            Egress::Note { .. } => self.shown.count(rt, &egress, Ok(())),
         }
         self.sent.taken.note(&egress);
     }

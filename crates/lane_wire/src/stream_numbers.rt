@@ -1,0 +1,87 @@
+//! What is counted of one outgoing stream.
+
+ghost use Rattle.std.specs.Prelude.{◌≡◌};
+ghost use Rattle.lane_wire.specs.Streams.{no_numbers, news_of, after_news};
+
+use crate::counts::octets_in;
+use crate::fault::SendFault;
+use bridge_core::{Egress, LossNote};
+
+/// What is counted of an outgoing stream, and what its receiver reported last. Each count ends at 2^64 - 1.
+#[derive(Clone, Copy)]
+pub struct StreamNumbers {
+    /// How many of its packets the system took, those that were sent again among them.
+    pub packets: u64,
+    /// How many octets these had, without the headers of UDP and IP.
+    pub octets: u64,
+    /// How many of these packets were sent again.
+    pub resent: u64,
+    /// What its receiver reported last.
+    pub report: Option<LossNote>,
+}
+
+/// What is new of an outgoing stream.
+#[derive(Clone, Copy)]
+pub enum StreamNews {
+    /// The system took a packet of it.
+    Packet {
+        /// How many octets the packet has.
+        octets: u64,
+        /// Whether it was sent again.
+        is_resent: bool,
+    },
+    /// Its receiver reported.
+    Report(LossNote),
+}
+
+/// What is new, and of which stream, where the last try to send this had this answer.
+pub(crate) fn news_of(egress: &Egress, answer: Result<(), SendFault>) -> Option<(u32, StreamNews)>
+    ensures { result ≡ news_of egress.now answer }
+{
+    match egress {
+        Egress::Media {
+            ssrc,
+            resent_by,
+            ..
+        } => match answer {
+            Ok(()) => {
+                let news = StreamNews::Packet {
+                    octets: octets_in(egress),
+                    is_resent: resent_by.is_some(),
+                };
+                Some((*ssrc, news))
+            }
+            Err(_) => None,
+        },
+        Egress::Control { .. } => None,
+        Egress::Note { note, .. } => Some((note.out_ssrc, StreamNews::Report(*note))),
+    }
+}
+
+impl StreamNumbers {
+    /// Nothing was counted.
+    pub(crate) fn new() -> Self
+        ensures { result ≡ no_numbers }
+    {
+        Self {
+            packets: 0,
+            octets: 0,
+            resent: 0,
+            report: None,
+        }
+    }
+
+    /// Counts what is new.
+    pub(crate) fn count(&mut self, news: StreamNews)
+        ensures { self.new ≡ after_news news self.old }
+    {
+        match news {
+            StreamNews::Packet { octets, is_resent } => {
+                self.packets = self.packets.saturating_add(1);
+                self.octets = self.octets.saturating_add(octets);
+                self.resent = self.resent.saturating_add(u64::from(is_resent));
+            }
+            StreamNews::Report(note) => self.report = Some(note),
+        }
+    }
+}
