@@ -1,7 +1,12 @@
 -- What an operator is told of what a bridge counts (own).
 use Rattle.std.specs.Prelude.{◌≡◌, ℕ, List}
+use Rattle.std.specs.Option.{option_map}
+use Rattle.feedback.specs.declared.noting.LossNote.{LossNote}
 use Rattle.lane_wire.specs.declared.counts.SendCounts.{SendCounts}
+use Rattle.lane_wire.specs.declared.stream_numbers.StreamNumbers.{StreamNumbers}
 use Rattle.bridge_stats.specs.declared.others.LaneRow.{LaneRow}
+use Rattle.bridge_stats.specs.declared.others.StreamReport.{StreamReport}
+use Rattle.bridge_stats.specs.declared.others.StreamRow.{StreamRow}
 use Rattle.bridge_stats.specs.declared.others.Seats.{Seats}
 use Rattle.bridge_stats.specs.declared.others.OthersShown.{OthersShown}
 use Rattle.bridge_stats.specs.declared.shown.StatsShown.{StatsShown}
@@ -20,9 +25,9 @@ pub record TellsCounts (in_use : Seats) (text : List ℕ) : Type 0 where
   pub seats : others.seats ≡ in_use
   pub says : text ≡ stats_text shown others
 
--- what a lane did: its items, those that were dropped for it, and what it has sent and could not send
-abbrev pub lane_row : (lane items dropped : ℕ) → SendCounts → LaneRow
-lane_row lane items dropped sent = record {
+-- what a lane did: its items, those that were dropped for it and those that wait, and what it sent and could not send
+abbrev pub lane_row : (lane items dropped waiting : ℕ) → SendCounts → LaneRow
+lane_row lane items dropped waiting sent = record {
   lane = lane;
   items = items;
   dropped = dropped;
@@ -35,4 +40,19 @@ lane_row lane items dropped sent = record {
   unreachable = sent.unreachable;
   too_long = sent.too_long;
   other = sent.other;
+  waiting = waiting;
+}
+
+-- what a receiver reported
+abbrev pub report_row : LossNote → StreamReport
+report_row note = record { fraction = note.fraction; lost = note.lost; source = note.source }
+
+-- what was sent of a stream, and what its receiver reported last
+abbrev pub stream_row : ℕ → StreamNumbers → StreamRow
+stream_row ssrc numbers = record {
+  out_ssrc = ssrc;
+  report = option_map report_row numbers.report;
+  packets = numbers.packets;
+  octets = numbers.octets;
+  resent = numbers.resent;
 }

@@ -24,6 +24,7 @@ mod calls;
 mod causes;
 mod ending;
 mod front;
+mod lane_counts;
 mod listener;
 mod opening;
 mod rounds;

@@ -14,8 +14,9 @@ ghost use Rattle.bridge_server.specs.OneRun.{IsSetUp, IsOneRun, signer, sent_int
 use crate::causes::{note_desk, note_end, note_round, note_start};
 use crate::ending::{close, gather, give_up};
 use crate::front::Front;
+use crate::lane_counts::fresh_counts;
 use crate::listener::OperatorListener;
-use crate::rounds::{Running, ServerMedia, fresh_counts};
+use crate::rounds::{Running, ServerMedia};
 use crate::serving::serve;
 use crate::setup::Setup;
 use crate::sinks::{LaneSocket, sinks_for};

@@ -1,24 +1,22 @@
 //! The front of a bridge that runs: its rounds over the system's sockets and clock.
 
-ghost use Rattle.std.specs.Prelude.{◌≡◌, IfOk, vec_len};
-ghost use Rattle.bridge_server.specs.Told.{lane_row};
+ghost use Rattle.std.specs.Prelude.{◌≡◌};
 
+use crate::lane_counts::{LaneCounts, show_lanes, show_streams};
 use crate::setup::Setup;
-use crate::sinks::{LaneSocket, counts_for};
+use crate::sinks::LaneSocket;
 use crate::sockets::{FrontSocket, UdpInlet};
 use crate::stats_desk::StatsDesk;
 use crate::telling::Teller;
 use crate::watching::SystemWatch;
-use bridge_stats::{BridgeStats, LaneRow};
 use event_lines::{Cause, Event, LaneDrops};
 use front_rounds::Rounds;
-use lane_wire::{SendCounts, SharedCounts, WireSink};
+use lane_wire::WireSink;
 use media_front::{MediaFront, PublisherOf};
 use media_workers::SleepPace;
 use operator_desk::DeskBrand;
-use std::alloc::{AllocError, Global};
 use std::marker::Model;
-use std::sync::{Arc, Wait};
+use std::sync::Wait;
 use std::time::Clock;
 use udp_wire::FrontFault;
 use versions::Notice;
@@ -40,27 +38,6 @@ pub(crate) type ServerRounds<H, R> = Rounds<
     SystemWatch<R>,
 >;
 
-/// What each lane has sent so far, and what not, with memory for a row of each.
-#[derive(Drop)]
-pub(crate) struct LaneCounts {
-    pub(crate) counts: Vec<Arc<SharedCounts, Global>>,
-    /// What was shown of the lanes last.
-    pub(crate) rows: Vec<LaneRow>,
-}
-
-/// Counts of so many lanes, and of the datagrams that come: nothing was counted. The only error is out of memory.
-pub(crate) fn fresh_counts(
-    alloc: Global,
-    lanes: usize,
-) -> Result<(LaneCounts, BridgeStats), AllocError>
-    ensures { IfOk result (λ r. vec_len r.0.counts ≡ lanes) }
-{
-    let counts = counts_for(alloc, lanes)?;
-    let rows = Vec::with_capacity(alloc, lanes)?;
-    let stats = BridgeStats::new(alloc)?;
-    Ok((LaneCounts { counts, rows }, stats))
-}
-
 /// The front of a bridge that runs.
 ///
 /// Contracts see the lanes as they were handed in. Nothing that a round does changes which they are, or by which name
@@ -68,41 +45,6 @@ pub(crate) fn fresh_counts(
 pub(crate) struct Running<H: DeskBrand + Setup, R: Wait + Clock + Drop> {
     pub(crate) rounds: ServerRounds<H, R>,
     pub(crate) lanes: LaneCounts,
-}
-
-/// What a lane did.
-fn lane_row(lane: u32, items: u64, dropped: u64, sent: &SendCounts) -> LaneRow
-    ensures { result ≡ lane_row lane items dropped sent.now }
-{
-    LaneRow {
-        lane,
-        items,
-        dropped,
-        packets: sent.packets,
-        octets: sent.octets,
-        waited: sent.waited,
-        not_ready: sent.not_ready,
-        denied: sent.denied,
-        refused: sent.refused,
-        unreachable: sent.unreachable,
-        too_long: sent.too_long,
-        other: sent.other,
-    }
-}
-
-/// Writes what each lane did so far, by what each has sent. Rows for which there is no capacity are left out.
-fn show_lanes<H: DeskBrand, R: Wait + Clock + Drop>(
-    media: &ServerMedia<H, R>,
-    lanes: &mut LaneCounts,
-) {
-    lanes.rows.clear();
-    for lane in 0..media.lanes() {
-        if let Some(sent) = lanes.counts.get(lane as usize) {
-            let items = media.given(lane);
-            let row = lane_row(lane, items, media.dropped(lane), &sent.read());
-            let _ = lanes.rows.push(row);
-        }
-    }
 }
 
 impl<H: DeskBrand + Setup, R: Wait + Clock + Drop> Model for Running<H, R> {
@@ -154,10 +96,12 @@ impl<
         if !desk.is_asked() {
             return;
         }
+        let lanes = &mut self.lanes;
+        show_lanes(&mut self.rounds.media, lanes);
+        show_streams(rt, lanes);
         let rounds = &self.rounds;
-        show_lanes(&rounds.media, &mut self.lanes);
         let limited = rounds.media.limited();
-        desk.answer(rt, rounds.ticked, &rounds.stats, limited, &self.lanes.rows);
+        desk.answer(rt, rounds.ticked, &rounds.stats, limited, &self.lanes.shown);
     }
 
     /// What failed last at its sockets and its clock.

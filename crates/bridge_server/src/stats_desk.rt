@@ -3,8 +3,9 @@
 ghost use Rattle.std.specs.Prelude.{◌≡◌, ◌++◌, ℕ, List, OnOk, OnErr};
 ghost use Rattle.bridge_server.specs.Told.{TellsCounts};
 
+use crate::lane_counts::LanesShown;
 use crate::stats_rows::StatsRows;
-use bridge_stats::{BridgeStats, LaneRow, Limited, Seats};
+use bridge_stats::{BridgeStats, Limited, Seats};
 use std::alloc::{AllocError, Global};
 use std::sync::atomic::{AtomicBool, Ordering};
 use std::sync::{Condvar, Mutex, MutexGuard, Wait};
@@ -92,7 +93,8 @@ impl StatsDesk {
         self.asked.load(Ordering::SeqCst)
     }
 
-    /// Answers all threads that ask: what is counted at a moment, what the rate limiter left out, and the lanes.
+    /// Answers all threads that ask: what is counted at a moment, what the rate limiter left out, and the lanes
+    /// with their streams.
     // A thread that asks from here on is answered in the next round, too.
     pub(crate) fn answer<R: Wait>(
         &self,
@@ -100,7 +102,7 @@ impl StatsDesk {
         now: u64,
         stats: &BridgeStats,
         limited: Limited,
-        lanes: &[LaneRow],
+        lanes: &LanesShown,
     ) {
         self.asked.store(false, Ordering::SeqCst);
         let mut answer = self.answer.lock(rt);

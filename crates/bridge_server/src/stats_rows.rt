@@ -5,20 +5,16 @@ ghost use Rattle.bridge_stats.specs.Stats.{StatsOf};
 ghost use Rattle.bridge_stats.specs.Shown.{IsShown};
 ghost use Rattle.bridge_server.specs.Told.{TellsCounts};
 
-use bridge_stats::{
-    BridgeStats, LaneRow, Limited, OthersShown, Seats, StatsShown, StreamRow, print_stats,
-};
+use crate::lane_counts::LanesShown;
+use bridge_stats::{BridgeStats, Limited, OthersShown, Seats, StatsShown, print_stats};
 use std::alloc::{AllocError, Global};
 use std::marker::Model;
-
-/// How many lanes there are at most.
-const MOST_LANES: usize = 16;
 
 /// Rows of what a bridge counts, or of no use.
 #[derive(Drop)]
 struct RowsKept {
     counted: StatsShown,
-    lanes: Vec<LaneRow>,
+    lanes: LanesShown,
     limited: Limited,
 }
 
@@ -27,7 +23,7 @@ impl RowsKept {
     fn new(alloc: Global) -> Result<Self, AllocError> {
         Ok(Self {
             counted: StatsShown::new(alloc)?,
-            lanes: Vec::with_capacity(alloc, MOST_LANES)?,
+            lanes: LanesShown::new(alloc)?,
             limited: Limited {
                 nacks: 0,
                 blocks: 0,
@@ -36,24 +32,18 @@ impl RowsKept {
         })
     }
 
-    /// Writes the lanes, and what the rate limiter left out.
-    fn write_others(&mut self, limited: Limited, lanes: &[LaneRow]) -> Result<(), AllocError> {
-        self.limited = limited;
-        self.lanes.clear();
-        self.lanes.extend_from_slice(lanes)
-    }
-
-    /// Writes what is counted at a moment, what the rate limiter left out, and the lanes.
+    /// Writes what is counted at a moment, what the rate limiter left out, and the lanes with their streams.
     fn write(
         &mut self,
         now: u64,
         stats: &BridgeStats,
         limited: Limited,
-        lanes: &[LaneRow],
+        lanes: &LanesShown,
     ) -> Result<(), AllocError>
         ensures { OnOk result (IsShown now stats.now self.new.counted) }
     {
-        self.write_others(limited, lanes)?;
+        self.limited = limited;
+        self.lanes.copy(lanes)?;
         stats.show(now, &mut self.counted)
     }
 
@@ -62,7 +52,8 @@ impl RowsKept {
         ensures { OnOk result ((now : ℕ) (stats : StatsOf)
             → IsShown now stats others.now.counted → IsShown now stats self.new.counted) }
     {
-        self.write_others(others.limited, &others.lanes)?;
+        self.limited = others.limited;
+        self.lanes.copy(&others.lanes)?;
         self.counted.show_again(&others.counted)
     }
 
@@ -70,10 +61,10 @@ impl RowsKept {
     fn others(&self, seats: Seats) -> OthersShown<'_>
         ensures { result.seats ≡ seats }
     {
-        let streams: &[StreamRow] = &[];
         OthersShown {
-            streams,
-            lanes: &self.lanes,
+            streams: &self.lanes.streams,
+            left_out_streams: self.lanes.left_out_streams,
+            lanes: &self.lanes.lanes,
             limited: self.limited,
             seats,
         }
@@ -124,13 +115,13 @@ impl StatsRows {
         })
     }
 
-    /// Shows what is counted at a moment, what the rate limiter left out, and the lanes.
+    /// Shows what is counted at a moment, what the rate limiter left out, and the lanes with their streams.
     pub(crate) fn show(
         &mut self,
         now: u64,
         stats: &BridgeStats,
         limited: Limited,
-        lanes: &[LaneRow],
+        lanes: &LanesShown,
     ) {
         self.is_whole = false;
         match self.kept.write(now, stats, limited, lanes) {

@@ -9,6 +9,7 @@ use Rattle.bridge_stats.specs.declared.stranger.StrangerNumbers.{StrangerNumbers
 use Rattle.bridge_stats.specs.declared.rows.KindRow.{KindRow}
 use Rattle.bridge_stats.specs.declared.rows.SourceRow.{SourceRow}
 use Rattle.bridge_stats.specs.declared.rows.StrangerRow.{StrangerRow}
+use Rattle.bridge_stats.specs.declared.others.StreamReport.{StreamReport}
 use Rattle.bridge_stats.specs.declared.others.StreamRow.{StreamRow}
 use Rattle.bridge_stats.specs.declared.others.LaneRow.{LaneRow}
 use Rattle.bridge_stats.specs.declared.others.Limited.{Limited}
@@ -64,22 +65,46 @@ stranger_line row =
     (place (sender_address row.sender) ∷ number row.sender.ssrc ∷ words (codes "type") ∷ number row.numbers.pt
     ∷ words (codes "packets") ∷ number row.numbers.packets ∷ [])
 
--- how many datagrams of sources and of others were left out since memory was refused
-abbrev pub left_out_line : (sources strangers : ℕ) → List ℕ
-left_out_line sources strangers =
+-- how much was not counted since memory was refused: datagrams of sources, those of strangers, and of streams packets
+-- that were sent and reports
+abbrev pub left_out_line : (sources strangers streams : ℕ) → List ℕ
+left_out_line sources strangers streams =
     line_text (codes "left-out")
-    (words (codes "sources") ∷ number sources ∷ words (codes "strangers") ∷ number strangers ∷ [])
+    (words (codes "sources") ∷ number sources ∷ words (codes "strangers") ∷ number strangers
+    ∷ words (codes "streams") ∷ number streams ∷ [])
+
+-- what stands where there is no word
+abbrev pub no_word : LinePart
+no_word = words (codes "-")
 
 -- the parts of a source's packet: its SSRC and its extended number, or marks that there is none
 abbrev pub highest_parts : Option (ℕ × ℤ) → List LinePart
-highest_parts None = words (codes "-") ∷ words (codes "-") ∷ []
+highest_parts None = no_word ∷ no_word ∷ []
 highest_parts (Some packet) = number packet.0 ∷ signed packet.1 ∷ []
 
+-- the fraction lost by the last report, if there was one
+abbrev pub fraction_part : Option StreamReport → LinePart
+fraction_part None = no_word
+fraction_part (Some report) = number report.fraction
+
+-- the packets lost in all by the last report, if there was one
+abbrev pub lost_part : Option StreamReport → LinePart
+lost_part None = no_word
+lost_part (Some report) = signed report.lost
+
+-- the source's packet of the last report, if there was one and it has one
+abbrev pub highest_of : Option StreamReport → Option (ℕ × ℤ)
+highest_of None = None
+highest_of (Some report) = report.source
+
+-- an outgoing stream: what its receiver reported last, and what was sent of it
 abbrev pub stream_line : StreamRow → List ℕ
 stream_line row =
     line_text (codes "stream")
-    (number row.out_ssrc ∷ words (codes "fraction") ∷ number row.fraction ∷ words (codes "lost") ∷ signed row.lost
-    ∷ words (codes "highest") ∷ highest_parts row.source)
+    (number row.out_ssrc ∷ words (codes "fraction") ∷ fraction_part row.report
+    ∷ words (codes "lost") ∷ lost_part row.report
+    ∷ words (codes "highest") ∷ (highest_parts (highest_of row.report) ++ words (codes "packets") ∷ number row.packets
+    ∷ words (codes "octets") ∷ number row.octets ∷ words (codes "resent") ∷ number row.resent ∷ []))
 
 abbrev pub lane_line : LaneRow → List ℕ
 lane_line row =
@@ -89,7 +114,7 @@ lane_line row =
     ∷ words (codes "waited") ∷ number row.waited ∷ words (codes "not-ready") ∷ number row.not_ready
     ∷ words (codes "denied") ∷ number row.denied ∷ words (codes "refused") ∷ number row.refused
     ∷ words (codes "unreachable") ∷ number row.unreachable ∷ words (codes "too-long") ∷ number row.too_long
-    ∷ words (codes "other") ∷ number row.other ∷ [])
+    ∷ words (codes "other") ∷ number row.other ∷ words (codes "waiting") ∷ number row.waiting ∷ [])
 
 abbrev pub limited_line : Limited → List ℕ
 limited_line limited =
@@ -108,12 +133,16 @@ others_text others =
     flat_map stream_line others.streams.now ++ (flat_map lane_line others.lanes.now
     ++ (limited_line others.limited ++ (seats_line others.seats ++ codes "end\n")))
 
+-- what was left out
+abbrev pub left_out_text : StatsShown → OthersShown → List ℕ
+left_out_text shown others = left_out_line shown.left_out_sources shown.left_out_strangers others.left_out_streams
+
 -- all that is counted: the outcomes, sources, senders that are no source, what was left out, and what others count
 abbrev pub stats_text : StatsShown → OthersShown → List ℕ
 stats_text shown others =
     flat_map kind_line shown.kinds.items ++ (flat_map source_line shown.sources.items
     ++ (flat_map stranger_line shown.strangers.items
-    ++ (left_out_line shown.left_out_sources shown.left_out_strangers ++ others_text others)))
+    ++ (left_out_text shown others ++ others_text others)))
 
 -- This is shown at a moment of what was counted.
 pub record IsShown (now : ℕ) (stats : StatsOf) (shown : StatsShown) : Type 0 where

@@ -36,7 +36,7 @@ mod tally;
 pub use self::kind::OutcomeKind;
 pub use self::laws::all_are_counted;
 pub use self::numbers::SourceNumbers;
-pub use self::others::{LaneRow, Limited, OthersShown, Seats, StreamRow};
+pub use self::others::{LaneRow, Limited, OthersShown, Seats, StreamReport, StreamRow};
 pub use self::rows::{KindRow, SourceRow, StrangerRow};
 pub use self::sender::Sender;
 pub use self::shown::{StatsShown, print_stats};

@@ -1,18 +1,17 @@
 //! What others count.
 
-ghost use Rattle.std.specs.Prelude.{◌≡◌};
-ghost use Rattle.bridge_stats.specs.Shown.{stream_line, lane_line};
+ghost use Rattle.std.specs.Prelude.{◌≡◌, ◌∷◌, map};
+ghost use Rattle.bridge_stats.specs.Shown.{fraction_part, lost_part, highest_of, highest_parts, stream_line, lane_line};
+ghost use Rattle.bridge_stats.specs.inner.Said.{said};
 ghost use Rattle.bridge_stats.specs.inner.Growing.{buffer_of, Grows};
 
 use crate::appending::{LineField, append_line};
 use crate::lines::StatLine;
 use std::alloc::{AllocError, Allocator};
 
-/// What the receiver of an outgoing stream reported last.
+/// What the receiver of an outgoing stream reported.
 #[derive(Clone, Copy)]
-pub struct StreamRow {
-    /// The SSRC of the stream.
-    pub out_ssrc: u32,
+pub struct StreamReport {
     /// The fraction of packets lost, in 256ths.
     pub fraction: u8,
     /// The packets lost in all. Duplicates make it negative.
@@ -21,7 +20,22 @@ pub struct StreamRow {
     pub source: Option<(u32, i64)>,
 }
 
-/// What a lane did. Each number counts since the start.
+/// What was sent of an outgoing stream. Each number counts since the start.
+#[derive(Clone, Copy)]
+pub struct StreamRow {
+    /// The SSRC of the stream.
+    pub out_ssrc: u32,
+    /// What its receiver reported last.
+    pub report: Option<StreamReport>,
+    /// How many of its packets the system took, those that were sent again among them.
+    pub packets: u64,
+    /// How many octets these had.
+    pub octets: u64,
+    /// How many of these packets were sent again.
+    pub resent: u64,
+}
+
+/// What a lane did. Each number but `waiting` counts since the start.
 #[derive(Clone, Copy)]
 pub struct LaneRow {
     /// The lane, from 0 on.
@@ -48,6 +62,8 @@ pub struct LaneRow {
     pub too_long: u64,
     /// How many failed for another reason.
     pub other: u64,
+    /// How many items wait for it.
+    pub waiting: u64,
 }
 
 /// What the rate limiter left out since the start.
@@ -73,8 +89,10 @@ pub struct Seats {
 /// What others count, to be shown with what the datagrams are counted as.
 #[derive(Clone, Copy)]
 pub struct OthersShown<'a> {
-    /// The streams whose receivers reported.
+    /// The outgoing streams.
     pub streams: &'a [StreamRow],
+    /// How many packets and reports were not counted for their streams since memory was refused.
+    pub left_out_streams: u64,
     /// The lanes, in their order.
     pub lanes: &'a [LaneRow],
     /// What the rate limiter left out.
@@ -83,23 +101,62 @@ pub struct OthersShown<'a> {
     pub seats: Seats,
 }
 
+/// What stands where there is no word.
+const NO_WORD: &[u8] = b"-";
+
+/// The words of a source's packet, or marks that there is none.
+fn highest_fields<'a>(source: Option<(u32, i64)>) -> [LineField<'a>; 2]
+    ensures { map said result ≡ highest_parts source }
+{
+    match source {
+        None => [LineField::Words(NO_WORD), LineField::Words(NO_WORD)],
+        Some((ssrc, ext)) => [LineField::Number(u64::from(ssrc)), LineField::Signed(ext)],
+    }
+}
+
+/// The words of a report, or marks that there is none.
+fn report_fields<'a>(report: Option<StreamReport>) -> [LineField<'a>; 4]
+    ensures { map said result ≡ fraction_part report ∷ lost_part report ∷ highest_parts (highest_of report) }
+{
+    match report {
+        None => {
+            let [ssrc, ext] = highest_fields(None);
+            [
+                LineField::Words(NO_WORD),
+                LineField::Words(NO_WORD),
+                ssrc,
+                ext,
+            ]
+        }
+        Some(report) => {
+            let fraction = LineField::Number(u64::from(report.fraction));
+            let lost = LineField::Signed(i64::from(report.lost));
+            let [ssrc, ext] = highest_fields(report.source);
+            [fraction, lost, ssrc, ext]
+        }
+    }
+}
+
 impl StatLine for StreamRow {
     ghost line = { stream_line };
 
     fn append<A: Allocator>(&self, out: &mut Vec<u8, A>) -> Result<(), AllocError> {
-        let (ssrc, ext) = match self.source {
-            None => (LineField::Words(b"-"), LineField::Words(b"-")),
-            Some((ssrc, ext)) => (LineField::Number(u64::from(ssrc)), LineField::Signed(ext)),
-        };
+        let [fraction, lost, ssrc, ext] = report_fields(self.report);
         let fields = [
             LineField::Number(u64::from(self.out_ssrc)),
             LineField::Words(b"fraction"),
-            LineField::Number(u64::from(self.fraction)),
+            fraction,
             LineField::Words(b"lost"),
-            LineField::Signed(i64::from(self.lost)),
+            lost,
             LineField::Words(b"highest"),
             ssrc,
             ext,
+            LineField::Words(b"packets"),
+            LineField::Number(self.packets),
+            LineField::Words(b"octets"),
+            LineField::Number(self.octets),
+            LineField::Words(b"resent"),
+            LineField::Number(self.resent),
         ];
         append_line(b"stream", &fields, out)
     }
@@ -133,6 +190,8 @@ impl StatLine for LaneRow {
             LineField::Number(self.too_long),
             LineField::Words(b"other"),
             LineField::Number(self.other),
+            LineField::Words(b"waiting"),
+            LineField::Number(self.waiting),
         ];
         append_line(b"lane", &fields, out)
     }

@@ -3,7 +3,7 @@
 ghost use Rattle.std.specs.Prelude.{◌≡◌, ◌+◌, ◌<◌, ◌++◌, [], codes, length, IfOk, OnOk, OnErr, vec_len, vec_capacity};
 ghost use Rattle.std.specs.List.{flat_map};
 ghost use Rattle.bridge_stats.specs.Shown.{kind_line, source_line, stranger_line, left_out_line, stream_line};
-ghost use Rattle.bridge_stats.specs.Shown.{lane_line, limited_line, seats_line, others_text, stats_text};
+ghost use Rattle.bridge_stats.specs.Shown.{lane_line, limited_line, seats_line, left_out_text, others_text, stats_text};
 ghost use Rattle.bridge_stats.specs.inner.Growing.{buffer_of, Grows};
 
 use crate::appending::{LineField, append, append_line};
@@ -54,15 +54,18 @@ impl StatsShown {
 fn append_left_out<A: Allocator>(
     sources: u64,
     strangers: u64,
+    streams: u64,
     out: &mut Vec<u8, A>,
 ) -> Result<(), AllocError>
-    ensures { Grows (buffer_of out.old) (buffer_of out.new) (left_out_line sources strangers) result }
+    ensures { Grows (buffer_of out.old) (buffer_of out.new) (left_out_line sources strangers streams) result }
 {
     let fields = [
         LineField::Words(b"sources"),
         LineField::Number(sources),
         LineField::Words(b"strangers"),
         LineField::Number(strangers),
+        LineField::Words(b"streams"),
+        LineField::Number(streams),
     ];
     append_line(b"left-out", &fields, out)
 }
@@ -145,9 +148,15 @@ fn append_behind_strangers<A: Allocator>(
     out: &mut Vec<u8, A>,
 ) -> Result<(), AllocError>
     ensures { Grows (buffer_of out.old) (buffer_of out.new)
-        (left_out_line shown.now.left_out_sources shown.now.left_out_strangers ++ others_text others.now) result }
+        (left_out_text shown.now others.now ++ others_text others.now) result }
 {
-    append_left_out(shown.left_out_sources, shown.left_out_strangers, out)?;
+    let streams = others.left_out_streams;
+    append_left_out(
+        shown.left_out_sources,
+        shown.left_out_strangers,
+        streams,
+        out,
+    )?;
     append_others(others, out)
 }
 
@@ -159,7 +168,7 @@ fn append_behind_sources<A: Allocator>(
 ) -> Result<(), AllocError>
     ensures { Grows (buffer_of out.old) (buffer_of out.new)
         (flat_map stranger_line shown.now.strangers.items
-        ++ (left_out_line shown.now.left_out_sources shown.now.left_out_strangers ++ others_text others.now)) result }
+        ++ (left_out_text shown.now others.now ++ others_text others.now)) result }
 {
     append_lines(&shown.strangers, out)?;
     append_behind_strangers(shown, others, out)
@@ -174,7 +183,7 @@ fn append_behind_kinds<A: Allocator>(
     ensures { Grows (buffer_of out.old) (buffer_of out.new)
         (flat_map source_line shown.now.sources.items
         ++ (flat_map stranger_line shown.now.strangers.items
-        ++ (left_out_line shown.now.left_out_sources shown.now.left_out_strangers ++ others_text others.now))) result }
+        ++ (left_out_text shown.now others.now ++ others_text others.now))) result }
 {
     append_lines(&shown.sources, out)?;
     append_behind_sources(shown, others, out)

@@ -3,7 +3,8 @@
 While nobody is there the bridge sleeps. Then two members send PCMU tones, and one of them video, which is lost in part.
 An operator mutes a source, unsubscribes a slot and undoes both. The checks: each stream's numbers have no gap; each
 member hears the other's tone and not its own; a NACK is answered; lost packets are asked for; a PLI is passed on;
-reports come. The bridge's socket of the operator waits for no acknowledgement before it sends an answer's end.
+reports come. `stats` counts of each stream what its member got, and has what it reported. The bridge's socket of the
+operator waits for no acknowledgement before it sends an answer's end.
 """
 
 import ctypes
@@ -267,6 +268,47 @@ def check_video(call):
     return len(shown)
 
 
+# How long nothing comes from members until nothing is sent to them, in seconds: jitter buffers hold less.
+QUIET = 0.7
+
+
+def words_of(line):
+    """The numbers of a line of `stats`, by the words before them, and its second word."""
+    words = line.split()
+    return {"of": words[1], **dict(zip(words[2::2], words[3::2]))}
+
+
+def counted(call, kind):
+    """The lines of `stats` of a kind, by their second words."""
+    lines = [line for line in call.desk.shown("stats") if line.split()[0] == kind]
+    return {line.split()[1]: words_of(line) for line in lines}
+
+
+def check_counts(call):
+    """Once nothing is sent any more, `stats` counts what each member got of its streams."""
+    last = call.stream(202, 501)[-1]
+    # The block: a quarter was lost, two packets in all, and this is the highest number.
+    highest = seq_of(last).to_bytes(4, "big")
+    call.send(202, bytes.fromhex("81c9000700000009000001f540000002") + highest + bytes(12))
+    time.sleep(QUIET)
+    for ssrc, one in call.members.items():
+        drain(one, call.got[ssrc])
+    streams = counted(call, "stream")
+    check(set(streams) == {"501", "9001", "9002"}, f"`stats` has the streams {sorted(streams)}")
+    for member, ssrc in (202, 501), (201, 9001), (202, 9002):
+        got, has = call.stream(member, ssrc), streams[str(ssrc)]
+        again = len(got) - len({seq_of(packet) for packet in got})
+        same = (len(got), sum(map(len, got)), again)
+        said = tuple(int(has[word]) for word in ("packets", "octets", "resent"))
+        check(said == same, f"of stream {ssrc} came {same} packets, octets and packets again; `stats` has {said}")
+    reported = [streams["501"][word] for word in ("fraction", "lost")]
+    check(reported == ["64", "2"], f"`stats` has another report on stream 501: {streams['501']}")
+    lanes = counted(call, "lane")
+    check({lane["waiting"] for lane in lanes.values()} == {"0"}, f"items wait for a lane: {lanes}")
+    sent = sum(int(has["packets"]) for has in streams.values())
+    check(sent < int(lanes["0"]["packets"]), f"lane 0 sent fewer packets than its streams: {lanes['0']}, {sent}")
+
+
 def hold(call):
     use_desk(call)
     check_mixes(call)
@@ -274,6 +316,7 @@ def hold(call):
     call.talk_until(lambda: call.control(202, 200), "no sender report comes")
     # One without a block stands before what is asked for.
     call.talk_until(lambda: any(packet[0] > 0x80 for packet in call.control(201, 201)), "no receiver report comes")
+    check_counts(call)
     mixes = len(call.stream(201, 9001)) + len(call.stream(202, 9002))
     print(f"a call of {call.seq * 0.02:.1f} s: {mixes} mixes, {shown} video packets, no fault")
 

@@ -1,0 +1,197 @@
+//! What each lane did so far, and what was sent of each outgoing stream.
+
+ghost use Rattle.std.specs.Prelude.{◌≡◌, IfOk, vec_len};
+ghost use Rattle.bridge_server.specs.Told.{lane_row, report_row, stream_row};
+
+use crate::rounds::ServerMedia;
+use crate::sinks::counts_for;
+use bridge_core::LossNote;
+use bridge_stats::{BridgeStats, LaneRow, StreamReport, StreamRow};
+use lane_wire::{SendCounts, SharedCounts, StreamNumbers};
+use operator_desk::DeskBrand;
+use std::alloc::{AllocError, Global};
+use std::sync::{Arc, Wait};
+use std::time::Clock;
+
+/// How many lanes there are at most.
+const MOST_LANES: usize = 16;
+
+/// Of how many streams there are rows at most: as many as a desk has slots and mixes.
+const MOST_STREAMS: usize = 5_120;
+
+/// What is shown of lanes and streams.
+#[derive(Drop)]
+pub(crate) struct LanesShown {
+    pub(crate) lanes: Vec<LaneRow>,
+    pub(crate) streams: Vec<StreamRow>,
+    /// How many packets and reports were not counted for their streams since memory was refused.
+    pub(crate) left_out_streams: u64,
+}
+
+impl LanesShown {
+    /// Nothing is shown. There is memory for the most rows. The only error is out of memory.
+    pub(crate) fn new(alloc: Global) -> Result<Self, AllocError> {
+        Ok(Self {
+            lanes: Vec::with_capacity(alloc, MOST_LANES)?,
+            streams: Vec::with_capacity(alloc, MOST_STREAMS)?,
+            left_out_streams: 0,
+        })
+    }
+
+    /// Shows the same. The only error is out of memory.
+    pub(crate) fn copy(&mut self, others: &LanesShown) -> Result<(), AllocError> {
+        self.left_out_streams = others.left_out_streams;
+        self.lanes.clear();
+        self.lanes.extend_from_slice(&others.lanes)?;
+        self.streams.clear();
+        self.streams.extend_from_slice(&others.streams)
+    }
+}
+
+/// What each lane has sent so far, and what not, with memory to show it.
+#[derive(Drop)]
+pub(crate) struct LaneCounts {
+    pub(crate) counts: Vec<Arc<SharedCounts, Global>>,
+    /// The streams of a lane, as they were copied last.
+    copied: Vec<(u32, StreamNumbers)>,
+    /// What was shown last.
+    pub(crate) shown: LanesShown,
+}
+
+/// Counts of so many lanes, and of the datagrams that come: nothing was counted. The only error is out of memory.
+pub(crate) fn fresh_counts(
+    alloc: Global,
+    lanes: usize,
+) -> Result<(LaneCounts, BridgeStats), AllocError>
+    ensures { IfOk result (λ r. vec_len r.0.counts ≡ lanes) }
+{
+    let counts = counts_for(alloc, lanes)?;
+    let copied = Vec::with_capacity(alloc, MOST_STREAMS)?;
+    let shown = LanesShown::new(alloc)?;
+    let stats = BridgeStats::new(alloc)?;
+    Ok((
+        LaneCounts {
+            counts,
+            copied,
+            shown,
+        },
+        stats,
+    ))
+}
+
+/// What a lane did.
+fn lane_row(lane: u32, items: u64, dropped: u64, waiting: u64, sent: &SendCounts) -> LaneRow
+    ensures { result ≡ lane_row lane items dropped waiting sent.now }
+{
+    LaneRow {
+        lane,
+        items,
+        dropped,
+        packets: sent.packets,
+        octets: sent.octets,
+        waited: sent.waited,
+        not_ready: sent.not_ready,
+        denied: sent.denied,
+        refused: sent.refused,
+        unreachable: sent.unreachable,
+        too_long: sent.too_long,
+        other: sent.other,
+        waiting,
+    }
+}
+
+/// Shows what each lane did so far, by what each has sent.
+pub(crate) fn show_lanes<H: DeskBrand, R: Wait + Clock + Drop>(
+    media: &mut ServerMedia<H, R>,
+    lanes: &mut LaneCounts,
+)
+    ensures media { media.new ≡ media.old }
+{
+    let rows = &mut lanes.shown.lanes;
+    rows.clear();
+    for lane in 0..media.lanes() {
+        if let Some(sent) = lanes.counts.get(lane as usize) {
+            let items = media.given(lane);
+            let waiting = media.waiting(lane) as u64;
+            let row = lane_row(lane, items, media.dropped(lane), waiting, &sent.read());
+            // There is capacity for the most lanes.
+            let _ = rows.push(row);
+        }
+    }
+}
+
+/// What a receiver's report says.
+fn report_row(note: &LossNote) -> StreamReport
+    ensures { result ≡ report_row note.now }
+{
+    StreamReport {
+        fraction: note.fraction,
+        lost: note.lost,
+        source: note.source,
+    }
+}
+
+/// What was sent of a stream, and what its receiver reported last.
+fn stream_row(ssrc: u32, numbers: &StreamNumbers) -> StreamRow
+    ensures { result ≡ stream_row ssrc numbers.now }
+{
+    StreamRow {
+        out_ssrc: ssrc,
+        report: numbers.report.map(|note| report_row(&note)),
+        packets: numbers.packets,
+        octets: numbers.octets,
+        resent: numbers.resent,
+    }
+}
+
+/// How many rows lanes have, if each may have so many.
+fn rows_within<R: Wait>(rt: &R, counts: &[Arc<SharedCounts, Global>], share: usize) -> usize {
+    let mut rows = 0;
+    for lane in counts {
+        let (streams, _) = lane.streams(rt);
+        rows = streams.min(share).saturating_add(rows);
+    }
+    rows
+}
+
+/// Shows what was sent of each stream, lane by lane, in each the one of the latest packet or report first. Where the
+/// lanes keep more than 5,120 streams together, each lane has an equal share of the rows, and what others leave of
+/// theirs.
+pub(crate) fn show_streams<R: Wait>(rt: &R, lanes: &mut LaneCounts) {
+    let LaneCounts {
+        counts,
+        copied,
+        shown,
+    } = lanes;
+    shown.streams.clear();
+    shown.left_out_streams = 0;
+    let share = MOST_STREAMS / counts.len().max(1);
+    let mut kept = rows_within(rt, counts, share);
+    for lane in &*counts {
+        let (streams, left_out) = lane.streams(rt);
+        shown.left_out_streams = shown.left_out_streams.saturating_add(left_out);
+        // What is left of this lane's share is for the others.
+        kept = kept.saturating_sub(streams.min(share));
+        let most = MOST_STREAMS
+            .saturating_sub(shown.streams.len())
+            .saturating_sub(kept);
+        show_lane(rt, lane, most, copied, &mut shown.streams);
+    }
+}
+
+/// Shows what was sent of so many of a lane's streams at most.
+fn show_lane<R: Wait>(
+    rt: &R,
+    lane: &SharedCounts,
+    most: usize,
+    copied: &mut Vec<(u32, StreamNumbers)>,
+    rows: &mut Vec<StreamRow>,
+) {
+    // There is capacity for the most streams.
+    if lane.copy_streams(rt, most, copied).is_err() {
+        return;
+    }
+    for (ssrc, numbers) in &*copied {
+        let _ = rows.push(stream_row(*ssrc, numbers));
+    }
+}
