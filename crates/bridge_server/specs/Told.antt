@@ -2,6 +2,7 @@
 use Rattle.std.specs.Prelude.{◌≡◌, ℕ, List}
 use Rattle.std.specs.Option.{option_map}
 use Rattle.feedback.specs.declared.noting.LossNote.{LossNote}
+use Rattle.intake.specs.inner.Holding.{IntakeOf}
 use Rattle.lane_wire.specs.declared.counts.SendCounts.{SendCounts}
 use Rattle.lane_wire.specs.declared.stream_numbers.StreamNumbers.{StreamNumbers}
 use Rattle.bridge_stats.specs.declared.others.LaneRow.{LaneRow}
@@ -13,9 +14,9 @@ use Rattle.bridge_stats.specs.declared.shown.StatsShown.{StatsShown}
 use Rattle.bridge_stats.specs.Stats.{StatsOf}
 use Rattle.bridge_stats.specs.Shown.{IsShown, stats_text}
 
--- These rows show what was counted at a moment.
+-- These rows show what was counted at a moment, and how an intake received the sources.
 abbrev pub ShowsCounts : StatsShown → Type 0
-ShowsCounts shown = (now : ℕ) × (stats : StatsOf) × IsShown now stats shown
+ShowsCounts shown = (now : ℕ) × (intake : IntakeOf) × (stats : StatsOf) × IsShown now intake stats shown
 
 -- The octets are the lines of rows that show what was counted at a moment, of what others counted, and of these seats.
 pub record TellsCounts (in_use : Seats) (text : List ℕ) : Type 0 where

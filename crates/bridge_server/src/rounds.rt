@@ -7,6 +7,7 @@ use crate::setup::Setup;
 use crate::sinks::LaneSocket;
 use crate::sockets::{FrontSocket, UdpInlet};
 use crate::stats_desk::StatsDesk;
+use crate::stats_rows::FrontCounts;
 use crate::telling::Teller;
 use crate::watching::SystemWatch;
 use event_lines::{Cause, Event, LaneDrops};
@@ -100,8 +101,14 @@ impl<
         show_lanes(&mut self.rounds.media, lanes);
         show_streams(rt, lanes);
         let rounds = &self.rounds;
-        let limited = rounds.media.limited();
-        desk.answer(rt, rounds.ticked, &rounds.stats, limited, &self.lanes.shown);
+        let counts = FrontCounts {
+            moment: rounds.ticked,
+            stats: &rounds.stats,
+            intake: rounds.media.intake(),
+            limited: rounds.media.limited(),
+            lanes: &self.lanes.shown,
+        };
+        desk.answer(rt, &counts);
     }
 
     /// What failed last at its sockets and its clock.

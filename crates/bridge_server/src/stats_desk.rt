@@ -3,9 +3,8 @@
 ghost use Rattle.std.specs.Prelude.{◌≡◌, ◌++◌, ℕ, List, OnOk, OnErr};
 ghost use Rattle.bridge_server.specs.Told.{TellsCounts};
 
-use crate::lane_counts::LanesShown;
-use crate::stats_rows::StatsRows;
-use bridge_stats::{BridgeStats, Limited, Seats};
+use crate::stats_rows::{FrontCounts, StatsRows};
+use bridge_stats::Seats;
 use std::alloc::{AllocError, Global};
 use std::sync::atomic::{AtomicBool, Ordering};
 use std::sync::{Condvar, Mutex, MutexGuard, Wait};
@@ -93,20 +92,12 @@ impl StatsDesk {
         self.asked.load(Ordering::SeqCst)
     }
 
-    /// Answers all threads that ask: what is counted at a moment, what the rate limiter left out, and the lanes
-    /// with their streams.
+    /// Answers all threads that ask: what the front counted.
     // A thread that asks from here on is answered in the next round, too.
-    pub(crate) fn answer<R: Wait>(
-        &self,
-        rt: &R,
-        now: u64,
-        stats: &BridgeStats,
-        limited: Limited,
-        lanes: &LanesShown,
-    ) {
+    pub(crate) fn answer<R: Wait>(&self, rt: &R, counts: &FrontCounts<'_>) {
         self.asked.store(false, Ordering::SeqCst);
         let mut answer = self.answer.lock(rt);
-        answer.rows.show(now, stats, limited, lanes);
+        answer.rows.show(counts);
         answer.answers = answer.answers.wrapping_add(1);
         MutexGuard::unlock(answer);
         self.answered.notify_all();

@@ -1,14 +1,31 @@
 //! Rows of what a bridge counts, between the front and operators' threads.
 
 ghost use Rattle.std.specs.Prelude.{◌≡◌, ◌++◌, ℕ, List, false, OnOk, OnErr, IfOk};
+ghost use Rattle.intake.specs.inner.Holding.{IntakeOf};
 ghost use Rattle.bridge_stats.specs.Stats.{StatsOf};
 ghost use Rattle.bridge_stats.specs.Shown.{IsShown};
 ghost use Rattle.bridge_server.specs.Told.{TellsCounts};
 
 use crate::lane_counts::LanesShown;
+use bridge_core::Intake;
 use bridge_stats::{BridgeStats, Limited, OthersShown, Seats, StatsShown, print_stats};
 use std::alloc::{AllocError, Global};
 use std::marker::Model;
+
+/// What the front counted, as of a moment.
+#[derive(Clone, Copy)]
+pub(crate) struct FrontCounts<'a> {
+    /// The moment, in nanoseconds since 1970.
+    pub(crate) moment: u64,
+    /// The datagrams that it took in.
+    pub(crate) stats: &'a BridgeStats,
+    /// The receive side, which knows how sources are received.
+    pub(crate) intake: &'a Intake,
+    /// What the rate limiter left out.
+    pub(crate) limited: Limited,
+    /// The lanes with their streams.
+    pub(crate) lanes: &'a LanesShown,
+}
 
 /// Rows of what a bridge counts, or of no use.
 #[derive(Drop)]
@@ -32,25 +49,22 @@ impl RowsKept {
         })
     }
 
-    /// Writes what is counted at a moment, what the rate limiter left out, and the lanes with their streams.
-    fn write(
-        &mut self,
-        now: u64,
-        stats: &BridgeStats,
-        limited: Limited,
-        lanes: &LanesShown,
-    ) -> Result<(), AllocError>
-        ensures { OnOk result (IsShown now stats.now self.new.counted) }
+    /// Writes what the front counted.
+    fn write(&mut self, counts: &FrontCounts<'_>) -> Result<(), AllocError>
+        ensures { OnOk result
+            (IsShown counts.now.moment counts.now.intake.now counts.now.stats.now self.new.counted) }
     {
-        self.limited = limited;
-        self.lanes.copy(lanes)?;
-        stats.show(now, &mut self.counted)
+        self.limited = counts.limited;
+        self.lanes.copy(counts.lanes)?;
+        counts
+            .stats
+            .show(counts.moment, counts.intake, &mut self.counted)
     }
 
     /// Writes what others show.
     fn copy(&mut self, others: &RowsKept) -> Result<(), AllocError>
-        ensures { OnOk result ((now : ℕ) (stats : StatsOf)
-            → IsShown now stats others.now.counted → IsShown now stats self.new.counted) }
+        ensures { OnOk result ((now : ℕ) (intake : IntakeOf) (stats : StatsOf)
+            → IsShown now intake stats others.now.counted → IsShown now intake stats self.new.counted) }
     {
         self.limited = others.limited;
         self.lanes.copy(&others.lanes)?;
@@ -72,7 +86,7 @@ impl RowsKept {
 
     /// Appends their lines, with these seats. An `Err`, out of memory, appends nothing.
     fn print(&self, seats: Seats, out: &mut Vec<u8>) -> Result<(), AllocError>
-        ensures ok { (now : ℕ) (stats : StatsOf) → IsShown now stats self.now.counted
+        ensures ok { (now : ℕ) (intake : IntakeOf) (stats : StatsOf) → IsShown now intake stats self.now.counted
             → OnOk result ((text : List ℕ) × (out.new.items ≡ out.old.items ++ text) × TellsCounts seats text) }
         ensures err { OnErr result (out.new.items ≡ out.old.items) }
     {
@@ -115,16 +129,10 @@ impl StatsRows {
         })
     }
 
-    /// Shows what is counted at a moment, what the rate limiter left out, and the lanes with their streams.
-    pub(crate) fn show(
-        &mut self,
-        now: u64,
-        stats: &BridgeStats,
-        limited: Limited,
-        lanes: &LanesShown,
-    ) {
+    /// Shows what the front counted.
+    pub(crate) fn show(&mut self, counts: &FrontCounts<'_>) {
         self.is_whole = false;
-        match self.kept.write(now, stats, limited, lanes) {
+        match self.kept.write(counts) {
             Ok(()) => self.is_whole = true,
             Err(_) => {}
         }

@@ -6,7 +6,9 @@ use Rattle.std.specs.Fmt.{decimal}
 use Rattle.std.specs.List.{flat_map}
 use Rattle.std.proofs.lemmas.List.{append-nil}
 use Rattle.rtp_codec.specs.declared.address.Address.{Address}
-use Rattle.bridge_stats.specs.Text.{place_text}
+use Rattle.bridge_stats.specs.declared.appending.LineField.{LineField}
+use Rattle.bridge_stats.specs.Text.{LinePart, place_text, next_text, line_text}
+use Rattle.bridge_stats.specs.inner.Said.{said, next_said}
 use Rattle.std.specs.declared.alloc.AllocError.{AllocError}
 use Rattle.bridge_stats.specs.inner.Growing.{TextBuffer, Grows}
 
@@ -69,3 +71,22 @@ others f xs zero = refl
 others f [] (suc k) = refl
 others f (x ∷ xs) (suc k) =
     append_assoc (f x) (flat_map f (take k xs)) (flat_map f (drop k xs)) ∙ ap (λ (t : List ℕ). f x ++ t) (others f xs k)
+
+-- the texts of parts are those of what they say
+pub said_texts : (fields : List LineField) → flat_map next_said fields ≡ flat_map next_text (map said fields)
+said_texts [] = refl
+said_texts (f ∷ fs) = ap (λ (t : List ℕ). next_said f ++ t) (said_texts fs)
+
+-- the texts of these parts, and then of those
+pub texts_then : (xs ys : List LinePart) (t : List ℕ)
+    → flat_map next_text xs ++ (flat_map next_text ys ++ t) ≡ flat_map next_text (xs ++ ys) ++ t
+texts_then [] ys t = refl
+texts_then (x ∷ xs) ys t =
+    append_assoc (next_text x) (flat_map next_text xs) (flat_map next_text ys ++ t)
+    ∙ (ap (λ (s : List ℕ). next_text x ++ s) (texts_then xs ys t)
+    ∙ sym (append_assoc (next_text x) (flat_map next_text (xs ++ ys)) t))
+
+-- a line's parts may be appended one after another
+pub line_halves : (first : List ℕ) (xs ys : List LinePart)
+    → first ++ (flat_map next_text xs ++ (flat_map next_text ys ++ 10 ∷ [])) ≡ line_text first (xs ++ ys)
+line_halves first xs ys = ap (λ (t : List ℕ). first ++ t) (texts_then xs ys (10 ∷ []))

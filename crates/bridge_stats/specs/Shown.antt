@@ -1,7 +1,8 @@
 -- What is shown of what a bridge counts (own), and its lines.
-use Rattle.std.specs.Prelude.{◌≡◌, ℕ, ◌-◌, ◌/◌, List, [], ◌∷◌, ◌++◌, map, codes, Option, None, Some, ℤ}
+use Rattle.std.specs.Prelude.{◌≡◌, ℕ, ◌-◌, ◌/◌, List, [], ◌∷◌, ◌++◌, map, codes, Option, None, Some, ℤ, All}
 use Rattle.std.specs.List.{flat_map}
 use Rattle.rtp_codec.specs.declared.address.Address.{Address}
+use Rattle.intake.specs.inner.Holding.{IntakeOf}
 use Rattle.bridge_stats.specs.declared.taken.TakenIn.{TakenIn}
 use Rattle.bridge_stats.specs.declared.sender.Sender.{Sender}
 use Rattle.bridge_stats.specs.declared.kind.OutcomeKind.{OutcomeKind}
@@ -20,7 +21,8 @@ use Rattle.bridge_stats.specs.Kinds.{kind_name, all_kinds}
 use Rattle.bridge_stats.specs.Counts.{datagrams_with, octets_with}
 use Rattle.bridge_stats.specs.Sources.{numbers_of}
 use Rattle.bridge_stats.specs.Stats.{StatsOf}
-use Rattle.bridge_stats.specs.Text.{LinePart, words, number, signed, place, line_text}
+use Rattle.bridge_stats.specs.Received.{IsReceived, reception_parts}
+use Rattle.bridge_stats.specs.Text.{LinePart, words, number, signed, place, no_word, line_text}
 
 -- how many datagrams had an outcome of this kind, and their octets
 abbrev pub kind_row : List TakenIn → OutcomeKind → KindRow
@@ -32,7 +34,16 @@ source_row now entry = record {
   sender = entry.0;
   numbers = numbers_of entry.1;
   ago = (now - (numbers_of entry.1).last) / 1000000;
+  reception = None;
 }
+
+-- the row of a source without how it is received
+abbrev pub counts_in : SourceRow → SourceRow
+counts_in row = record { sender = row.sender; numbers = row.numbers; ago = row.ago; reception = None }
+
+-- The row tells how the intake receives its source.
+abbrev pub TellsReception : IntakeOf → SourceRow → Type 0
+TellsReception intake row = IsReceived intake row.sender row.reception
 
 abbrev pub stranger_row : Sender × StrangerNumbers → StrangerRow
 stranger_row entry = record { sender = entry.0; numbers = entry.1 }
@@ -50,14 +61,17 @@ kind_line row =
 
 -- a source: its address and SSRC, its counts, and how many packets were lost since it was initialised: those expected
 -- less those received, none where more came
-abbrev pub source_line : SourceRow → List ℕ
-source_line row =
-    line_text (codes "source")
-    (place (sender_address row.sender) ∷ number row.sender.ssrc ∷ words (codes "packets") ∷ number row.numbers.packets
+abbrev pub count_parts : SourceRow → List LinePart
+count_parts row =
+    place (sender_address row.sender) ∷ number row.sender.ssrc ∷ words (codes "packets") ∷ number row.numbers.packets
     ∷ words (codes "octets") ∷ number row.numbers.octets ∷ words (codes "late") ∷ number row.numbers.late
     ∷ words (codes "duplicate") ∷ number row.numbers.duplicates ∷ words (codes "dropped") ∷ number row.numbers.dropped
     ∷ words (codes "expected") ∷ number row.numbers.expected ∷ words (codes "lost")
-    ∷ number (row.numbers.expected - row.numbers.received) ∷ words (codes "ago") ∷ number row.ago ∷ [])
+    ∷ number (row.numbers.expected - row.numbers.received) ∷ words (codes "ago") ∷ number row.ago ∷ []
+
+-- a source: its counts, and how it is received
+abbrev pub source_line : SourceRow → List ℕ
+source_line row = line_text (codes "source") (count_parts row ++ reception_parts row.reception)
 
 abbrev pub stranger_line : StrangerRow → List ℕ
 stranger_line row =
@@ -72,10 +86,6 @@ left_out_line sources strangers streams =
     line_text (codes "left-out")
     (words (codes "sources") ∷ number sources ∷ words (codes "strangers") ∷ number strangers
     ∷ words (codes "streams") ∷ number streams ∷ [])
-
--- what stands where there is no word
-abbrev pub no_word : LinePart
-no_word = words (codes "-")
 
 -- the parts of a source's packet: its SSRC and its extended number, or marks that there is none
 abbrev pub highest_parts : Option (ℕ × ℤ) → List LinePart
@@ -144,10 +154,11 @@ stats_text shown others =
     ++ (flat_map stranger_line shown.strangers.items
     ++ (left_out_text shown others ++ others_text others)))
 
--- This is shown at a moment of what was counted.
-pub record IsShown (now : ℕ) (stats : StatsOf) (shown : StatsShown) : Type 0 where
+-- This is shown at a moment of what was counted, and of how an intake receives the sources.
+pub record IsShown (now : ℕ) (intake : IntakeOf) (stats : StatsOf) (shown : StatsShown) : Type 0 where
   pub kinds : shown.kinds.items ≡ map (kind_row stats.taken) all_kinds
-  pub sources : shown.sources.items ≡ map (source_row now) stats.sources.entries
+  pub sources : map counts_in shown.sources.items ≡ map (source_row now) stats.sources.entries
+  pub receptions : All (TellsReception intake) shown.sources.items
   pub strangers : shown.strangers.items ≡ map stranger_row stats.strangers.entries
   pub left_out_sources : shown.left_out_sources ≡ stats.sources.left_out
   pub left_out_strangers : shown.left_out_strangers ≡ stats.strangers.left_out

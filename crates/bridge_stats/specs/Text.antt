@@ -11,6 +11,10 @@ pub data LinePart : Type 0 where
   signed : ℤ → LinePart
   place : Address → LinePart
 
+-- what stands where there is no word
+abbrev pub no_word : LinePart
+no_word = words (codes "-")
+
 -- how an address is written
 abbrev pub place_text : Address → List ℕ
 place_text a =

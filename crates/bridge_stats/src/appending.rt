@@ -22,6 +22,9 @@ pub(crate) enum LineField<'a> {
     Place(Address),
 }
 
+/// What stands where there is no word.
+pub(crate) const NO_WORD: &[u8] = b"-";
+
 /// Appends a text.
 pub(crate) fn append<A: Allocator>(text: &[u8], out: &mut Vec<u8, A>) -> Result<(), AllocError>
     ensures { Grows (buffer_of out.old) (buffer_of out.new) text.now result }
@@ -132,4 +135,42 @@ pub(crate) fn append_line<A: Allocator>(
 {
     append(first, out)?;
     append_rest(fields, out)
+}
+
+/// Appends the last parts of a line, each with a space before it, and its end.
+fn append_tail<A: Allocator>(
+    fields: &[LineField<'_>],
+    out: &mut Vec<u8, A>,
+) -> Result<(), AllocError>
+    ensures { Grows (buffer_of out.old) (buffer_of out.new)
+        (flat_map next_text (map said fields.now) ++ 10 ∷ []) result }
+{
+    append_rest(fields, out)
+}
+
+/// Appends parts of a line and its last parts, each with a space before it, and its end.
+fn append_parts<A: Allocator>(
+    fields: &[LineField<'_>],
+    last: &[LineField<'_>],
+    out: &mut Vec<u8, A>,
+) -> Result<(), AllocError>
+    ensures { Grows (buffer_of out.old) (buffer_of out.new)
+        (flat_map next_said fields.now ++ (flat_map next_text (map said last.now) ++ 10 ∷ [])) result }
+{
+    append_fields(fields, out)?;
+    append_tail(last, out)
+}
+
+/// Appends a long line: its first word, its parts and its last parts.
+pub(crate) fn append_long_line<A: Allocator>(
+    first: &[u8],
+    fields: &[LineField<'_>],
+    last: &[LineField<'_>],
+    out: &mut Vec<u8, A>,
+) -> Result<(), AllocError>
+    ensures { Grows (buffer_of out.old) (buffer_of out.new)
+        (first.now ++ (flat_map next_said fields.now ++ (flat_map next_text (map said last.now) ++ 10 ∷ []))) result }
+{
+    append(first, out)?;
+    append_parts(fields, last, out)
 }

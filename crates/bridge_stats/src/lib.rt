@@ -1,15 +1,15 @@
 //! What a bridge counts of the datagrams that it takes in, and the lines that tell it.
 //!
 //! Begin with [`BridgeStats::new`]. [`BridgeStats::note`] notes a datagram and its outcome, of which [`TakenIn::of`]
-//! makes one value. Where somebody asks, [`BridgeStats::show`] writes rows into a [`StatsShown`], and [`print_stats`]
-//! appends their lines, and those of what others count. A contract sees the list of all datagrams that were noted, the
-//! datagrams of each source that is kept, and a text as its octets.
+//! makes one value. Where somebody asks, [`BridgeStats::show`] writes rows into a [`StatsShown`], with how the intake
+//! receives the sources, and [`print_stats`] appends their lines, and those of what others count. A contract sees the
+//! list of all datagrams that were noted, the datagrams of each source that is kept, and a text as its octets.
 //!
 //! ```rust
 //! let mut stats = BridgeStats::new(alloc)?;
 //! stats.note(&TakenIn::of(from, moment, &octets, outcome)); // for each datagram
 //! let mut shown = StatsShown::new(alloc)?;
-//! stats.show(now, &mut shown)?; // now: nanoseconds since 1970
+//! stats.show(now, &intake, &mut shown)?; // now: nanoseconds since 1970
 //! print_stats(&shown, &others, &mut out)?; // datagrams 0 octets 0 dropped TooLong, and so on
 //! ```
 #![tactic(auto)]
@@ -20,6 +20,7 @@ mod laws;
 mod lines;
 mod numbers;
 mod others;
+mod received;
 mod rows;
 mod sender;
 mod showing;

@@ -5,7 +5,7 @@ ghost use Rattle.bridge_stats.specs.Shown.{fraction_part, lost_part, highest_of,
 ghost use Rattle.bridge_stats.specs.inner.Said.{said};
 ghost use Rattle.bridge_stats.specs.inner.Growing.{buffer_of, Grows};
 
-use crate::appending::{LineField, append_line};
+use crate::appending::{LineField, NO_WORD, append_line};
 use crate::lines::StatLine;
 use std::alloc::{AllocError, Allocator};
 
@@ -100,9 +100,6 @@ pub struct OthersShown<'a> {
     /// The operators' seats.
     pub seats: Seats,
 }
-
-/// What stands where there is no word.
-const NO_WORD: &[u8] = b"-";
 
 /// The words of a source's packet, or marks that there is none.
 fn highest_fields<'a>(source: Option<(u32, i64)>) -> [LineField<'a>; 2]

@@ -4,12 +4,14 @@ ghost use Rattle.std.specs.Prelude.{◌≡◌};
 ghost use Rattle.bridge_stats.specs.Shown.{sender_address, kind_line, source_line, stranger_line};
 ghost use Rattle.bridge_stats.specs.inner.Growing.{buffer_of, Grows};
 
-use crate::appending::{LineField, append_line};
+use crate::appending::{LineField, append_line, append_long_line};
 use crate::kind::OutcomeKind;
 use crate::lines::StatLine;
 use crate::numbers::SourceNumbers;
+use crate::received::reception_fields;
 use crate::sender::Sender;
 use crate::stranger::StrangerNumbers;
+use intake::Reception;
 use rtp_codec::Address;
 use std::alloc::{AllocError, Allocator};
 
@@ -33,6 +35,8 @@ pub struct SourceRow {
     pub numbers: SourceNumbers,
     /// How many whole milliseconds ago its last datagram came.
     pub ago: u64,
+    /// How the intake receives it. `None` if the intake doesn't know it.
+    pub reception: Option<Reception>,
 }
 
 /// What is counted of a sender that is no source.
@@ -45,7 +49,7 @@ pub struct StrangerRow {
 }
 
 /// Where a sender's packets come from.
-fn sender_address(sender: &Sender) -> Address
+pub(crate) fn sender_address(sender: &Sender) -> Address
     ensures { result ≡ sender_address sender.now }
 {
     Address {
@@ -73,7 +77,7 @@ impl StatLine for SourceRow {
 
     fn append<A: Allocator>(&self, out: &mut Vec<u8, A>) -> Result<(), AllocError> {
         let numbers = &self.numbers;
-        let fields = [
+        let counts = [
             LineField::Place(sender_address(&self.sender)),
             LineField::Number(u64::from(self.sender.ssrc)),
             LineField::Words(b"packets"),
@@ -93,7 +97,8 @@ impl StatLine for SourceRow {
             LineField::Words(b"ago"),
             LineField::Number(self.ago),
         ];
-        append_line(b"source", &fields, out)
+        let received = reception_fields(self.reception);
+        append_long_line(b"source", &counts, &received, out)
     }
 }
 

@@ -1,4 +1,4 @@
-//! Whether the lanes of a feed have ended, and how much waits for each.
+//! What a front tells of its parts: whether the lanes of a feed have ended, how much waits for each, the receive side.
 
 ghost use Rattle.std.specs.Prelude.{◌≡◌, ◌<◌, ◌≤◌, length};
 ghost use Rattle.media_workers.specs.Ports.{ring_places};
@@ -7,6 +7,7 @@ ghost use Rattle.media_front.specs.FedLanes.{FedLane};
 use crate::asking::{AskedLanes, any_has_ended};
 use crate::feed::LaneFeed;
 use crate::front::MediaFront;
+use bridge_core::Intake;
 use media_workers::{Pace, PublisherName, Sink};
 
 impl<N: PublisherName, P: Pace, S: Sink> AskedLanes for LaneFeed<N, P, S> {
@@ -49,6 +50,13 @@ impl<N: PublisherName, P: Pace, S: Sink> LaneFeed<N, P, S> {
 }
 
 impl<N: PublisherName, P: Pace, S: Sink> MediaFront<N, P, S> {
+    /// The receive side.
+    pub fn intake(&self) -> &Intake
+        ensures { result.now ≡ self.now.intake }
+    {
+        &self.intake
+    }
+
     /// How many parcels wait for a lane in its ring: items that it was given and has not begun. It may begin some at
     /// any time.
     pub fn waiting(&mut self, lane: u32) -> usize

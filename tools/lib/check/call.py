@@ -268,14 +268,10 @@ def check_video(call):
     return len(shown)
 
 
-# How long nothing comes from members until nothing is sent to them, in seconds: jitter buffers hold less.
-QUIET = 0.7
-
-
 def words_of(line):
-    """The numbers of a line of `stats`, by the words before them, and its second word."""
+    """The words of a line of `stats` by those before them, as in `packets 3`."""
     words = line.split()
-    return {"of": words[1], **dict(zip(words[2::2], words[3::2]))}
+    return dict(zip(words[2:], words[3:]))
 
 
 def counted(call, kind):
@@ -284,29 +280,39 @@ def counted(call, kind):
     return {line.split()[1]: words_of(line) for line in lines}
 
 
-def check_counts(call):
-    """Once nothing is sent any more, `stats` counts what each member got of its streams."""
-    last = call.stream(202, 501)[-1]
-    # The block: a quarter was lost, two packets in all, and this is the highest number.
-    highest = seq_of(last).to_bytes(4, "big")
-    call.send(202, bytes.fromhex("81c9000700000009000001f540000002") + highest + bytes(12))
-    time.sleep(QUIET)
-    for ssrc, one in call.members.items():
-        drain(one, call.got[ssrc])
-    streams = counted(call, "stream")
-    check(set(streams) == {"501", "9001", "9002"}, f"`stats` has the streams {sorted(streams)}")
+def other_counts(call, streams):
+    """What `stats` says otherwise than it is: of a stream what came to its member, or of one the report. None if all is
+    so."""
     for member, ssrc in (202, 501), (201, 9001), (202, 9002):
-        got, has = call.stream(member, ssrc), streams[str(ssrc)]
+        got, has = call.stream(member, ssrc), streams.get(str(ssrc), {})
         again = len(got) - len({seq_of(packet) for packet in got})
-        same = (len(got), sum(map(len, got)), again)
-        said = tuple(int(has[word]) for word in ("packets", "octets", "resent"))
-        check(said == same, f"of stream {ssrc} came {same} packets, octets and packets again; `stats` has {said}")
-    reported = [streams["501"][word] for word in ("fraction", "lost")]
-    check(reported == ["64", "2"], f"`stats` has another report on stream 501: {streams['501']}")
-    lanes = counted(call, "lane")
-    check({lane["waiting"] for lane in lanes.values()} == {"0"}, f"items wait for a lane: {lanes}")
+        came = {"packets": len(got), "octets": sum(map(len, got)), "resent": again}
+        said = {word: int(has.get(word, 0)) for word in came}
+        if said != came:
+            return f"of stream {ssrc} came {came}, and `stats` has {said}"
+    reported = {word: streams["501"][word] for word in ("fraction", "lost")}
+    return None if reported == {"fraction": "64", "lost": "2"} else f"`stats` has the report {reported} on stream 501"
+
+
+def check_counts(call):
+    """Once the members send nothing any more, `stats` counts what each got of its streams."""
+    # The block: a quarter was lost, two packets in all, and the last packet has the highest number.
+    highest = seq_of(call.stream(202, 501)[-1]).to_bytes(4, "big")
+    call.send(202, bytes.fromhex("81c9000700000009000001f540000002") + highest + bytes(12))
+    end, other = time.monotonic() + PATIENCE, "nothing came"
+    # What waits in the bridge is on its way for up to half a second.
+    while other:
+        check(time.monotonic() < end, other)
+        time.sleep(0.2)
+        for ssrc, one in call.members.items():
+            drain(one, call.got[ssrc])
+        streams = counted(call, "stream")
+        other = other_counts(call, streams)
+    check(set(streams) == {"501", "9001", "9002"}, f"`stats` has the streams {sorted(streams)}")
+    lane = counted(call, "lane")["0"]
+    check(lane["waiting"] == "0", f"items wait for a lane that is at rest: {lane}")
     sent = sum(int(has["packets"]) for has in streams.values())
-    check(sent < int(lanes["0"]["packets"]), f"lane 0 sent fewer packets than its streams: {lanes['0']}, {sent}")
+    check(sent < int(lane["packets"]), f"lane 0 sent {lane['packets']} packets and reports, and its streams {sent}")
 
 
 def hold(call):

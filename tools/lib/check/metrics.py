@@ -30,14 +30,17 @@ NEEDS = "a program, and Prometheus for its part; half a minute"
 COUNTED = """\
 datagrams 1042 octets 180266 accepted
 datagrams 3 octets 51 dropped rtp 3 Csrc
-source 10.0.0.1:5000 101 packets 1042 octets 180266 late 0 duplicate 1 dropped 2 expected 1043 lost 1 ago 12 since 7
-source 10.0.0.1:5000 201 packets 7 octets 1204 late 2 duplicate 0 dropped 0 expected 9 lost 2 ago 120000
+source 10.0.0.1:5000 101 packets 1042 octets 180266 late 0 duplicate 1 dropped 2 expected 1043 lost 1 ago 12 jitter 7 \
+frames 31 given-up 2 waiting 40 since 7
+source 10.0.0.1:5000 201 packets 7 octets 1204 late 2 duplicate 0 dropped 0 expected 9 lost 2 ago 120000 jitter 0 \
+frames - given-up - waiting -
 stranger 10.0.0.9:5000 777 type 100 packets 12
-left-out sources 0 strangers 5
-stream 501 fraction 64 lost 1 highest 101 8
-stream 502 fraction 0 lost -2 highest - -
-lane 0 items 5012 dropped 4 waiting 3 packets 4010 octets 520112 waited 6 not-ready 1 denied 0 refused 7 unreachable 0 \
-too-long 0 other 2
+left-out sources 0 strangers 5 streams 0
+stream 501 fraction 64 lost 1 highest 101 8 packets 20 octets 22000 resent 3
+stream 502 fraction 0 lost -2 highest - - packets 1 octets 13 resent 0
+stream 9001 fraction - lost - highest - - packets 50 octets 8600 resent 0
+lane 0 items 5012 dropped 4 packets 4010 octets 520112 waited 6 not-ready 1 denied 0 refused 7 unreachable 0 \
+too-long 0 other 2 waiting 3
 tomorrow 7 of 9
 limited nacks 4 blocks 0 plis 1
 seats 2 of 4
@@ -50,10 +53,15 @@ SAMPLES = {
     'confbridge_datagram_bytes_total{outcome="accepted"}': 180266,
     'confbridge_source_packets_total{address="10.0.0.1:5000",ssrc="201"}': 7,
     'confbridge_source_last_datagram_age_seconds{address="10.0.0.1:5000",ssrc="201"}': 120,
+    'confbridge_source_jitter_seconds{address="10.0.0.1:5000",ssrc="101"}': 0.007,
+    'confbridge_source_frames{address="10.0.0.1:5000",ssrc="101"}': 31,
     'confbridge_stranger_packets_total{address="10.0.0.9:5000",ssrc="777"}': 12,
     'confbridge_uncounted_datagrams_total{kind="strangers"}': 5,
     'confbridge_stream_lost_packets{ssrc="502"}': -2,
     'confbridge_stream_highest_sequence_number{ssrc="501"}': 8,
+    'confbridge_stream_resent_packets_total{ssrc="501"}': 3,
+    'confbridge_stream_packets_total{ssrc="9001"}': 50,
+    'confbridge_lane_waiting_items{lane="0"}': 3,
     'confbridge_lane_unsent_packets_total{lane="0",cause="refused"}': 7,
     'confbridge_limited_feedback_total{kind="nacks"}': 4,
     "confbridge_seats_used": 2,
@@ -62,7 +70,20 @@ SAMPLES = {
 STATS = [
     ("datagrams", 1, {"datagrams": 3, "octets": 51, "outcome": "dropped rtp 3 Csrc"}),
     ("strangers", 0, {"address": "10.0.0.9:5000", "ssrc": 777, "payload_type": 100, "packets": 12}),
-    ("streams", 1, {"out_ssrc": 502, "fraction": 0, "lost": -2, "highest_ssrc": None, "highest": None}),
+    (
+        "streams",
+        1,
+        {
+            "out_ssrc": 502,
+            "fraction": 0,
+            "lost": -2,
+            "highest_ssrc": None,
+            "highest": None,
+            "packets": 1,
+            "octets": 13,
+            "resent": 0,
+        },
+    ),
 ]
 # The format's lines, as https://prometheus.io/docs/instrumenting/exposition_formats has them.
 NAME = r"[a-zA-Z_:][a-zA-Z0-9_:]*"

@@ -1,0 +1,12 @@
+use Rattle.std.proofs.Common.{codes}
+use Rattle.bridge_stats.specs.Received.{reception_parts}
+use Rattle.bridge_stats.specs.Shown.{count_parts}
+use Rattle.bridge_stats.proofs.GrowLemmas.{grows_same, line_halves}
+use Rattle.bridge_stats.proofs.rows.SourceRowStatLine.append.Goals as goal
+
+pub returns : goal.returns
+returns g c =
+    let row = c.args.self.now in
+    grows_same _ _ _ _ _ (line_halves (codes "source") (count_parts row) (reception_parts row.reception))
+    (rw (c.sender_address.ensures, c.from.ensures, c.saturating_sub.ensures, c.reception_fields-received.ensures)
+    at c.append_long_line.ensures)
