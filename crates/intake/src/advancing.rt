@@ -1,7 +1,7 @@
 //! Takes a judged packet into its source.
 
 ghost use Rattle.std.specs.Prelude.{◌≡◌, ◌+◌, ◌&&◌, true, false, nat_eq, if◌then◌else◌, IfOk, OnOk, OnErr, IfSome};
-ghost use Rattle.std.specs.Prelude.{is_some, option_copied, None, map};
+ghost use Rattle.std.specs.Prelude.{is_some, None, map};
 ghost use Rattle.std.specs.List.{list_all};
 ghost use Rattle.media_items.specs.Inputs.{input_of, is_sized};
 ghost use Rattle.intake.specs.Ingested.{ingested_of, only, with_items};
@@ -15,34 +15,14 @@ ghost use Rattle.intake.specs.inner.Moves.{outcome_at, state_in, epoch_in, IsKep
 use crate::admitting::Admission;
 use crate::ingest::Ingest;
 use crate::intake::Intake;
-use crate::judging::{Judged, Mark, judge};
-use crate::kept::{Kept, NextState};
+use crate::judging::{Judged, Mark, judge_first, judge_known};
+use crate::kept::NextState;
 use crate::known::OriginKey;
 use crate::outcome::Outcome;
 use frame_gate::{Frame, Place};
 use media_items::Item;
-use source_valid::{SourceState, Verdict};
+use source_valid::Verdict;
 use std::alloc::{AllocError, Allocator};
-
-/// The state of a known source.
-fn state_in<A: Allocator + Copy>(kept: Option<&Kept<A>>) -> Option<SourceState>
-    ensures { result ≡ state_in (option_copied kept.entry) }
-{
-    match kept {
-        None => None,
-        Some(kept) => Some(kept.source),
-    }
-}
-
-/// The epoch of a known source, 0 for an unknown one.
-fn epoch_in<A: Allocator + Copy>(kept: Option<&Kept<A>>) -> u64
-    ensures { result ≡ epoch_in (option_copied kept.entry) }
-{
-    match kept {
-        None => 0,
-        Some(kept) => kept.epoch,
-    }
-}
 
 /// The outcome of an accepted packet, by its place at its source's gate.
 fn placed(ext: i64, place: Place) -> Outcome
@@ -82,8 +62,10 @@ impl<A: Allocator + Copy> Intake<A> {
         ensures judges { Judges (state_in (kept_for key.now mark.rate self.now.entries)) mark result }
         ensures epoch { result.epoch ≡ epoch_in (kept_for key.now result.rate self.now.entries) }
     {
-        let kept = self.known.at_rate(key, mark.rate);
-        judge(state_in(kept), epoch_in(kept), mark)
+        match self.known.at_rate(key, mark.rate) {
+            None => judge_first(mark),
+            Some(kept) => judge_known(kept.source, kept.epoch, mark),
+        }
     }
 
     /// Whether the packet would begin an epoch, but no number is left for it.

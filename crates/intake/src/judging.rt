@@ -104,7 +104,7 @@ fn arrived(source: SourceState, verdict: Verdict, mark: Mark) -> SourceState
 
 /// Judges a packet of a known source.
 #[inline(always)]
-fn judge_known(source: SourceState, epoch: u64, mark: Mark) -> Judged
+pub(crate) fn judge_known(source: SourceState, epoch: u64, mark: Mark) -> Judged
     ensures judges { Judges (Some source) mark result }
     ensures epoch { result.epoch ≡ epoch }
 {
@@ -120,20 +120,16 @@ fn judge_known(source: SourceState, epoch: u64, mark: Mark) -> Judged
     }
 }
 
-/// Judges a packet of a source in this epoch. An unknown source begins on probation.
-#[inline(always)]
-pub(crate) fn judge(source: Option<SourceState>, epoch: u64, mark: Mark) -> Judged
-    ensures judges { Judges source mark result }
-    ensures epoch { result.epoch ≡ epoch }
+/// Judges the first packet of a source, which begins on probation.
+pub(crate) fn judge_first(mark: Mark) -> Judged
+    ensures judges { Judges None mark result }
+    ensures epoch { result.epoch ≡ 0 }
 {
-    match source {
-        None => Judged {
-            rate: mark.rate,
-            source: SourceState::first(mark.seq),
-            verdict: Verdict::Probation,
-            begins: false,
-            epoch,
-        },
-        Some(source) => judge_known(source, epoch, mark),
+    Judged {
+        rate: mark.rate,
+        source: SourceState::first(mark.seq),
+        verdict: Verdict::Probation,
+        begins: false,
+        epoch: 0,
     }
 }
