@@ -10,7 +10,7 @@ ghost use Rattle.media_items.specs.Rates.{video_rate};
 ghost use Rattle.intake.specs.Readings.{IsOf};
 ghost use Rattle.intake.specs.Ingested.{ingested_of, IsAbout};
 ghost use Rattle.intake.specs.Media.{audio_course, video_course, mark_of};
-ghost use Rattle.intake.specs.Taking.{sourced, of_row, room_rate};
+ghost use Rattle.intake.specs.Taking.{sourced, of_row};
 ghost use Rattle.intake.specs.Intakes.{Moves, TakesIn};
 ghost use Rattle.intake.specs.inner.Comings.{coming_of};
 
@@ -21,7 +21,7 @@ use crate::judging::{Mark, units_of};
 use crate::known::key_of;
 use crate::outcome::Outcome;
 use crate::sounding::{audio_format, sounds};
-use desk_rows::{DEFAULT_RATE, Media, Rows, Source};
+use desk_rows::{DEFAULT_RATE, Media, Rows};
 use media_items::Format;
 use rtp_codec::{Address, read};
 use std::alloc::{AllocError, Allocator};
@@ -29,13 +29,6 @@ use topology::{rate_of, source_from};
 
 /// The clock rate of video in Hz (RFC 3551 section 5).
 const VIDEO_RATE: u32 = 90_000;
-
-/// The clock rate of audio in the room of a source's member, in Hz.
-fn room_rate<A: Allocator + Copy>(rows: &Rows<A>, source: &Source) -> u32
-    ensures { result ≡ room_rate rows.now source.now }
-{
-    rate_of(rows, source.member).unwrap_or(DEFAULT_RATE)
-}
 
 /// The parts of a packet that a source of this clock rate judges.
 fn mark_of(rate: u32, coming: Coming<'_>) -> Mark
@@ -120,7 +113,7 @@ impl<A: Allocator + Copy> Intake<A> {
         };
         match source.media {
             Media::Audio => {
-                let rate = room_rate(rows, &source);
+                let rate = rate_of(rows, source.member).unwrap_or(DEFAULT_RATE);
                 match audio_format(rate, view.pt, view.payload.len()) {
                     None => Ok(Ingest::only(alloc, Outcome::BadPayload)),
                     Some(format) => self.audio(alloc, format, coming),

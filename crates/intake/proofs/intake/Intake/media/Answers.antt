@@ -1,4 +1,5 @@
 use Rattle.std.proofs.Common.{◌≡◌, ◌∙◌, ap, sym, subst, length}
+use Rattle.std.specs.Prelude.{unwrap_or}
 use Rattle.intake.specs.Ingested.{ingested_of}
 use Rattle.intake.specs.Media.{Coming, audio_format}
 use Rattle.intake.specs.Taking.{of_row, of_media, of_format, room_rate}
@@ -19,7 +20,7 @@ returns-in-Some-audio_format-clause-moves g c =
     let same =
     ap (λ r. of_row voice d r coming s) there ∙ ap (λ m. of_media voice m (room_rate d row) coming s) c.in-Audio.is
     ∙ ap (λ r. of_format voice (audio_format r coming.packet.header.pt (length coming.packet.payload)) coming s)
-    (sym c.room_rate-rate.ensures)
+    (sym (c.unwrap_or-rate.ensures ∙ ap (λ o. unwrap_or o 8000) c.rate_of.ensures))
     ∙ ap (λ f. of_format voice f coming s) heard in
     subst (λ x. (ingested_of ingest ≡ x.0) × Knows c.audio.new.self x.1) (sym same) (moves voice s right asker knows))
 
