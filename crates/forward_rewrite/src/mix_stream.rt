@@ -118,11 +118,11 @@ impl MixStream {
             (λ p. GivesTick self.now p.next (sounding (sound_of format csrcs.now samples.now) moment) (p.packet ∷ [])) }
         ensures ssrc { IfOk result (λ p. p.next.ssrc ≡ self.now.ssrc) }
     {
-        self.by_counters(alloc, format, csrcs, samples, moment)
+        self.prepare_by_fields(alloc, format, csrcs, samples, moment)
     }
 
-    /// The packet of a tick that sounds, by the stream's fields.
-    fn by_counters<A: Allocator + Copy>(
+    /// [`prepare`](Self::prepare), by the stream's fields.
+    fn prepare_by_fields<A: Allocator + Copy>(
         &self,
         alloc: A,
         format: Format,
@@ -165,11 +165,11 @@ impl MixStream {
         ensures ssrc { IfOk result (λ p. p.next.ssrc ≡ self.now.ssrc) }
         ensures empty { OnOk result (block.new.items ≡ []) }
     {
-        self.cut_from(block, format, named, payload, moment)
+        self.prepare_in_by_fields(block, format, named, payload, moment)
     }
 
-    /// The packet of a tick that sounds, from its payload, by the stream's fields.
-    fn cut_from<A: Allocator + Copy>(
+    /// [`prepare_in`](Self::prepare_in), by the stream's fields.
+    fn prepare_in_by_fields<A: Allocator + Copy>(
         &self,
         block: &mut BytesMut<A>,
         format: Format,
@@ -271,11 +271,11 @@ impl MixStream {
         ensures gives { GivesTick self.old self.new (silent rate moment) [] }
         ensures ssrc { self.new.ssrc ≡ self.old.ssrc }
     {
-        self.go_on(rate, moment);
+        self.pass_by_fields(rate, moment);
     }
 
-    /// A silent tick, by the stream's fields.
-    fn go_on(&mut self, rate: u32, moment: u64)
+    /// [`pass`](Self::pass), by the stream's fields.
+    fn pass_by_fields(&mut self, rate: u32, moment: u64)
         ensures { self.new ≡ after_silence self.old rate moment }
     {
         self.spoke = false;

@@ -140,11 +140,11 @@ impl<A: Allocator + Copy> Stream<A> {
         ensures count { IfOk result (λ p. length p.packets ≡ length frame.now.frame.packets) }
         ensures whose { IfOk result (λ p. AllByRecursion (IsOf (sending_of frame.now stamp owner)) p.packets) }
     {
-        self.by_counters(alloc, frame, stamp, owner)
+        self.prepare_by_fields(alloc, frame, stamp, owner)
     }
 
-    /// The packets of the next frame, by the stream's fields.
-    fn by_counters(
+    /// [`prepare`](Self::prepare), by the stream's fields.
+    fn prepare_by_fields(
         &self,
         alloc: A,
         frame: &MediaFrame<A>,

@@ -5,18 +5,18 @@ use Rattle.forward_rewrite.proofs.stream.Stream.prepare.Goals as goal
 
 pub returns-clause-sends : goal.returns-clause-sends
 returns-clause-sends g c =
-    IfOk-weaker c.by_counters.result _ _
+    IfOk-weaker c.prepare_by_fields.result _ _
     (λ p h. sends_next c.args.self.now (sending_of c.args.frame.now c.args.stamp c.args.owner) p h)
-    c.by_counters.ensures
+    c.prepare_by_fields.ensures
 
 pub returns-clause-count : goal.returns-clause-count
 returns-clause-count g c =
-    IfOk-weaker c.by_counters.result _ _
+    IfOk-weaker c.prepare_by_fields.result _ _
     (λ p h. count_next c.args.self.now (sending_of c.args.frame.now c.args.stamp c.args.owner) p h)
-    c.by_counters.ensures
+    c.prepare_by_fields.ensures
 
 pub returns-clause-whose : goal.returns-clause-whose
 returns-clause-whose g c =
-    IfOk-weaker c.by_counters.result _ _
+    IfOk-weaker c.prepare_by_fields.result _ _
     (λ p h. whose_next c.args.self.now (sending_of c.args.frame.now c.args.stamp c.args.owner) p h)
-    c.by_counters.ensures
+    c.prepare_by_fields.ensures

@@ -1,6 +1,6 @@
 use Rattle.std.proofs.Common.{◌<◌, ◌^◌, rules}
 use Rattle.forward_rewrite.proofs.Numbers.{lead_prepared}
-use Rattle.forward_rewrite.proofs.stream.Stream.by_counters.Goals as goal
+use Rattle.forward_rewrite.proofs.stream.Stream.prepare_by_fields.Goals as goal
 
 pub invariant_of-result : goal.invariant_of-result
 invariant_of-result g c =
