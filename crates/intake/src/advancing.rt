@@ -5,7 +5,7 @@ ghost use Rattle.std.specs.Prelude.{is_some, None, map};
 ghost use Rattle.std.specs.List.{list_all};
 ghost use Rattle.media_items.specs.Inputs.{input_of, is_sized};
 ghost use Rattle.intake.specs.Ingested.{ingested_of, only, with_items};
-ghost use Rattle.intake.specs.Media.{told, placed};
+ghost use Rattle.intake.specs.Media.{told};
 ghost use Rattle.intake.specs.Taking.{most_epochs};
 ghost use Rattle.intake.specs.inner.Kept.{Judges, base_of, gate_for};
 ghost use Rattle.intake.specs.inner.Freed.{freed_by};
@@ -24,24 +24,19 @@ use media_items::Item;
 use source_valid::Verdict;
 use std::alloc::{AllocError, Allocator};
 
-/// The outcome of an accepted packet, by its place at its source's gate.
-fn placed(ext: i64, place: Place) -> Outcome
-    ensures { result ≡ placed ext place }
-{
-    match place {
-        Place::Taken => Outcome::Accepted { ext },
-        Place::Late => Outcome::Late { ext },
-        Place::Duplicate => Outcome::Duplicate { ext },
-    }
-}
-
 /// The outcome of a packet with this verdict, by its place at its source's gate.
 pub(crate) fn outcome_at(verdict: Verdict, place: Place) -> Outcome
     ensures { result ≡ outcome_at verdict place }
 {
     match verdict {
         Verdict::Probation => Outcome::Probation,
-        Verdict::Accepted { ext } => placed(ext, place),
+        Verdict::Accepted { ext } => {
+            match place {
+                Place::Taken => Outcome::Accepted { ext },
+                Place::Late => Outcome::Late { ext },
+                Place::Duplicate => Outcome::Duplicate { ext },
+            }
+        }
         Verdict::Jump => Outcome::Jump,
         Verdict::Restarted { ext } => Outcome::Restarted { ext },
     }

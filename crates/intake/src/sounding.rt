@@ -4,7 +4,6 @@ ghost use Rattle.std.specs.Prelude.{◌≡◌, ◌%◌, true, length, map, IfOk,
 ghost use Rattle.std.specs.List.{list_all};
 ghost use Rattle.media_items.specs.Formats.{holds_whole};
 ghost use Rattle.media_items.specs.Inputs.{input_of, is_sized};
-ghost use Rattle.sample_codecs.specs.MuLaw.{decoded};
 ghost use Rattle.sample_codecs.specs.L16.{samples_of};
 ghost use Rattle.intake.specs.Media.{audio_format, samples_of_packet, sound_of, sounds};
 ghost use Rattle.intake.specs.inner.Comings.{coming_of};
@@ -32,15 +31,6 @@ pub(crate) fn audio_format(rate: u32, pt: u8, octets: usize) -> Option<Format>
     }
 }
 
-/// The samples of a payload of PCMU.
-fn from_pcmu<A: Allocator + Copy>(alloc: A, payload: &[u8]) -> Result<Vec<i16, A>, AllocError>
-    ensures { IfOk result (λ samples. samples.items ≡ map decoded payload.now) }
-{
-    let mut samples = vec![in alloc; 0; payload.len()]?;
-    decode_pcmu(payload, &mut samples);
-    Ok(samples)
-}
-
 /// The samples of a payload of L16. It has whole samples.
 fn from_l16<A: Allocator + Copy>(alloc: A, payload: &[u8]) -> Result<Vec<i16, A>, AllocError>
     requires { length payload.now % 2 ≡ 0 }
@@ -62,7 +52,11 @@ fn samples_of<A: Allocator + Copy>(
     ensures { IfOk result (λ samples. samples.items ≡ samples_of_packet format payload.now) }
 {
     match format {
-        Format::Pcmu => from_pcmu(alloc, payload),
+        Format::Pcmu => {
+            let mut samples = vec![in alloc; 0; payload.len()]?;
+            decode_pcmu(payload, &mut samples);
+            Ok(samples)
+        }
         Format::L16At8000 => from_l16(alloc, payload),
         Format::L16At44100 => from_l16(alloc, payload),
     }
