@@ -15,8 +15,9 @@ from known import DESKS, FLEET, NEW, Store
 from refused import FAILED, Refused, words_of
 
 # The seconds between two looks, and those after which a refused room is tried again. How long a bridge of another agent
-# may be unknown before its rooms go elsewhere, beside the time of its lease.
-PAUSE, AGAIN, GRACE = 0.25, 5, 2
+# may be unknown before its rooms go elsewhere: beside the time of its lease, and once etcd is known again by this agent,
+# which may be the first one that does.
+PAUSE, AGAIN, GRACE, PATIENCE = 0.25, 5, 0.5, 5
 # How many rooms are changed at once: etcd takes 128 changes.
 AT_ONCE = 100
 
@@ -29,7 +30,7 @@ class Agent:
     def __init__(self, settings, bridges):
         self.url, self.lasts = settings["agent"]["url"], settings["agent"]["lease"]
         self.store, self.bridges = Store(settings["etcd"]["servers"]), {one.name: one for one in bridges}
-        self.lease, self.renewed, self.missing, self.troubles = None, 0.0, {}, {}
+        self.lease, self.renewed, self.patient, self.missing, self.troubles = None, 0.0, 0.0, {}, {}
         # `lost`: a bridge has just ended, whose rooms want another one.
         self.closed, self.lost = threading.Event(), threading.Event()
 
@@ -61,13 +62,8 @@ class Agent:
         """Keeps the lease, and gives each room without a bridge one."""
         self.lost.clear()
         if self.lease is None or time.monotonic() - self.renewed > self.lasts / 3:
-            try:
-                if self.lease is None or not self.store.renew(self.lease):
-                    self.lease = self.store.lease(self.lasts)
-            except Refused:
-                # Once etcd is back, other agents have as long as this one to say that their bridges are there.
-                self.missing.clear()
-                raise
+            if self.lease is None or not self.renews():
+                self.patient, self.lease = time.monotonic() + PATIENCE, self.store.lease(self.lasts)
             self.renewed = time.monotonic()
         known, changed = self.store.known(), {}
         gone = self.gone(known)
@@ -78,13 +74,22 @@ class Agent:
         if changed:
             self.store.put_rooms(changed, known)
 
+    def renews(self):
+        """Whether etcd still has the lease. Where etcd is gone, other agents may be late as well once it is back."""
+        try:
+            return self.store.renew(self.lease)
+        except Refused:
+            self.patient = time.monotonic() + PATIENCE
+            raise
+
     def gone(self, known):
         """The bridges that are gone: those of this agent at once, others after a while."""
         named = {name for one, _ in known.rooms.values() for name in (one["on"], one["to"])} - {None, *known.bridges}
         now = time.monotonic()
         self.missing = {name: self.missing.get(name, now) for name in named}
         own = {name for name in named if name in self.bridges and self.bridges[name].is_there is False}
-        return own | {name for name in named - {*self.bridges} if now - self.missing[name] > GRACE}
+        late = {name for name in named if now - self.missing[name] > GRACE and now > self.patient}
+        return own | late - {*self.bridges}
 
     def settled(self, room, record, known, gone):
         """A room's record as it should be."""

@@ -114,17 +114,19 @@ class Asked:
         return {"bridge": bridge.name}
 
     def move(self, words):
-        room, to, known = room_of(words), words["to"], self.store.known()
-        if room not in known.rooms or to not in known.bridges:
-            raise Refused(f"There is no room {room}, or no bridge {to}.", 404)
-        record = known.rooms[room][0]
-        if record["on"] is None or record["to"]:
-            raise Refused(f"Room {room} is on its way already.", MOVING)
-        if known.chosen(record["members"], [name for name in known.bridges if name != to]) == record["on"]:
-            raise Refused(f"Room {room} is on {to}.", 400)
-        if not self.store.put_rooms({room: record | {"to": to, "tried": [], "why": ""}}, known):
-            raise Refused("Another agent was faster. Try again.", MOVING)
-        return self.moved(room, to)
+        room, to = room_of(words), words["to"]
+        for _ in range(TURNS):
+            known = self.store.known()
+            if room not in known.rooms or to not in known.bridges:
+                raise Refused(f"There is no room {room}, or no bridge {to}.", 404)
+            record = known.rooms[room][0]
+            if record["on"] is None or record["to"]:
+                raise Refused(f"Room {room} is on its way already.", MOVING)
+            if known.chosen(record["members"], [name for name in known.bridges if name != to]) == record["on"]:
+                raise Refused(f"Room {room} is on {to}.", 400)
+            if self.store.put_rooms({room: record | {"to": to, "tried": [], "why": ""}}, known):
+                return self.moved(room, to)
+        raise Refused("Too many rooms change at once. Try again in a second.", MOVING)
 
     def moved(self, room, to):
         """Where a room is once its move is over."""

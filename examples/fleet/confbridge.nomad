@@ -60,7 +60,7 @@ job "confbridge" {
           [agent]
           listen = "{{ env "NOMAD_IP_agent" }}:8095"
           url = "http://{{ env "NOMAD_IP_agent" }}:8095"
-          lease = 5
+          lease = 3
           [etcd]
           servers = ["${var.etcd}"]
           [bridges.bridge{{ env "NOMAD_ALLOC_INDEX" }}]

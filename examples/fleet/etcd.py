@@ -26,11 +26,12 @@ class Etcd:
     def __init__(self, servers):
         self.servers = list(servers)
 
-    def ask(self, path, **words):
+    def ask(self, path, seconds=2, **words):
+        """What is answered, by a server that answers within so many seconds."""
         for _ in range(len(self.servers)):
             request = urllib.request.Request(f"{self.servers[0]}/v3/{path}", json.dumps(words).encode(), method="POST")
             try:
-                with urllib.request.urlopen(request, timeout=2) as said:
+                with urllib.request.urlopen(request, timeout=seconds) as said:
                     return json.load(said)
             except urllib.error.HTTPError as why:
                 raise Refused(f"The fleet's memory (etcd) refuses: {why.read().decode()[:200]}") from None
@@ -74,5 +75,5 @@ class Etcd:
         return self.ask("lease/grant", TTL=str(seconds))["ID"]
 
     def renew(self, lease):
-        """Whether the lease still was there."""
-        return int(self.ask("lease/keepalive", ID=lease).get("result", {}).get("TTL", 0)) > 0
+        """Whether the lease still was there. A server that is gone may not take the time of a lease."""
+        return int(self.ask("lease/keepalive", 1, ID=lease).get("result", {}).get("TTL", 0)) > 0

@@ -2,11 +2,13 @@
 
 First a desk is kept and restored, and each thing that hinders it is told in words. Then three agents open 30 rooms at
 once. A bridge is killed: its rooms have to stand on another one within 5 s, with all their members, while no other
-room changes and none stands on two. Rooms move; agents die in the middle of a move; etcd is gone and comes back; a
-bridge is full, and busy; one is drained. Manifests are read by kubectl, and Kamailio's dispatcher finds a room's
-bridge. What isn't installed is named, and its steps are skipped. On Debian the packages are etcd-server, kamailio and
-kamailio-python3-modules. Each check prints a line, `ok` or `FAILED`. With --model the bridges are models without
-media.
+room changes and none stands on two. A machine is gone, with its agent: the same within 5 s. Rooms move; agents die in
+the middle of a move; etcd is gone and comes back; a bridge is full, and busy; one is drained. Bad requests are told so.
+Manifests are read by kubectl, and Kamailio's dispatcher finds a room's bridge.
+
+What isn't installed is named, and its steps are skipped. On Debian the packages are etcd-server, kamailio and
+kamailio-python3-modules. Each check prints a line, `ok` or `FAILED`. Each wait is bounded, and a step that is late says
+what it waited for. With --model the bridges are models without media.
 """
 
 import pathlib
@@ -20,8 +22,12 @@ from lib.fleet_call.fleet import Fleet
 from lib.fleet_call.keeping import Keeping
 from lib.fleet_call.manifests import Manifests
 from lib.shared import add_program, release_program
+from lib.waits import carried_out, within
 
-NEEDS = "the program or nothing (--model), etcd, and what it names where it skips; two minutes"
+NEEDS = "the program or nothing (--model), etcd, and what it names where it skips; a minute"
+
+# How many seconds a step may take.
+STEP = 120
 
 
 def options(parser):
@@ -34,8 +40,8 @@ PARTS = [
     (Keeping, [], ["step_round_trip", "step_refusals", "step_large"]),
     (Manifests, [], ["step_kubernetes", "step_podman", "step_nomad", "step_units"]),
     (Fleet, ["etcd"], [
-        "step_opens", "step_kill", "step_move", "step_cut_moves", "step_gateways", "step_etcd", "step_full_and_busy",
-        "step_machine", "step_dispatcher", "step_drain",
+        "step_opens", "step_bodies", "step_kill", "step_move", "step_cut_moves", "step_gateways", "step_etcd",
+        "step_full_and_busy", "step_machine", "step_dispatcher", "step_drain",
     ]),
 ]  # fmt: skip
 
@@ -55,10 +61,15 @@ def run(args):
         if not any(args.only in one for one in steps):
             continue
         with tempfile.TemporaryDirectory(ignore_cleanup_errors=True) as name:
-            trial = part(check, pathlib.Path(name), program)
+            trial = None
             try:
+                with within(STEP, part.__doc__.splitlines()[0]):
+                    trial = part(check, pathlib.Path(name), program)
                 for step in chosen:
-                    getattr(trial, step)()
+                    if not carried_out(check, step, STEP, getattr(trial, step)):
+                        print("skipped: the steps after it")
+                        break
             finally:
-                trial.close()
+                if trial:
+                    trial.close()
     return 1 if check.failed else 0

@@ -7,10 +7,12 @@ import time
 from lib.fleet_call.dispatcher import Dispatched, Sink
 from lib.fleet_call.gateways import Gatewayed
 from lib.fleet_call.parts import LEASE, ROOMS, AgentPart, BridgePart, EtcdPart, commands_of, groups_of, until
+from lib.gateway_call.bodies import are_refused
+from lib.waits import within
 
 COUNT, PEOPLE = 30, 3
 # How many seconds the rooms of a bridge that was killed may be nowhere; and those of a machine that is gone.
-MOST, MOST_OF_MACHINE = 5, LEASE + 2 + 5
+MOST = MOST_OF_MACHINE = 5
 
 
 def without_firsts(rows):
@@ -44,7 +46,8 @@ class Fleet(Dispatched, Gatewayed):
 
     def comes(self, condition, text, seconds=20, most=None):
         """Checks that something holds before long. After how many seconds it did."""
-        took = until(condition, seconds)
+        with within(seconds + 30, text):
+            took = until(condition, seconds)
         good = took is not None and (most is None or took <= most)
         self.check(good, f"{text}{'' if took is None else f', after {took:.1f} s'}", took or self.logs())
         return took
@@ -239,9 +242,35 @@ class Fleet(Dispatched, Gatewayed):
         self.etcd.start()
         knows = lambda: all(one.knows() == 3 for one in self.agents.values())
         self.comes(knows, "etcd comes back: the agents know all bridges")
-        time.sleep(4)
+        time.sleep(3)
+        self.check(self.desks() == before, "and no desk has changed")
+        # A network that comes back: etcd has forgotten all leases, and one agent is later to know it than the others.
+        late = self.agents["b"].process
+        for one in self.etcd.process, late:
+            one.send_signal(signal.SIGSTOP)
+        time.sleep(LEASE + 3)
+        self.etcd.process.send_signal(signal.SIGCONT)
+        time.sleep(2)
+        late.send_signal(signal.SIGCONT)
+        self.comes(knows, "etcd stood still for longer than a lease, and an agent for longer: all bridges are known")
+        time.sleep(2)
         self.check(self.desks() == before, "and no desk has changed")
         self.told(self.join("a", self.one_on("b")), 200, "'bridge': 'b'", "who joins then is a member")
+
+    def step_bodies(self):
+        """Bodies of requests that aren't what they should be."""
+        before = self.desks()
+        good = {"room": 1, "address": "127.0.0.1:6000"}
+        are_refused(self.check, self.agents["a"].post, "join", good, "address")
+        wanted = "has to be a whole number from 0 to 4294967295."
+        for name, value in ("voice", "201"), ("voice", 2**32), ("camera", -1), ("camera", 1.5), ("voice", True):
+            said = self.agents["b"].ask("join", **good | {name: value})
+            self.told(said, 400, f"`{name}` of the request {wanted}", f"{name} = {value!r}")
+        said = self.agents["b"].ask("drain", bridge="a", move="yes")
+        self.told(said, 400, "`move` of the request has to be true or false.", "a drain that says `yes`")
+        self.check(self.desks() == before, "no desk changes", before)
+        said = self.agents["c"].ask("where", room="1", more=[{}])
+        self.check(said[0] == 200, "a field that nobody asked for is passed over", said)
 
     def step_full_and_busy(self):
         here, desks = len(self.records()), self.desks().values()

@@ -81,7 +81,8 @@ class Gatewayed:
         id, said = c.joined(HERE)
         self.check(said[0] == 200, "who joins there at once, under the same SSRC, is a member", said)
         wanted = [own, said[1]["member"]] if said[0] == 200 else None
-        self.check(self.members(HERE) == wanted, "and the old call's member is gone", self.rows(HERE))
+        # The old bridge gives the room up at its agent's next look.
+        self.comes(lambda: self.members(HERE) == wanted, "and the old call's member is gone")
         ended = until(lambda: b.ask("state", id=ids[0][0])[0] == 410)
         words = f"Room {HERE} is on bridge c of the fleet now"
         self.told(b.ask("state", id=ids[0][0]) if ended else (0, ""), 410, words, "the page of the old call says so")

@@ -24,7 +24,7 @@ FLEET, MODEL = ROOT / "examples/fleet/fleet.py", ROOT / "tools/lib/models/served
 # Seats of a bridge: its agent, this test, and one more.
 SEATS = 3
 # How many rooms and members a bridge takes by its agent's settings, and the time of a lease in seconds.
-ROOMS, MEMBERS, LEASE = 20, 256, 4
+ROOMS, MEMBERS, LEASE = 20, 256, 3
 # Where browsers are told to join the rooms of a bridge.
 PAGES = "https://call.example"
 
@@ -83,8 +83,11 @@ class BridgePart:
 
     def desk(self):
         """The rows of each room, and the desk's version."""
-        rows, version = self.operator.show()
-        return by_room(rows), version
+        shown = self.operator.show()
+        if shown is None:
+            ended(self.process)
+            fail(f"bridge {self.name} has closed the operator's connection, and says {self.process.stderr.read()!r}")
+        return by_room(shown[0]), shown[1]
 
     def do(self, line):
         """A call that has to be accepted."""
@@ -117,7 +120,10 @@ class AgentPart:
 
     def ask(self, path, **words):
         """The status of a request, and what it is answered."""
-        body = json.dumps(words).encode() if path else None
+        return self.post(path, json.dumps(words).encode() if path else None)
+
+    def post(self, path, body):
+        """The same of a request with this body."""
         try:
             with urllib.request.urlopen(f"http://127.0.0.1:{self.port}/{path}", body, timeout=30) as said:
                 return said.status, json.load(said)
