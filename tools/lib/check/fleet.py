@@ -4,7 +4,8 @@ First a desk is kept and restored, and each thing that hinders it is told in wor
 once. A bridge is killed: its rooms have to stand on another one within 5 s, with all their members, while no other
 room changes and none stands on two. A machine is gone, with its agent: the same within 5 s. Rooms move; agents die in
 the middle of a move; etcd is gone and comes back; a bridge is full, and busy; one is drained. Bad requests are told so.
-Manifests are read by kubectl, and Kamailio's dispatcher finds a room's bridge.
+Manifests are read by kubectl and compared with the settings, images and units that they name. Kamailio's dispatcher
+finds a room's bridge.
 
 What isn't installed is named, and its steps are skipped. On Debian the packages are etcd-server, kamailio and
 kamailio-python3-modules. Each check prints a line, `ok` or `FAILED`. Each wait is bounded, and a step that is late says
@@ -38,7 +39,10 @@ def options(parser):
 
 PARTS = [
     (Keeping, [], ["step_round_trip", "step_refusals", "step_large"]),
-    (Manifests, [], ["step_kubernetes", "step_podman", "step_nomad", "step_units"]),
+    (Manifests, [], [
+        "step_kubernetes", "step_pods", "step_compose", "step_podman", "step_nomad", "step_ports_of_job", "step_units",
+        "step_ports_of_units",
+    ]),
     (Fleet, ["etcd"], [
         "step_opens", "step_bodies", "step_kill", "step_move", "step_cut_moves", "step_gateways", "step_etcd",
         "step_full_and_busy", "step_machine", "step_dispatcher", "step_drain",

@@ -7,6 +7,7 @@ import shutil
 import subprocess
 import tomllib
 
+from lib.fleet_call.agreeing import Agreeing, filled
 from lib.fleet_call.parts import FLEET
 from lib.models.lines import settings_of
 
@@ -24,34 +25,37 @@ def missing(wanted, found, at=""):
     return [] if str(wanted) == str(found) or wanted == {} else [at]
 
 
-class Manifests:
-    """The manifests of a fleet."""
+class Manifests(Agreeing):
+    """The manifests of a fleet and of a gateway."""
 
     def __init__(self, check, folder, program):
         self.check, self.folder = check, folder
-        self.objects = None
-        if importlib.util.find_spec("yaml"):
-            import yaml
 
-            self.objects = list(yaml.safe_load_all(KUBERNETES.read_text()))
+    def yaml(self, path):
+        """The objects of a file, None where nothing reads them."""
+        if not importlib.util.find_spec("yaml"):
+            print(f"skipped: {path.name} (there is no python3-yaml)")
+            return None
+        import yaml
+
+        return list(yaml.safe_load_all(path.read_text()))
 
     def step_kubernetes(self):
-        if self.objects is None:
-            print("skipped: the manifests for Kubernetes (there is no python3-yaml)")
+        self.objects = self.yaml(KUBERNETES)
+        if not self.objects:
             return
         kinds = [(one["kind"], one["metadata"]["name"]) for one in self.objects]
         self.check(("StatefulSet", "confbridge") in kinds, f"{len(kinds)} objects for Kubernetes", kinds)
         config = next(one["data"] for one in self.objects if one["kind"] == "ConfigMap")
-        given = {"@IP@": "10.0.0.1", "@NAME@": "confbridge-0", "@FIRST@": "1000000000"}
-        self.read_settings(
-            {name: re.sub("@[A-Z]+@", lambda found: given[found[0]], text) for name, text in config.items()}
-        )
+        self.read_settings({name: filled(text) for name, text in config.items()})
         if not shutil.which("kubectl"):
             print("skipped: kubectl's reading of the manifests (there is no kubectl)")
             return
         for one in self.objects:
             if one["kind"] == "StatefulSet":
-                self.read_by_kubectl(one)
+                self.read_by_kubectl(one, ["env", "TRIED=yes"])
+            elif one["kind"] == "Service":
+                self.read_by_kubectl(one, ["selector", f"app={one['spec']['selector']['app']}"])
 
     def read_settings(self, texts):
         """Whether settings that a scheduler writes are those that the bridge and the agents take."""
@@ -64,18 +68,18 @@ class Manifests:
                 same = all(here[key].keys() == there.get(key, {}).keys() for key in here if key != "bridges")
                 self.check(same, f"{path.name} has the keys of {path.parent.name}/{path.name}", there)
 
-    def read_by_kubectl(self, wanted):
+    def read_by_kubectl(self, wanted, change):
         """kubectl's types keep each field: what it doesn't know is lost. Its other dry runs ask a cluster."""
-        words = [*KUBECTL, "set", "env", "--local", "--dry-run=client", "-o", "json", "-f", "-", "TRIED=yes"]
+        words = [*KUBECTL, "set", change[0], "--local", "--dry-run=client", "-o", "json", "-f", "-", change[1]]
         done = subprocess.run(words, input=json.dumps(wanted), capture_output=True, text=True, check=False)
-        for one in wanted["spec"]["template"]["spec"]["containers"]:
+        for one in wanted["spec"].get("template", {}).get("spec", {}).get("containers", []):
             one.get("env", []).sort(key=lambda each: each["name"])
         found = json.loads(done.stdout) if done.returncode == 0 else {}
         for one in found.get("spec", {}).get("template", {}).get("spec", {}).get("containers", []):
             one["env"] = sorted((each for each in one["env"] if each["name"] != "TRIED"), key=lambda each: each["name"])
         lost = missing(wanted, found)
         name = wanted["metadata"]["name"]
-        self.check(not lost, f"kubectl knows each field of the StatefulSet {name}", lost or done.stderr)
+        self.check(not lost, f"kubectl knows each field of the {wanted['kind']} {name}", lost or done.stderr)
 
     def step_podman(self):
         """Says that podman plays no pod here: that takes the image of Containerfile, which this check doesn't build."""
