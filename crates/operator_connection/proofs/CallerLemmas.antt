@@ -2,19 +2,22 @@
 use Rattle.std.proofs.lemmas.Bool.Decides.{nat_tests}
 use Rattle.std.proofs.Math.Seq.{take-length}
 use Rattle.std.proofs.Common.{◌≡◌, ◌<◌, ◌-◌, ◌∙◌, ℕ, nat_lt, true, List, [], ◌∷◌, ◌++◌, length, take, drop, length-drop}
-use Rattle.std.proofs.Common.{arith, map, Option, Some, None, Result, Ok, Err, OnErr, refl, sym, ap, subst}
+use Rattle.std.proofs.Common.{arith, rules, false, map, Option, Some, None, is_some, Result, Ok, Err, OnErr, refl, sym}
+use Rattle.std.proofs.Common.{ap, subst}
 use Rattle.operator_lines.specs.Operators.{Replying, Showing}
 use Rattle.operator_connection.specs.declared.greeting.Greeted.{Greeted}
 use Rattle.operator_connection.specs.declared.greeting.Greeted.TheVariants as greeted
 use Rattle.operator_connection.specs.declared.talking.Standing.{Standing}
 use Rattle.operator_connection.specs.declared.talking.Standing.TheVariants.{Open, Ending, Lost, Stopping}
-use Rattle.operator_connection.specs.Connection.{Connection}
+use Rattle.operator_connection.specs.declared.heard.HeardLines.{HeardLines}
+use Rattle.operator_connection.specs.Connection.{Connection, heeded_of}
 use Rattle.operator_connection.specs.Deeds.{Deed, SeatedDeed, alone, AreDeeds, AreSeatedDeeds, HasHeard, HasWritten}
 use Rattle.operator_connection.specs.Deeds.{HasToldNews}
 use Rattle.operator_connection.specs.Deeds.{Beginning, deeds_begun, moment_of, greeted_at, heard_at, round_alone}
-use Rattle.operator_connection.specs.Deeds.{round_seated}
+use Rattle.operator_connection.specs.Deeds.{round_seated, first_seated}
 use Rattle.operator_connection.specs.Greeting.{GreetsFirst, GreetsSome}
 use Rattle.operator_connection.specs.Talking.{since_stop}
+use Rattle.operator_connection.specs.Talks.{IsTurn}
 
 pub deeds_both : (xs ys : List Deed) (a b c : Connection) → AreDeeds xs a b → AreDeeds ys b c → AreDeeds (xs ++ ys) a c
 deeds_both [] ys a b c g h = subst (λ (s : Connection). AreDeeds ys s c) (sym g) h
@@ -62,6 +65,16 @@ first_some lines before after to greeted.All h = (h.0, to, h.1)
 first_some lines before after to greeted.Stopped h = (h.0, to, h.1)
 
 -- ---- rounds
+
+pub heard_turn : (h : Option HeardLines) (moment : Option ℕ) → is_some h ≡ true
+    → IsTurn (heeded_of h) (first_seated moment)
+heard_turn None moment e = search rules
+heard_turn (Some heard) moment e = (moment, refl)
+
+pub other_turn : (h : Option HeardLines) (beginning : Beginning) → is_some h ≡ false
+    → IsTurn (heeded_of h) (round_seated beginning)
+other_turn None beginning e = (beginning, refl)
+other_turn (Some heard) beginning e = search rules
 
 pub round_cut : {D : Type 0} (replies : Replying D) (shows : Showing D) (b : Beginning) (d : D) (old new : Connection)
     → AreDeeds (deeds_begun b) old new → moment_of b ≡ None

@@ -1,11 +1,12 @@
 -- Rounds of a connection, one after another.
-use Rattle.std.proofs.Common.{Bool, true, false, List, [], ◌∷◌, ◌++◌, refl, sym, subst}
+use Rattle.std.proofs.Common.{Bool, true, false, List, [], ◌∷◌, ◌++◌, Option, Some, None, inl, inr, refl, sym, subst}
 use Rattle.std.specs.List.{AllByRecursion, flat_map}
 use Rattle.std.proofs.lemmas.Grind.{flat_map-append}
 use Rattle.operator_lines.specs.Operators.{Replying, Showing}
-use Rattle.operator_connection.specs.Connection.{Connection}
+use Rattle.operator_connection.specs.Connection.{Heeded, Connection}
 use Rattle.operator_connection.specs.Deeds.{Deed, SeatedDeed, AreDeeds, AreSeatedDeeds}
-use Rattle.operator_connection.specs.Talks.{IsRoundAlone, HasWaitedFor, HasHadRounds, IsRoundSeated, HasSat, IsStep}
+use Rattle.operator_connection.specs.Talks.{IsRoundAlone, HasWaitedFor, HasHadRounds, IsRoundSeated, HasSat, IsTurn}
+use Rattle.operator_connection.specs.Talks.{IsStep}
 use Rattle.operator_connection.proofs.CallerLemmas.{deeds_both, seated_both}
 
 all_both : {X : Type 0} (P : X → Type 0) (xs ys : List X) → AllByRecursion P xs → AllByRecursion P ys
@@ -57,13 +58,17 @@ sat_both replies shows a b c g h = (
       (seated_both replies shows (flat_map (λ deeds. deeds) g.0) (flat_map (λ deeds. deeds) h.0) a b c g.2 h.2),
 )
 
+turn_is : (heeded : Option Heeded) (deeds : List SeatedDeed) → IsTurn heeded deeds → IsRoundSeated deeds
+turn_is None deeds is = inl is
+turn_is (Some heeded) deeds is = inr is
+
 -- what a step did, whether the connection goes on or not
-pub sat_step : {D : Type 0} (replies : Replying D) (shows : Showing D) (goes_on : Bool) (deeds : List SeatedDeed)
-    (a b c : D × Connection)
-    → HasSat replies shows a b → IsStep goes_on deeds → AreSeatedDeeds replies shows deeds b c
+pub sat_step : {D : Type 0} (replies : Replying D) (shows : Showing D) (goes_on : Bool) (heeded : Option Heeded)
+    (deeds : List SeatedDeed) (a b c : D × Connection)
+    → HasSat replies shows a b → IsStep goes_on heeded deeds → AreSeatedDeeds replies shows deeds b c
     → HasSat replies shows a c
-sat_step replies shows true deeds a b c g is done =
-    sat_both replies shows a b c g (sat_one replies shows deeds b c is done)
-sat_step {D} replies shows false deeds a b c g is done =
+sat_step replies shows true heeded deeds a b c g is done =
+    sat_both replies shows a b c g (sat_one replies shows deeds b c (turn_is heeded deeds is) done)
+sat_step {D} replies shows false heeded deeds a b c g is done =
     subst (λ (s : D × Connection). HasSat replies shows a s)
     (subst (λ (ds : List SeatedDeed). AreSeatedDeeds replies shows ds b c) is done) g

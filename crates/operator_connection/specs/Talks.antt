@@ -1,11 +1,11 @@
 -- All that is done on an operator's connection, from its first round to its last (own).
-use Rattle.std.specs.Prelude.{◌≡◌, ◌⊎◌, ℕ, Bool, true, false, List, [], ◌++◌, ◌∷◌, Option}
+use Rattle.std.specs.Prelude.{◌≡◌, ◌⊎◌, ℕ, Bool, true, false, List, [], ◌++◌, ◌∷◌, Option, Some, None}
 use Rattle.std.specs.List.{AllByRecursion, flat_map}
 use Rattle.operator_lines.specs.Fed.{StandsFor}
 use Rattle.operator_lines.specs.Operators.{Replying, Showing}
 use Rattle.operator_connection.specs.declared.talking.Standing.TheVariants.{Open}
 use Rattle.operator_connection.specs.Acts.{all_read, all_written}
-use Rattle.operator_connection.specs.Connection.{Connection}
+use Rattle.operator_connection.specs.Connection.{Heeded, Connection}
 use Rattle.operator_connection.specs.Deeds.{Deed, SeatedDeed, AreDeeds, AreSeatedDeeds}
 use Rattle.operator_connection.specs.Talking.{is_open}
 use Rattle.operator_connection.specs.Deeds.{Beginning, round_alone, round_seated, first_seated, refused}
@@ -40,10 +40,15 @@ HasSat replies shows start now =
     (rounds : List (List SeatedDeed)) × AllByRecursion IsRoundSeated rounds
     × AreSeatedDeeds replies shows (flat_map (λ deeds. deeds) rounds) start now
 
--- a round with a seat where the connection goes on, and else nothing
-abbrev pub IsStep : Bool → List SeatedDeed → Type 0
-IsStep true deeds = IsRoundSeated deeds
-IsStep false deeds = deeds ≡ []
+-- the same by the lines that wait for the seat: they are answered at once, if any wait
+abbrev pub IsTurn : Option Heeded → List SeatedDeed → Type 0
+IsTurn None deeds = (beginning : Beginning) × (deeds ≡ round_seated beginning)
+IsTurn (Some heeded) deeds = (moment : Option ℕ) × (deeds ≡ first_seated moment)
+
+-- such a round where the connection goes on, and else nothing
+abbrev pub IsStep : Bool → Option Heeded → List SeatedDeed → Type 0
+IsStep true heeded deeds = IsTurn heeded deeds
+IsStep false heeded deeds = deeds ≡ []
 
 -- octets were appended
 abbrev pub Grown : (before after : List ℕ) → Type 0

@@ -4,7 +4,7 @@ ghost use Rattle.std.specs.Prelude.{◌≡◌, ◌∷◌, [], ℕ, List, Option,
 ghost use Rattle.operator_connection.specs.Connection.{is_heard, is_owed, is_seat_over, HasWaited, HasLooked, IsNew};
 ghost use Rattle.operator_connection.specs.Deeds.{SeatedDeed, AreDeeds, AreSeatedDeeds, greets, writes, HasWritten};
 ghost use Rattle.operator_connection.specs.Deeds.{RefusesSeat, Beginning, deeds_begun, moment_of, round_alone, refused};
-ghost use Rattle.operator_connection.specs.Talks.{IsRoundSeated};
+ghost use Rattle.operator_connection.specs.Talks.{IsTurn};
 
 use crate::heard::HeardLines;
 use crate::line::CallerLine;
@@ -206,8 +206,8 @@ impl<L: CallerLine + Drop> Caller<L> {
     /// One round with a seat: answers what was heard before the connection had one; or else waits 50 ms at most, reads
     /// a piece, answers its lines, tells the news of a watch, and writes a piece.
     pub fn round<D: LineDesk>(&mut self, alloc: Global, desk: &mut D, stopped: &AtomicBool)
-        ensures { (deeds : List SeatedDeed) × IsRoundSeated deeds × AreSeatedDeeds D.replies D.shows deeds
-            (desk.old, self.old.connection) (desk.new, self.new.connection) }
+        ensures { (deeds : List SeatedDeed) × IsTurn self.old.connection.heeded deeds
+            × AreSeatedDeeds D.replies D.shows deeds (desk.old, self.old.connection) (desk.new, self.new.connection) }
     {
         if self.heard.is_some() {
             if let Some(now) = self.moment() {

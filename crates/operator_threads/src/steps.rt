@@ -145,7 +145,8 @@ impl<'a, H: DeskBrand> Operators<'a, H> {
         front: &F,
     ) -> bool
         ensures over { result ≡ not (is_seat_over caller.old) }
-        ensures step { (deeds : List SeatedDeed) × IsStep result deeds × AreSeatedDeeds D.replies D.shows deeds
+        ensures step { (deeds : List SeatedDeed) × IsStep result caller.old.connection.heeded deeds
+            × AreSeatedDeeds D.replies D.shows deeds
             (desk.old, caller.old.connection) (desk.new, caller.new.connection) }
     {
         if caller.is_stopping() && !self.has_stopped() {

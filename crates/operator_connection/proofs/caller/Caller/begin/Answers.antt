@@ -17,7 +17,8 @@ returns-in_err-now g c = (
 pub returns-then-load : goal.returns-then-load
 returns-then-load g c =
     let b = c.self.inside in
-    let stopped = connection (g.L.CallerLine.acts b.line) c.note_stop.new.self b.ready b.heard in (
+    let stopped = connection (g.L.CallerLine.acts b.line) c.note_stop.new.self b.ready b.heard in
+    let stop = c.note_stop.ensures in (
       looked_at c.in_ok-wait.field-0 c.in_ok-now.now true,
       refl,
       (
@@ -32,14 +33,10 @@ returns-then-load g c =
                 (ap (λ (v : CallerOf). v.connection) c.self.view_is) (record {
                   acts = refl;
                   ready = refl;
-                  standing = c.note_stop.ensures.standing;
-                  since = c.note_stop.ensures.since;
+                  standing = stop.standing;
+                  since = stop.since;
                   silent =
-                      record {
-                        kept = c.note_stop.ensures.lines;
-                        waiting = c.note_stop.ensures.outgoing;
-                        heeded = refl;
-                      };
+                      record { kept = stop.lines; waiting = stop.outgoing; heeded = refl };
                 }),
             refl,
           ),
