@@ -95,19 +95,24 @@ def hold(trial, args):
     trial.start_parts()
     parts = args.only or list(PARTS)
     for part in parts:
-        for name in PARTS[part][0]:
-            if not carried_out(trial.check, f"{part}: {name}", STEP, getattr(trial, name)):
-                trial.begin_anew()
+        steps = [(name, STEP, getattr(trial, name)) for name in PARTS[part][0]]
+        carry_out(trial, part, steps)
     for part in parts:
         if lacks(part, args):
             print(f"skipped: {part} ({lacks(part, args)})")
-            continue
-        begun = time.monotonic()
-        for name, seconds, step in steps_of(trial, part, args):
-            if not carried_out(trial.check, f"{part}: {name}", seconds, step):
-                trial.begin_anew()
-                break
-        print(f"      {part}: {time.monotonic() - begun:.0f} s", flush=True)
+        else:
+            carry_out(trial, part, steps_of(trial, part, args))
+
+
+def carry_out(trial, part, steps):
+    """Carries out steps of a part as long as each ends. Where one doesn't, what comes next finds an empty desk."""
+    begun = time.monotonic()
+    for name, seconds, step in steps:
+        if not carried_out(trial.check, f"{part}: {name}", seconds, step):
+            trial.begin_anew()
+            break
+    if steps:
+        print(f"      {part}, {', '.join(name for name, _, _ in steps)}: {time.monotonic() - begun:.0f} s", flush=True)
 
 
 def run(args):

@@ -74,6 +74,8 @@ class BridgePart:
         under = [] if self.program else [sys.executable, "-B"]
         self.process, _, _ = started(self.program or MODEL, self.path, under)
         self.operator = self.seated()
+        # Its first line takes the seat: a bridge closes a connection that says nothing for half a minute.
+        self.operator.show()
 
     def seated(self):
         return Operator(socket.create_connection(("127.0.0.1", self.tcp), timeout=300))

@@ -34,6 +34,8 @@ class Trial:
             path = settings(self.folder, self.udp, self.tcp, operators=4)
             self.bridge, self.udp, self.tcp = started(self.program, path)
             self.operator = self.seated()
+            # Its first line takes the seat: a bridge closes a connection that says nothing for half a minute.
+            self.operator.show()
 
     def start_parts(self):
         """Starts rtpengine, the agent, and Kamailio if it is there."""
