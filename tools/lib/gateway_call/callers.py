@@ -46,6 +46,10 @@ def level(sound, hertz, rate):
 class Caller:
     """Who hears."""
 
+    def says(self):
+        """What it shows of its call."""
+        return ""
+
     def heard(self):
         """The names of the callers whose tones are heard at half to double their level, and all levels."""
         levels = self.levels()
@@ -165,7 +169,8 @@ class Phone(Caller):
     RATE = 8000
 
     def __init__(self, name, folder):
-        self.name, self.folder = name, folder / name
+        # A phone that comes again begins with nothing of the last one.
+        self.name, self.folder = name, folder / f"{name}{time.monotonic_ns()}"
         self.folder.mkdir(parents=True)
         write_tone(self.folder / "tone.wav", TONES[name], self.RATE, 900)
 

@@ -99,9 +99,10 @@ class Trial:
         """Whether each caller hears all others but who is silent or gone. Who is gone hears nobody."""
         for name, one in self.callers.items():
             others = [other for other in self.callers if other != name and other not in silent + gone]
-            wanted = "" if name in gone else "".join(others)
+            wanted = "" if name in gone else "".join(sorted(others))
             good, levels = one.hears(wanted)
-            self.check(good, f"{text}: {name} hears {wanted or 'nobody'}, and not itself", levels)
+            seen = levels if good else (levels, one.says())
+            self.check(good, f"{text}: {name} hears {wanted or 'nobody'}, and not itself", seen)
             if show:
                 print(f"      {levels}")
 
