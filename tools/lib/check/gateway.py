@@ -33,7 +33,7 @@ from lib.shared import add_program, fail
 from lib.sip import kamailio_lacks
 from lib.waits import carried_out, within
 
-NEEDS = "the program, rtpengine, and what it names where it skips; six minutes"
+NEEDS = "the program, rtpengine, and what it names where it skips; three minutes, ten on a loaded machine"
 
 # Of each part: its steps before a call, the callers that it needs where it runs alone, and its steps in the call.
 PARTS = {
