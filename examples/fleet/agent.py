@@ -118,9 +118,9 @@ class Agent:
                 bridge.look()
             except Refused as why:
                 if str(why) != BUSY:
-                    if bridge.is_there:
+                    was_there, bridge.is_there, bridge.kept = bridge.is_there, False, {}
+                    if was_there:
                         self.lost.set()
-                    bridge.is_there, bridge.kept = False, {}
                     if known.bridges.get(bridge.name, {}).get("agent") == self.url:
                         self.store.swap([(f"{FLEET}bridges/{bridge.name}", None, ANY)])
                 raise
