@@ -197,6 +197,12 @@ def check_stuck(bridges):
             call.send_frame(LARGE)
             come += LARGE
             call.has_come(1, come, what)
+        # Behind a stop a lane begins no further item. The first datagram is tried so often, the others once.
+        tries = FRAMES * LARGE + MOST_TRIES - 1
+        until(
+            lambda: sum(it.error != 0 for it in call.wire.tries(call.lane(0))) >= tries,
+            f"{what}: a lane does not try all packets",
+        )
         call.wire.refuse(ANY, errno.EAGAIN)
         call.send_frame(LARGE)
         unsent = call.stop(what)
