@@ -1,0 +1,93 @@
+//! How a bridge over a script ends.
+
+ghost use Rattle.std.specs.Prelude.{◌≡◌};
+
+use crate::difference::Difference;
+use crate::scene::{Scene, ScriptMedia, ScriptRounds};
+use crate::sink::counted;
+use crate::tally::Tally;
+use front_rounds::Rounds;
+use media_workers::HandleFault;
+use operator_desk::DeskBrand;
+use operator_threads::Operators;
+use std::alloc::Global;
+use std::sync::Wait;
+use std::thread::Threads;
+use std::time::Clock;
+
+/// How many calls the log has, once all seats are back.
+pub fn gathered<'a, H: DeskBrand, R: Wait>(
+    rt: &R,
+    alloc: Global,
+    operators: Operators<'a, H>,
+) -> Option<u64>
+    requires parts { H.seats ≡ H.parts }
+{
+    let (desk, seats) = operators.end();
+    match desk.gather(rt, alloc, seats) {
+        Ok((log, _)) => Some(log.len() as u64),
+        Err((desk, _, _, _)) => {
+            desk.end(rt);
+            None
+        }
+    }
+}
+
+/// The media of rounds that are over.
+fn media_in<H, R>(rounds: ScriptRounds<H, R>) -> ScriptMedia<H, R>
+where
+    H: DeskBrand + Send + Sync + 'static,
+    R: Threads + Clock + Wait + Copy + Send + Drop + 'static,
+{
+    let Rounds {
+        alloc: _,
+        inlet: _,
+        wire: _,
+        watch: _,
+        reader: _,
+        media,
+        ticked: _,
+        stats: _,
+        version: _,
+        pictures: _,
+        has_members: _,
+        stage: _,
+        wakes: _,
+        chunk: _,
+    } = rounds;
+    media
+}
+
+/// Ends the lanes of a bridge whose desk has ended, and compares what they counted.
+pub fn ended<H, R>(rt: &R, scene: Scene<H, R>) -> Tally
+where
+    H: DeskBrand + Send + Sync + 'static,
+    R: Threads + Clock + Wait + Copy + Send + Drop + 'static,
+{
+    let Scene {
+        rounds,
+        gates,
+        model,
+        lanes: _,
+        beats: _,
+        tally,
+    } = scene;
+    for gate in &gates {
+        gate.open(rt);
+    }
+    let mut tally = tally;
+    for end in media_in(rounds).close(rt) {
+        let lane = end.lane as usize;
+        if matches!(
+            end.refused,
+            Some((_, HandleFault::Spent | HandleFault::OutOfMemory))
+        ) {
+            tally.note(Err(Difference::Fault(lane)));
+        }
+        let own = model.lanes.get(lane).map(|own| own.datagrams);
+        if own != Some(counted(&end.sink.sent.counts)) {
+            tally.note(Err(Difference::Counts(lane)));
+        }
+    }
+    tally
+}
