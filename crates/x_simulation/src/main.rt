@@ -63,7 +63,7 @@ fn main(rt: HostRuntime) -> io::Result<()> {
         dropped,
         has_seats,
         difference,
-    } = played(&rt, alloc, text.as_str());
+    } = played(&rt, alloc, &text);
     let seats = if has_seats { "are back" } else { "are missing" };
     match difference {
         None => println!(rt;

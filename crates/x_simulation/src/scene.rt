@@ -69,9 +69,9 @@ fn unplayed(difference: Difference) -> Tally {
 pub fn played<R: Threads + Clock + Wait + Copy + Send + Drop + 'static>(
     rt: &R,
     alloc: Global,
-    text: &str,
+    text: &String,
 ) -> Tally {
-    let Some(plan) = Plan::read(text) else {
+    let Some(plan) = Plan::read(text.as_str()) else {
         return unplayed(Difference::Line);
     };
     match Log::new(alloc) {
@@ -81,13 +81,14 @@ pub fn played<R: Threads + Clock + Wait + Copy + Send + Drop + 'static>(
 }
 
 /// The same on a bridge whose desk has a brand of its own.
+// A call that picks what a brand stands for takes no `&str`.
 fn begin<'a, H, R>(
     rt: &R,
     alloc: Global,
     log: &'a Log,
     names: DeskNames,
     plan: Plan,
-    text: &str,
+    text: &String,
 ) -> Tally
 where
     H: DeskBrand + Send + Sync + 'static,
@@ -109,7 +110,7 @@ where
             alloc,
             Operators::new(rt, alloc, desk, seats),
             scene,
-            text,
+            text.as_str(),
         ),
         Err(difference) => {
             desk.end(rt);

@@ -1,8 +1,20 @@
 use Rattle.std.proofs.Common.{◌≡◌, ◌∙◌, ℕ, List, ap, sym}
+use denote.Exit.{yes}
+use denote.Param.{copied}
+use denote.Param.Send.{param_send, arg_send}
 use Rattle.upward.specs.Upstream.{Asker}
+use Rattle.lane_wire.specs.contracts.wire_sink.WireSink as WireSink
 use Rattle.media_front.specs.Prices.{pli_octets}
 use Rattle.versions.specs.Published.{ReaderOf}
+use Rattle.x_simulation.specs.contracts.sink.FatedWire as FatedWire
+use Rattle.x_simulation.proofs.SinkLemmas.{wire_send, sink_send}
 use Rattle.x_simulation.proofs.scene.media_of.Goals as goal
+
+pub start-requires-send-S : goal.start-requires-send-S
+start-requires-send-S g c κs within =
+    let R = copied 1 g.row.R in
+    let W = FatedWire.the_row R in
+    param_send 2 _ (arg_send _ yes (WireSink.the_row W) (sink_send W (wire_send R c.type_bounds.send-R)))
 
 pub start-requires-clause-publisher : goal.start-requires-clause-publisher
 start-requires-clause-publisher g c κs within k d low =
