@@ -39,7 +39,7 @@ SECONDS, SHRINKING = 300, 120
 # A request for memory that is refused is one of so many.
 REQUESTS = 30_000
 # The script that a program with a bug plays, and for how many seconds. In its first schedule lanes drop items.
-PLANTED, PLANTED_SECONDS = (36, 20, 2, ROUNDS), 250
+PLANTED, PLANTED_SECONDS = (36, 8, 2, ROUNDS), 250
 
 GOOD = re.compile(r"played: \d+ lines, (\d+) rounds, (\d+) packets, (\d+) drops")
 DIFFERS = re.compile(r"line (\d+) differs: \w+(\(\d+\))?; the seats are (back|missing)")
