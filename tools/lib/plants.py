@@ -73,7 +73,7 @@ PLANTS = {
         "let _ = number;",
     ),
     "operators_go_on_after_quit": (
-        "operator_threads/src/talking.rt",
+        "operator_connection/src/talking.rt",
         "Next::Quit if !self.outgoing.is_over() => Standing::Ending,",
         "Next::Quit if !self.outgoing.is_over() => Standing::Open,",
     ),
@@ -88,7 +88,7 @@ PLANTS = {
         "            let _ = self.front;",
     ),
     "operators_write_twice": (
-        "operator_threads/src/caller.rt",
+        "operator_connection/src/caller.rt",
         "self.talk.note_write(came, now);",
         "let _ = now;",
     ),

@@ -27,6 +27,7 @@ import statistics
 from lib.gate import edits
 from lib.make.definitions import definition_files, words_of
 from lib.make.page import SOURCES, PARTS, WEB, stale
+from lib.plants import PLANTS
 from lib.shared import CRATES, ROOT, bridge_crates, crates
 
 NEEDS = "nothing"
@@ -358,9 +359,14 @@ def check_made():
     return not found
 
 
+def stands(file, old):
+    """Whether a text stands once in a file of crates/."""
+    return (CRATES / file).is_file() and (CRATES / file).read_text().count(old) == 1
+
+
 def check_edits():
-    """Prints which edits can't be made any more. Whether there are none."""
-    found = edits.stale()
+    """Prints which edits and plants can't be made any more. Whether there are none."""
+    found = edits.stale() + [f"plant {name}: {file}" for name, (file, old, _) in PLANTS.items() if not stands(file, old)]
     print(f"{len(found)} edits can't be made")
     print("".join(f"       {fault}\n" for fault in found), end="")
     return not found
