@@ -366,7 +366,8 @@ def stands(file, old):
 
 def check_edits():
     """Prints which edits and plants can't be made any more. Whether there are none."""
-    found = edits.stale() + [f"plant {name}: {file}" for name, (file, old, _) in PLANTS.items() if not stands(file, old)]
+    plants = [f"plant {name}: {file}" for name, (file, old, _) in PLANTS.items() if not stands(file, old)]
+    found = edits.stale() + plants
     print(f"{len(found)} edits can't be made")
     print("".join(f"       {fault}\n" for fault in found), end="")
     return not found
