@@ -11,10 +11,11 @@ use Rattle.rtrb.specs.Ring.{received}
 use Rattle.bridge_core.specs.Sent.{sent_of}
 use Rattle.media_workers.specs.declared.parcel.Parcel.TheVariants.{End}
 use Rattle.media_workers.specs.Parcels.{works}
-use Rattle.media_workers.specs.LaneRuns.{Ran, run_end}
+use Rattle.media_workers.specs.LaneRuns.{Ran, Versioned, versioned, Hears, run_end}
 use Rattle.media_workers.specs.declared.lane_end.LaneEnd.{LaneEnd}
 use Rattle.media_workers.specs.Ports.{PortOf, accept}
-use Rattle.media_workers.specs.Bridges.{Taking, Taker, EndsAs, AllEnded, StillFeeds, AllFeed}
+use Rattle.media_workers.specs.Bridges.{Taking, Hearing, Taker, EndsAs, AllEnded, StillFeeds, AllFeed}
+use Rattle.media_workers.specs.Bridges.{EndsTold, AllTold}
 use Rattle.media_workers.specs.inner.Threads.{Lasting, lasting}
 
 pub AllEnded-push : {N P S : Type 0} (answers : P → ℕ → Bool → Type 0) (taken : Taking S) (ps : List (PortOf P S))
@@ -66,6 +67,50 @@ AllFeed-alike feeds (p ∷ ps) [] es same fed = absurd (cc (same))
 AllFeed-alike feeds (p ∷ ps) (q ∷ qs) [] same fed = fed
 AllFeed-alike feeds (p ∷ ps) (q ∷ qs) (e ∷ es) same fed =
     (feed_alike feeds p q e (cc (same)) fed.0, AllFeed-alike feeds ps qs es (cc (same)) fed.1)
+
+pub AllTold-push : {N P S : Type 0} (answers : P → ℕ → Bool → Type 0) (taken : Taking S) (hearing : Hearing S)
+    (ps : List (PortOf P S)) (es : List (LaneEnd N S)) (p : PortOf P S) (e : LaneEnd N S)
+    → AllTold answers taken hearing ps es → EndsTold answers taken hearing p e
+    → AllTold answers taken hearing (ps ++ p ∷ []) (es ++ e ∷ [])
+AllTold-push answers taken hearing [] [] p e old one = (one, tt)
+AllTold-push answers taken hearing [] (d ∷ es) p e old one = absurd old
+AllTold-push answers taken hearing (q ∷ ps) [] p e old one = absurd old
+AllTold-push answers taken hearing (q ∷ ps) (d ∷ es) p e old one =
+    (old.0, AllTold-push answers taken hearing ps es p e old.1 one)
+
+-- a run of what stays of a lane, and that its sink was told of it
+abbrev RanTold : {N P S : Type 0} → (P → ℕ → Bool → Type 0) → Taking S → Hearing S → LaneEnd N S → Lasting P S → Type 0
+RanTold answers taken hearing e c =
+    (ran : Ran c.lane (answers c.pace) (received e.consumer) (map sent_of (taken e.sink)) (run_end e))
+    × Hears hearing c.sink e.sink (map versioned ran.served)
+
+told_alike : {N P S : Type 0} (answers : P → ℕ → Bool → Type 0) (taken : Taking S) (hearing : Hearing S)
+    (p q : PortOf P S) (e : LaneEnd N S)
+    → lasting p ≡ lasting q → EndsTold answers taken hearing q e → EndsTold answers taken hearing p e
+told_alike {N} {P} {S} answers taken hearing p q e same told =
+    let both : RanTold answers taken hearing e (lasting p) =
+    subst (RanTold answers taken hearing e) (sym same) (told.ended.ran, told.heard) in
+    record {
+      ended = record {
+        ran = both.0;
+        some =
+            subst (λ (c : Lasting P S). IsPrefix (works (received e.consumer)) c.accepted) (sym same) told.ended.some;
+        all = λ front is. told.ended.all front is ∙ ap (λ (c : Lasting P S). c.accepted) (sym same);
+      };
+      heard = both.1;
+    }
+
+pub AllTold-alike : {N P S : Type 0} (answers : P → ℕ → Bool → Type 0) (taken : Taking S) (hearing : Hearing S)
+    (ps qs : List (PortOf P S)) (es : List (LaneEnd N S))
+    → map lasting ps ≡ map lasting qs → AllTold answers taken hearing qs es → AllTold answers taken hearing ps es
+AllTold-alike answers taken hearing [] [] es same told = told
+AllTold-alike answers taken hearing [] (q ∷ qs) es same told = absurd (cc (same))
+AllTold-alike answers taken hearing (p ∷ ps) [] es same told = absurd (cc (same))
+AllTold-alike answers taken hearing (p ∷ ps) (q ∷ qs) [] same told = told
+AllTold-alike answers taken hearing (p ∷ ps) (q ∷ qs) (e ∷ es) same told = (
+  told_alike answers taken hearing p q e (cc (same)) told.0,
+  AllTold-alike answers taken hearing ps qs es (cc (same)) told.1,
+)
 
 -- one lane is given its End, or none is
 pub one_ends : {P S : Type 0} (ps qs : List (PortOf P S)) (at : ℕ) → at < length ps

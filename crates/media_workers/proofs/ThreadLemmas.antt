@@ -11,7 +11,7 @@ use Rattle.bridge_core.specs.declared.egress.Egress.{Egress}
 use Rattle.media_workers.specs.declared.parcel.Parcel.{Parcel}
 use Rattle.media_workers.specs.declared.parcel.Parcel.TheVariants.{Work, End}
 use Rattle.media_workers.specs.Parcels.{works}
-use Rattle.media_workers.specs.LaneRuns.{Ran, RunEnd, Traffic}
+use Rattle.media_workers.specs.LaneRuns.{Ran, RunEnd, Traffic, Versioned, versioned}
 use Rattle.media_workers.specs.Ports.{PortOf, accept, Ended}
 use Rattle.media_workers.specs.inner.Threads.{is_end, ending, IsWhole}
 
@@ -104,3 +104,24 @@ port_ended port answers ran shown ks pushed closed told run parcels_are egress_i
           let none : ks ≡ [] = end_is_last front ks (works pushed) closed (works_have_no_end pushed) last in
           sym (append-nil _) ∙ (ap (λ w. works shown.parcels ++ works w) (sym none) ∙ all);
     }
+
+-- what was shown of a run that a sink was told of
+pub port_told : {P S : Type 0} (port : PortOf P S) (answers : ℕ → Bool → Type 0) (ran : Traffic) (shown : Traffic)
+    (ks pushed : List Parcel) (closed : Bool) (told : RunEnd) (hears : List Versioned → Type 0)
+    → (run : Ran port.lane answers ran.parcels (map sent_of ran.egress) told) → hears (map versioned run.served)
+    → shown.parcels ≡ ran.parcels → shown.egress ≡ ran.egress
+    → shown.parcels ++ ks ≡ pushed → IsWhole pushed closed → port.accepted ≡ works pushed
+    → (ended : Ended port answers shown told) × hears (map versioned ended.ran.served)
+port_told port answers ran shown ks pushed closed told hears run heard parcels_are egress_is down whole accepted =
+    let old = port_ended port answers ran shown ks pushed closed told run parcels_are egress_is down whole accepted in
+    let one =
+    subst
+    (λ (w : List Parcel).
+    (r : Ran port.lane answers w (map sent_of ran.egress) told) × hears (map versioned r.served)) (sym parcels_are)
+    (run, heard) in
+    let both =
+    subst
+    (λ (w : List (Egress Global)).
+    (r : Ran port.lane answers shown.parcels (map sent_of w) told) × hears (map versioned r.served)) (sym egress_is)
+    one in
+    (record { ran = both.0; some = old.some; all = old.all }, both.1)

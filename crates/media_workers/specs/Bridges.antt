@@ -8,7 +8,7 @@ use Rattle.upward.specs.Upstream.{Asker}
 use Rattle.bridge_core.specs.declared.egress.Egress.{Egress}
 use Rattle.bridge_core.specs.LaneState.{HasHandled}
 use Rattle.media_workers.specs.declared.lane_end.LaneEnd.{LaneEnd}
-use Rattle.media_workers.specs.LaneRuns.{LaneNow, Traffic, run_end}
+use Rattle.media_workers.specs.LaneRuns.{LaneNow, Traffic, Versioned, versioned, Hears, run_end}
 use Rattle.media_workers.specs.Ports.{PortOf, port_of, Ended}
 
 -- The lane is that of this place among so many of a bridge of this name, and has handled nothing.
@@ -62,3 +62,23 @@ AllFeed feeds [] [] = Unit {0}
 AllFeed feeds [] (e ∷ es) = ⊥
 AllFeed feeds (p ∷ ps) [] = ⊥
 AllFeed feeds (p ∷ ps) (e ∷ es) = StillFeeds feeds p e × AllFeed feeds ps es
+
+-- what a sink was told that its lane handled, oldest first
+abbrev pub Hearing : Type 0 → Type 1
+Hearing S = S → List Versioned → Type 0
+
+-- This is how the lane ended, and its sink was told what the lane handled: each item once, in their order, with the
+-- version by which.
+pub record EndsTold {N P S : Type 0} (answers : P → ℕ → Bool → Type 0) (taken : Taking S) (hearing : Hearing S)
+    (port : PortOf P S) (end : LaneEnd N S) : Type 0 where
+  pub ended : EndsAs answers taken port end
+  pub heard : Hears hearing port.sink end.sink (map versioned ended.ran.served)
+
+-- The same of each lane.
+abbrev pub AllTold : {N P S : Type 0} → (P → ℕ → Bool → Type 0) → Taking S → Hearing S → List (PortOf P S)
+    → List (LaneEnd N S) → Type 0
+AllTold answers taken hearing [] [] = Unit {0}
+AllTold answers taken hearing [] (e ∷ es) = ⊥
+AllTold answers taken hearing (p ∷ ps) [] = ⊥
+AllTold answers taken hearing (p ∷ ps) (e ∷ es) =
+    EndsTold answers taken hearing p e × AllTold answers taken hearing ps es

@@ -5,7 +5,7 @@ ghost use Rattle.std.specs.Prelude.{IfOk, OnOk, IfErr, slice_get, slice_set, vec
 ghost use Rattle.media_workers.specs.Parcels.{IsFit};
 ghost use Rattle.media_workers.specs.LaneRuns.{LaneNow};
 ghost use Rattle.media_workers.specs.Ports.{PortOf, ring_places, accept};
-ghost use Rattle.media_workers.specs.Bridges.{AreNew, AllEnded, AllFeed, ports_of};
+ghost use Rattle.media_workers.specs.Bridges.{AreNew, AllEnded, AllFeed, AllTold, ports_of};
 ghost use Rattle.media_workers.specs.declared.parcel.Parcel.TheVariants.{End};
 
 use crate::every_port::{close_all, end_at};
@@ -154,6 +154,7 @@ impl<N: PublisherName, P: Pace, S: Sink> Bridge<N, P, S> {
     pub fn close<R: Threads + Wait>(self, rt: &R) -> Vec<LaneEnd<N, S>>
         ensures ended { AllEnded P.answers S.taken self result.items }
         ensures fed { AllFeed S.feeds self result.items }
+        ensures told { AllTold P.answers S.taken S.heard self result.items }
     {
         let Bridge { ports, ends } = self;
         close_all(rt, ports, ends)

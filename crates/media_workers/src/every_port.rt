@@ -3,7 +3,7 @@
 ghost use Rattle.std.specs.Prelude.{◌≡◌, ◌⊎◌, ◌<◌, ◌≤◌, [], Some, length, map};
 ghost use Rattle.std.specs.Prelude.{slice_get, slice_set, vec_len, vec_capacity};
 ghost use Rattle.media_workers.specs.Ports.{PortOf, accept};
-ghost use Rattle.media_workers.specs.Bridges.{AllEnded, AllFeed};
+ghost use Rattle.media_workers.specs.Bridges.{AllEnded, AllFeed, AllTold};
 ghost use Rattle.media_workers.specs.inner.Threads.{lasting};
 ghost use Rattle.media_workers.specs.declared.parcel.Parcel.TheVariants.{End};
 
@@ -55,6 +55,7 @@ fn finish_all<N: PublisherName, P: Pace, S: Sink, R: Threads>(
     requires capacity { vec_len ports ≤ vec_capacity ends }
     ensures ended { AllEnded P.answers S.taken ports.items result.items }
     ensures fed { AllFeed S.feeds ports.items result.items }
+    ensures told { AllTold P.answers S.taken S.heard ports.items result.items }
 {
     let mut ends = ends;
     for port in ports {
@@ -73,6 +74,7 @@ pub fn close_all<N: PublisherName, P: Pace, S: Sink, R: Threads + Wait>(
     requires capacity { vec_len ports ≤ vec_capacity ends }
     ensures ended { AllEnded P.answers S.taken ports.items result.items }
     ensures fed { AllFeed S.feeds ports.items result.items }
+    ensures told { AllTold P.answers S.taken S.heard ports.items result.items }
 {
     let mut ports = ports;
     end_each(rt, &mut ports);

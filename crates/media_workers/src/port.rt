@@ -4,7 +4,7 @@ ghost use Rattle.std.specs.Prelude.{◌≡◌, ◌≢◌, ◌≤◌, false, [], 
 ghost use Rattle.rtrb.specs.Ring.{sent, received, IsPair};
 ghost use Rattle.media_workers.specs.Parcels.{IsFit};
 ghost use Rattle.media_workers.specs.Ports.{ring_places, port_of, accept};
-ghost use Rattle.media_workers.specs.Bridges.{EndsAs, StillFeeds};
+ghost use Rattle.media_workers.specs.Bridges.{EndsAs, EndsTold, StillFeeds};
 ghost use Rattle.media_workers.specs.inner.Threads.{IsRunOf, is_end};
 
 use crate::fault::StartFault;
@@ -103,7 +103,7 @@ where
         let own = *rt;
         let run = move || -> LaneEnd<N, S>
             requires { lane.reader.publisher ≡ N.publisher }
-            ensures { IsRunOf P.answers S.taken S.feeds lane consumer sink pace result }
+            ensures { IsRunOf P.answers S.taken S.feeds S.heard lane consumer sink pace result }
         {
             let end = lane.run(&own, alloc, consumer, sink, pace);
             flag.store(true, Ordering::SeqCst);
@@ -185,6 +185,7 @@ impl<N: PublisherName, P: Pace, S: Sink> Port<N, P, S> {
     pub fn finish<R: Threads>(self, rt: &R) -> LaneEnd<N, S>
         ensures ended { EndsAs P.answers S.taken self result }
         ensures fed { StillFeeds S.feeds self result }
+        ensures told { EndsTold P.answers S.taken S.heard self result }
     {
         let Port {
             mut parcels,

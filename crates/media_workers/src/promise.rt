@@ -53,5 +53,5 @@ impl<N: PublisherName, P: Pace, S: Sink> RunOf<N, P, S> {
 
 impl<N: PublisherName, P: Pace, S: Sink> Promise<LaneEnd<N, S>> for RunOf<N, P, S> {
     ghost kept_by = { λ p r.
-        IsRunOf P.answers S.taken S.feeds p.lane.value p.consumer.value p.sink.value p.pace.value r };
+        IsRunOf P.answers S.taken S.feeds S.heard p.lane.value p.consumer.value p.sink.value p.pace.value r };
 }

@@ -1,7 +1,7 @@
 //! A sink that keeps what it takes.
 
 use bridge_core::Egress;
-use media_workers::Sink;
+use media_workers::{LaneItem, Sink};
 use std::alloc::Global;
 use std::sync::Wait;
 
@@ -36,9 +36,13 @@ impl Sink for ListSink {
 
     ghost feeds = { λ s c. Unit {0} };
 
+    ghost heard = { λ s l. ⊥ };
+
     fn put<R: Wait>(&mut self, rt: &R, egress: Egress) {
         if self.sent.push(egress).is_err() {
             never(rt);
         }
     }
+
+    fn handled<R: Wait>(&mut self, _rt: &R, _version: u64, _item: LaneItem) {}
 }

@@ -8,9 +8,9 @@ use Rattle.media_workers.specs.declared.parcel.Parcel.{Parcel}
 use Rattle.media_workers.specs.declared.parcel.Parcel.TheVariants.{Work, End}
 use Rattle.media_workers.specs.declared.parcel.FitParcels.{FitParcels}
 use Rattle.media_workers.specs.Parcels.{works}
-use Rattle.media_workers.specs.LaneRuns.{LaneNow, HasRun, run_end}
+use Rattle.media_workers.specs.LaneRuns.{LaneNow, HasTold, Hears, run_end}
 use Rattle.media_workers.specs.Ports.{PortOf}
-use Rattle.media_workers.specs.Bridges.{Taking, Taker, traffic_of}
+use Rattle.media_workers.specs.Bridges.{Taking, Hearing, Taker, traffic_of}
 
 -- it is an End
 abbrev pub is_end : Parcel → Bool
@@ -28,11 +28,12 @@ ParcelsIn N = Consumer Parcel Global (FitParcels N)
 
 -- This is how a lane's run ended that began with this lane, this ring end, this sink and this pace.
 pub record IsRunOf {N P S : Type 0} (answers : P → ℕ → Bool → Type 0) (taken : Taking S) (feeds : S → Taker → Type 0)
-    (lane : LaneNow) (consumer : ParcelsIn N) (sink : S) (pace : P) (end : LaneEnd N S) : Type 0 where
+    (hearing : Hearing S) (lane : LaneNow) (consumer : ParcelsIn N) (sink : S) (pace : P)
+    (end : LaneEnd N S) : Type 0 where
   pub ring : SameConsumer consumer end.consumer
   pub fed : (c : Taker) → feeds sink c → feeds end.sink c
-  pub ran : HasRun lane (answers pace) (record { parcels = received consumer; egress = taken sink })
-      (traffic_of taken end) (run_end end)
+  pub told : HasTold lane (answers pace) (record { parcels = received consumer; egress = taken sink })
+      (traffic_of taken end) (run_end end) (Hears hearing sink end.sink)
 
 -- What ties what was sent down to a lane to whether it has had its End.
 abbrev pub IsWhole : List Parcel → Bool → Type 0

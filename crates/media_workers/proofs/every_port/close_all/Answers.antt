@@ -2,7 +2,7 @@ use Rattle.std.proofs.Common.{◌≡◌, ◌∙◌, ◌++◌, List, length, take
 use Rattle.std.proofs.lemmas.Grind.{common_steps}
 use Rattle.media_workers.specs.Ports.{PortOf}
 use Rattle.media_workers.specs.inner.Threads.{lasting}
-use Rattle.media_workers.proofs.BridgeLemmas.{AllEnded-alike, AllFeed-alike}
+use Rattle.media_workers.proofs.BridgeLemmas.{AllEnded-alike, AllFeed-alike, AllTold-alike}
 use Rattle.media_workers.proofs.every_port.close_all.Goals as goal
 
 pub returns : goal.returns
@@ -17,4 +17,7 @@ returns g c =
           AllEnded-alike g.P.Pace.answers g.S.Sink.taken c.args.ports.items _ c.finish_all.result.items same
           c.finish_all.ensures.ended;
       fed = AllFeed-alike g.S.Sink.feeds c.args.ports.items _ c.finish_all.result.items same c.finish_all.ensures.fed;
+      told =
+          AllTold-alike g.P.Pace.answers g.S.Sink.taken g.S.Sink.heard c.args.ports.items _ c.finish_all.result.items
+          same c.finish_all.ensures.told;
     }
