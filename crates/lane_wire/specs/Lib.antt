@@ -1,5 +1,7 @@
-pub mod Tries
-pub mod Logs
+pub mod Handlings
 pub mod Counted
+pub mod Logs
 pub mod Sendings
 pub mod Streams
+pub mod Tries
+pub mod inner

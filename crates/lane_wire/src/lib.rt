@@ -7,7 +7,8 @@
 //!
 //! Contracts see a sink as the list of what it took, and a wire as the list of what was done on it: each try to send a
 //! datagram, with its answer, and each pause. Of a socket both lists exist in proofs alone: [`Taken`] and [`WireLog`]
-//! keep them without memory.
+//! keep them without memory. So does [`HandledLog`] with what the sink was told that its lane handled. A sink from
+//! [`WireSink::traced`] hands that on over the ring of a [`LaneTrace`].
 //!
 //! ```rust
 //! // wire: a `LaneWire`; egress: what a lane sends
@@ -21,6 +22,9 @@
 
 mod counts;
 mod fault;
+mod handled;
+mod kept_streams;
+mod lane_trace;
 mod sending;
 mod shared_counts;
 mod stream_counts;
@@ -31,10 +35,12 @@ mod wire_sink;
 
 pub use self::counts::SendCounts;
 pub use self::fault::SendFault;
+pub use self::handled::{Handled, HandledLog};
+pub use self::lane_trace::{LaneHandled, LaneTrace};
 pub use self::sending::LaneWire;
 pub use self::shared_counts::SharedCounts;
 pub use self::stream_counts::StreamCounts;
-pub use self::stream_numbers::{StreamNews, StreamNumbers};
+pub use self::stream_numbers::{KeptStream, Reported, StreamNews, StreamNumbers};
 pub use self::taken::Taken;
 pub use self::wire_log::WireLog;
 pub use self::wire_sink::{LaneSent, WireSink};

@@ -52,8 +52,8 @@ impl SharedCounts {
         kept
     }
 
-    /// Copies what is counted of each stream, the latest one first: of so many at most. The only error is out of
-    /// memory.
+    /// Copies what is counted of each stream, in the order in which the streams were counted first: of so many at most,
+    /// of those that began last. The only error is out of memory.
     pub fn copy_streams<R: Wait>(
         &self,
         rt: &R,

@@ -1,11 +1,21 @@
 //! What is counted of one outgoing stream.
 
 ghost use Rattle.std.specs.Prelude.{◌≡◌};
-ghost use Rattle.lane_wire.specs.Streams.{no_numbers, news_of, after_news};
+ghost use Rattle.lane_wire.specs.Streams.{no_numbers, news_of, after_news, after_more, first_kept};
 
 use crate::counts::octets_in;
 use crate::fault::SendFault;
 use bridge_core::{Egress, LossNote};
+use rtp_codec::Address;
+
+/// What a receiver reported of a stream.
+#[derive(Clone, Copy)]
+pub struct Reported {
+    /// The receiver's address.
+    pub from: Address,
+    /// What its report block says.
+    pub note: LossNote,
+}
 
 /// What is counted of an outgoing stream, and what its receiver reported last. Each count ends at 2^64 - 1.
 #[derive(Clone, Copy)]
@@ -17,7 +27,16 @@ pub struct StreamNumbers {
     /// How many of these packets were sent again.
     pub resent: u64,
     /// What its receiver reported last.
-    pub report: Option<LossNote>,
+    pub report: Option<Reported>,
+}
+
+/// What is kept of an outgoing stream.
+#[derive(Clone, Copy)]
+pub struct KeptStream {
+    /// What is counted of it.
+    pub numbers: StreamNumbers,
+    /// The number of its last news among those of all streams, from 1. It ends at 2^64 - 1.
+    pub last: u64,
 }
 
 /// What is new of an outgoing stream.
@@ -31,7 +50,7 @@ pub enum StreamNews {
         is_resent: bool,
     },
     /// Its receiver reported.
-    Report(LossNote),
+    Report(Reported),
 }
 
 /// What is new, and of which stream, where the last try to send this had this answer.
@@ -54,7 +73,13 @@ pub(crate) fn news_of(egress: &Egress, answer: Result<(), SendFault>) -> Option<
             Err(_) => None,
         },
         Egress::Control { .. } => None,
-        Egress::Note { note, .. } => Some((note.out_ssrc, StreamNews::Report(*note))),
+        Egress::Note { from, note, .. } => {
+            let reported = Reported {
+                from: *from,
+                note: *note,
+            };
+            Some((note.out_ssrc, StreamNews::Report(reported)))
+        }
     }
 }
 
@@ -81,7 +106,29 @@ impl StreamNumbers {
                 self.octets = self.octets.saturating_add(octets);
                 self.resent = self.resent.saturating_add(u64::from(is_resent));
             }
-            StreamNews::Report(note) => self.report = Some(note),
+            StreamNews::Report(reported) => self.report = Some(reported),
         }
+    }
+}
+
+impl KeptStream {
+    /// Nothing is kept but the first news, which have this number.
+    pub(crate) fn first(news: StreamNews, number: u64) -> Self
+        ensures { result ≡ first_kept news number }
+    {
+        let mut numbers = StreamNumbers::new();
+        numbers.count(news);
+        Self {
+            numbers,
+            last: number,
+        }
+    }
+
+    /// Counts what is new, which has this number.
+    pub(crate) fn count(&mut self, news: StreamNews, number: u64)
+        ensures { self.new ≡ after_more news number self.old }
+    {
+        self.numbers.count(news);
+        self.last = number;
     }
 }

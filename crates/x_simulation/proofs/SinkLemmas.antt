@@ -8,6 +8,7 @@ use Rattle.std.proofs.Crossing.{crosses, send, Arc-send}
 use Rattle.lane_wire.specs.contracts.counts.SendCounts as SendCounts
 use Rattle.lane_wire.specs.contracts.shared_counts.SharedCounts as SharedCounts
 use Rattle.lane_wire.proofs.shared_counts.SharedCounts.TheSendSync as shown
+use Rattle.lane_wire.proofs.HandledLemmas.{handled_send}
 use Rattle.lane_wire.specs.contracts.taken.Taken as Taken
 use Rattle.lane_wire.specs.contracts.wire_log.WireLog as WireLog
 use Rattle.lane_wire.specs.contracts.wire_sink.LaneSent as LaneSent
@@ -62,5 +63,5 @@ pub sink_send : (W : RattleType) → IsSend W → IsSend (WireSink.the_row W)
 sink_send W s =
     let T = WireSink.the_type W in
     let counted = Arc-send SharedCounts.the_row shown.the_send shown.the_sync in
-    let all : AllSend (fields T) = (s, (sent, (bit, (counted, tt)))) in
+    let all : AllSend (fields T) = (s, (sent, (bit, (handled_send, (counted, tt))))) in
     recorded_send (Struct (shape T)) T.D T.to T.to_one (struct_send (shape T) all)
