@@ -1,6 +1,6 @@
 -- Lanes whose entries saw beginnings of one list.
-use Rattle.std.proofs.Common.{Bool, ◌≡◌, ◌⊎◌, ◌+◌, ◌<◌, ◌≤◌, ℕ, zero, suc, List, [], ◌∷◌, ◌++◌, length, map, take}
-use Rattle.std.proofs.Common.{slice_get, Some, Option, IfSome, refl, ap, sym, subst, ◌∙◌, ⊎_elim, arith}
+use Rattle.std.proofs.Common.{Bool, ◌≡◌, ◌+◌, ◌≤◌, ℕ, zero, suc, List, [], ◌∷◌, ◌++◌, length, map, take}
+use Rattle.std.proofs.Common.{slice_get, Some, refl, ap, sym, subst, ◌∙◌, arith}
 use Rattle.std.specs.List.{AllByRecursion}
 use Rattle.std.specs.Prelude.{slice_index_or}
 use Rattle.std.proofs.lemmas.List.{length-map}
@@ -12,8 +12,8 @@ use Rattle.desk_rows.specs.Edit.{EditOf}
 use Rattle.desk_edit.specs.Asked.{CallOf as Call}
 use Rattle.desk_edit.specs.Calls.{no_calls, desk_now}
 use Rattle.desk_calls.specs.Accepted.{after_calls}
-use Rattle.versions.specs.Published.{NoticeOf, after_lists}
-use Rattle.versions.proofs.Prefixes.{prefix_self, prefix_trans, prefix_whole, prefix_length}
+use Rattle.versions.specs.Published.{after_lists}
+use Rattle.versions.proofs.Prefixes.{prefix_trans, prefix_whole, prefix_length}
 use Rattle.upward.specs.Upstream.{Asker}
 use Rattle.bridge_core.specs.Sent.{Sent, sent_of}
 use Rattle.bridge_core.specs.Lanes.{Visit}
@@ -25,13 +25,13 @@ use Rattle.media_workers.specs.declared.lane_end.LaneEnd.{LaneEnd}
 use Rattle.media_workers.specs.declared.parcel.Parcel.{Parcel}
 use Rattle.media_workers.specs.declared.parcel.Parcel.TheVariants.{Work, End}
 use Rattle.media_workers.specs.Parcels.{works}
-use Rattle.media_workers.specs.LaneRuns.{LaneNow, Served, AreServed, visits_from, all_sent}
+use Rattle.media_workers.specs.LaneRuns.{LaneNow, Served, AreServed, Versioned, versioned, visits_from, all_sent}
 use Rattle.media_workers.specs.Ports.{PortOf}
 use Rattle.media_workers.specs.Bridges.{Taking, EndsAs, AllEnded, AreNew}
-use Rattle.lane_laws.specs.Merges.{Versioned, InOrder, UpTo}
+use Rattle.lane_laws.specs.Merges.{InOrder, UpTo}
 use Rattle.lane_laws.specs.Visits.{desk_at, visits_by}
 use Rattle.lane_laws.specs.OneList.{sent_by}
-use Rattle.lane_laws.specs.Learnt.{HasNotice, HasSeen, AllSeen, HaveKnown, AllBegin, lanes_of, versioned, handled}
+use Rattle.lane_laws.specs.Learnt.{HasNotice, HasSeen, AllSeen, HaveKnown, AllBegin, lanes_of, handled}
 use Rattle.lane_laws.proofs.Merging.{lower}
 
 -- ---- beginnings
@@ -176,23 +176,34 @@ SendsBy who many start calls lanes shares =
     → UpTo (length calls) items
     → shares lane ≡ all_sent who lane many [] (visits_by (desk_at start calls) 0 items)
 
-pub sent_share : {N P S : Type 0} (lists : List (List EditOf)) (start : Desk) (log : List EntryOf)
+-- the items of a lane are in order, and none is later than the last call
+pub items_fit : {N P S : Type 0} (lists : List (List EditOf)) (start : Desk) (log : List EntryOf)
+    (answers : P → ℕ → Bool → Type 0) (taken : Taking S) (port : PortOf P S) (end : LaneEnd N S)
+    (ended : EndsAs answers taken port end)
+    → AreDesks start log lists → HasSeen lists answers taken port end ended
+    → InOrder 0 (map versioned ended.ran.served) × UpTo (length (calls_of log)) (map versioned ended.ran.served)
+items_fit lists start log answers taken port end ended desks seen =
+    let ran = ended.ran in
+    let known = port.lane.reader.lists in
+    let many : length lists ≡ length (calls_of log) = desks.many ∙ sym (length-map log (λ (e : EntryOf). e.call)) in (
+      lower 0 (length known) (map versioned ran.served) (omega arith)
+          (in_order known ran.done ran.served ran.in_order),
+      up_to (length (calls_of log)) lists ran.served many seen,
+    )
+
+-- what a lane sent is what it sends for its items by themselves
+pub sent_itself : {N P S : Type 0} (lists : List (List EditOf)) (start : Desk) (log : List EntryOf)
     (answers : P → ℕ → Bool → Type 0) (taken : Taking S) (ports : List (PortOf P S)) (lanes : List (List Versioned))
-    (lane : ℕ) (end : LaneEnd N S) (new : AreNew (lanes_of ports)) (shares : ℕ → List Sent)
+    (lane : ℕ) (end : LaneEnd N S) (new : AreNew (lanes_of ports))
     → AreDesks start log lists → AllBegin start (lanes_of ports)
-    → SendsBy new.0 (length ports) start (calls_of log) lanes shares → AtPlace lists answers taken ports lanes lane end
-    → map sent_of (taken end.sink) ≡ shares lane
-sent_share {N} {P} {S} lists start log answers taken ports lanes lane end new shares desks begin merged here =
+    → (here : AtPlace lists answers taken ports lanes lane end)
+    → map sent_of (taken end.sink)
+    ≡ all_sent new.0 lane (length ports) []
+    (visits_by (desk_at start (calls_of log)) 0 (map versioned here.ended.ran.served))
+sent_itself {N} {P} {S} lists start log answers taken ports lanes lane end new desks begin here =
     let ran = here.ended.ran in
     let state = here.port.lane.state in
     let is = new.1 lane here.port.lane here.its_lane in
-    let known = here.port.lane.reader.lists in
-    let seen = here.seen in
-    let items = map versioned ran.served in
-    let order : InOrder 0 items =
-    lower 0 (length known) items (omega arith) (in_order known ran.done ran.served ran.in_order) in
-    let many : length lists ≡ length (calls_of log) = desks.many ∙ sym (length-map log (λ (e : EntryOf). e.call)) in
-    let few = up_to (length (calls_of log)) lists ran.served many seen in
     let visits = visits_from here.port.lane.reader.start 0 ran.served in
     ran.sends [] is.none
     ∙ (ap (λ (w : Asker). all_sent w state.lane state.lanes [] visits) is.who
@@ -200,8 +211,18 @@ sent_share {N} {P} {S} lists start log answers taken ports lanes lane end new sh
     ∙ (ap (λ (k : ℕ). all_sent new.0 lane k [] visits) (is.lanes ∙ length-map ports (λ (p : PortOf P S). p.lane))
     ∙ (ap (λ (d : Desk). all_sent new.0 lane (length ports) [] (visits_from d 0 ran.served))
     (begins_there start (lanes_of ports) lane here.port.lane begin here.its_lane)
-    ∙ (ap (all_sent new.0 lane (length ports) []) (visits_are start log lists 0 ran.served desks seen)
-    ∙ sym (merged lane items here.items order few))))))
+    ∙ ap (all_sent new.0 lane (length ports) []) (visits_are start log lists 0 ran.served desks here.seen)))))
+
+pub sent_share : {N P S : Type 0} (lists : List (List EditOf)) (start : Desk) (log : List EntryOf)
+    (answers : P → ℕ → Bool → Type 0) (taken : Taking S) (ports : List (PortOf P S)) (lanes : List (List Versioned))
+    (lane : ℕ) (end : LaneEnd N S) (new : AreNew (lanes_of ports)) (shares : ℕ → List Sent)
+    → AreDesks start log lists → AllBegin start (lanes_of ports)
+    → SendsBy new.0 (length ports) start (calls_of log) lanes shares → AtPlace lists answers taken ports lanes lane end
+    → map sent_of (taken end.sink) ≡ shares lane
+sent_share lists start log answers taken ports lanes lane end new shares desks begin merged here =
+    let fit = items_fit lists start log answers taken here.port end here.ended desks here.seen in
+    sent_itself lists start log answers taken ports lanes lane end new desks begin here
+    ∙ sym (merged lane (map versioned here.ended.ran.served) here.items fit.0 fit.1)
 
 -- what a lane sent is what its end's sink took
 pub own_end : {N S : Type 0} (taken : Taking S) (ends : List (LaneEnd N S)) (lane : ℕ) (own : List Sent)

@@ -1,5 +1,5 @@
 -- Lanes whose entries saw beginnings of one list of publishes (own).
-use Rattle.std.specs.Prelude.{◌≡◌, ℕ, Bool, true, List, [], ◌∷◌, length, map, Some}
+use Rattle.std.specs.Prelude.{◌≡◌, ℕ, Bool, true, List, [], ◌∷◌, map, Some}
 use Rattle.std.specs.List.{All, AllByRecursion, Contains}
 use mathlib.Core.List.{IsPrefix}
 use Rattle.logbook.specs.Pages.{Book}
@@ -14,10 +14,10 @@ use Rattle.media_workers.specs.declared.lane_end.LaneEnd.{LaneEnd}
 use Rattle.media_workers.specs.declared.lane_item.LaneItem.{LaneItem}
 use Rattle.media_workers.specs.declared.parcel.Parcel.{Parcel}
 use Rattle.media_workers.specs.declared.parcel.Parcel.TheVariants.{Work}
-use Rattle.media_workers.specs.LaneRuns.{LaneNow, Served}
+use Rattle.media_workers.specs.LaneRuns.{LaneNow, Served, Versioned, versioned}
 use Rattle.media_workers.specs.Ports.{PortOf}
 use Rattle.media_workers.specs.Bridges.{Taking, EndsAs, AreNew, AllEnded}
-use Rattle.lane_laws.specs.Merges.{Versioned, merge}
+use Rattle.lane_laws.specs.Merges.{merge}
 
 -- one of these parcels has a notice of these lists
 abbrev pub HasNotice : List (List EditOf) → List Parcel → Type 0
@@ -58,10 +58,6 @@ AllRead publisher lanes = All (λ (lane : LaneNow). lane.reader.publisher ≡ pu
 abbrev pub HaveEnded : {N P S : Type 0} → (P → ℕ → Bool → Type 0) → Taking S → Book → List (LaneEnd N S) → Type 0
 HaveEnded {N} {P} {S} answers taken publisher ends =
     (ports : List (PortOf P S)) × AllEnded answers taken ports ends × AllRead publisher (lanes_of ports)
-
--- an item that was handled, with its version: how many lists its entry had
-abbrev pub versioned : Served → Versioned
-versioned s = record { version = length s.lists; input = s.input }
 
 -- the items that each lane handled, with their versions
 abbrev pub handled : {N P S : Type 0} (answers : P → ℕ → Bool → Type 0) (taken : Taking S) (ports : List (PortOf P S))

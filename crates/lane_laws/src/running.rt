@@ -1,6 +1,6 @@
 //! Laws of a bridge whose lanes have ended.
 
-ghost use Rattle.std.specs.Prelude.{◌≡◌, ℕ, ◌<◌, ◌++◌, List, length, take};
+ghost use Rattle.std.specs.Prelude.{◌≡◌, ℕ, ◌<◌, ◌++◌, List, Some, length, take, slice_get};
 ghost use Rattle.desk_rows.specs.Desk.{Desk};
 ghost use Rattle.desk_rows.specs.Edit.{EditOf};
 ghost use Rattle.desk_edit.specs.Asked.{CallOf};
@@ -12,16 +12,18 @@ ghost use Rattle.bridge_core.specs.Named.{sent_on};
 ghost use Rattle.bridge_core.specs.EveryLane.{to_every};
 ghost use Rattle.operator_desk.specs.Entry.{EntryOf};
 ghost use Rattle.operator_desk.specs.LegalLogs.{calls_of, after_log};
+ghost use Rattle.media_workers.specs.LaneRuns.{Versioned};
 ghost use Rattle.media_workers.specs.Ports.{PortOf};
 ghost use Rattle.media_workers.specs.Bridges.{EndsAs, AllEnded};
 ghost use Rattle.media_workers.specs.declared.lane_end.LaneEnd.{LaneEnd as End};
 ghost use Rattle.lane_laws.specs.Undone.{HaveCommands, with_undos};
-ghost use Rattle.lane_laws.specs.Learnt.{HasNotice, AllSeen, HaveKnown, EndedAfter, merged};
+ghost use Rattle.lane_laws.specs.Learnt.{HasNotice, AllSeen, HaveKnown, EndedAfter, handled, merged};
 ghost use Rattle.lane_laws.specs.OneList.{AreShares, IsOneList, SendByVersions, sent_by};
+ghost use Rattle.lane_laws.specs.Replays.{ToldAfter, IsReplayed, by_told};
 
 use crate::laws::{
-    calls_keep_their_order, lanes_send_by_one_list, legal_lists_hold, packets_go_by_their_versions,
-    undos_give_the_desk_back,
+    calls_keep_their_order, lanes_send_by_one_list, legal_lists_hold, one_lane_sends_it_alone,
+    packets_go_by_their_versions, undos_give_the_desk_back,
 };
 use bridge_core::lane_count_does_not_matter;
 use media_workers::{Pace, PublisherName, Sink};
@@ -83,4 +85,24 @@ pub fn the_running_headline<N: PublisherName, P: Pace, S: Sink>()
     legal_lists_hold();
     packets_go_by_their_versions();
     lane_count_does_not_matter();
+}
+
+/// What a lane's sink was told replays the lane.
+///
+/// If what each lane's entries saw are beginnings of what was published, take the calls of the log and the items that
+/// the sink was told of, each by its version. For these a bridge of one lane sends all that the lane sent: the same
+/// packets, compounds and notes, by the same versions and item numbers, in the same order. Whatever else it sends is
+/// about streams of other lanes.
+///
+/// The items are those of the lane in the one list of [`the_running_headline`].
+pub fn a_lane_is_replayed<N: PublisherName, P: Pace, S: Sink>()
+    ensures { (start : Desk) (log : List EntryOf) (ports : List (PortOf P S)) (ends : List (End N S)) →
+        (h : ToldAfter P.answers S.taken S.heard start log ports ends) →
+        (place : ℕ) (port : PortOf P S) (end : End N S) →
+        slice_get ports place ≡ Some port → slice_get ends place ≡ Some end →
+        (items : List Versioned)
+        × (slice_get (handled P.answers S.taken ports ends (by_told h).ended) place ≡ Some items)
+        × IsReplayed S.taken S.heard (h.after.new).0 (length ports) place start (calls_of log) port.sink end items }
+{
+    one_lane_sends_it_alone();
 }
