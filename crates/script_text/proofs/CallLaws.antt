@@ -182,13 +182,13 @@ line_again c h = ap (call_of 0) (words_again c h) ∙ call_again 0 (call_words c
 -- ---- the line of an operator
 
 frame_is_none : (words : List (List ℕ)) (vs : List Value) (op : ℕ) (c : CallOf) {P : Type 0}
-    → frame_of (sighted vs) words ≡ Ok (Desk op c) → P
+    → frame_of 7 (sighted vs) words ≡ Ok (Desk op c) → P
 unfolding frame_of
 frame_is_none words vs op c e =
     let p = bind_ok (some_packets 7 words) _ (Desk op c) e in
     never (sighted vs p.0) (fault_of p.0) p.2
   where
-    never : (sighting : SourceFrame) (fault : Option FrameFault) {P : Type 0} → framed sighting fault ≡ Ok (Desk op c)
+    never : (sighting : SourceFrame) (fault : Option FrameFault) {P : Type 0} → framed 7 sighting fault ≡ Ok (Desk op c)
         → P
     never sighting None e = absurd cc
     never sighting (Some fault) e = absurd cc

@@ -13,13 +13,13 @@ use Rattle.script_text.specs.declared.fault.Fault.{Fault}
 use Rattle.script_text.specs.declared.fault.Fault.TheVariants.{UnknownWord, BadNumber}
 use Rattle.script_text.specs.Numbers.{decimal_of}
 use Rattle.script_text.specs.Words.{words_of, word_at, none_left, value_or, Lacks}
-use Rattle.script_text.specs.Requests.{Request, Begin, words_request}
+use Rattle.script_text.specs.Requests.{Request, Begin}
 use Rattle.script_text.specs.FirstLine.{bridge_word, renew_word, asker_of, renew_alone, renews_of, bridge_of}
 use Rattle.script_text.specs.FirstLine.{first_request, request_at, renew_words, bridge_words, bridge_line, IsNamed}
 use Rattle.script_text.proofs.NumberLemmas.{spelled, read}
 use Rattle.script_text.proofs.Joined.{AllFree, all_free, free_test, free_number, parts_joined, parts_lack}
 use Rattle.script_text.proofs.ValueLaws.{bind_ok, word_back, or_back}
-use Rattle.script_text.proofs.FirstLineLemmas.{words_never_begin, later_never_begins}
+use Rattle.script_text.proofs.FirstLineLemmas.{later_words_never_begin, later_never_begins}
 
 -- ---- what is written is read
 
@@ -105,7 +105,7 @@ of_back words who renews e =
 first_back : (words : List (List ℕ)) (who : Asker) (renews : Bool) → first_request words ≡ Ok (Begin who renews)
     → (rest : List (List ℕ)) × (words ≡ bridge_word ∷ rest) × Says rest who renews
 unfolding first_request
-first_back [] who renews e = absurd (words_never_begin [] who renews e)
+first_back [] who renews e = absurd (later_words_never_begin [] who renews e)
 first_back (word ∷ words) who renews e =
     elim (cases_Bool (bytes_eq word bridge_word)) [
       | inl is ↦ (
@@ -113,7 +113,7 @@ first_back (word ∷ words) who renews e =
         ap (λ (w : List ℕ). w ∷ words) ((bytes_eq-Decides word bridge_word).0 is),
         of_back words who renews (rw is at e),
       )
-      | inr isnt ↦ absurd (words_never_begin (word ∷ words) who renews (rw isnt at e))
+      | inr isnt ↦ absurd (later_words_never_begin (word ∷ words) who renews (rw isnt at e))
     ]
 
 name_lacks : (who : Asker) (renews : Bool) → All (Lacks 32) (bridge_words who renews) → Lacks 32 who.cname

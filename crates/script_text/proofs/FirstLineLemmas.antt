@@ -14,18 +14,20 @@ use Rattle.script_text.specs.declared.fault.Fault.TheVariants.{LineTooLong, BadB
 use Rattle.script_text.specs.declared.value.Value.{Value}
 use Rattle.script_text.specs.declared.name.LineKind.{LineKind}
 use Rattle.script_text.specs.declared.name.LineKind.TheVariants as kinds
-use Rattle.script_text.specs.Lines.{line_limit}
+use Rattle.script_text.specs.Lines.{limit_of}
 use Rattle.script_text.specs.Numbers.{decimal_of}
 use Rattle.script_text.specs.Words.{◌>>=◌, words_of, word_at, none_left, value_or}
 use Rattle.script_text.specs.Values.{values_of, number_at, address_at}
 use Rattle.script_text.specs.Calls.{call_of}
 use Rattle.script_text.specs.Requests.{Request, Nothing, Begin, Desk, Item, Rx, Wait, Report, Show, line_kind_of}
 use Rattle.script_text.specs.Requests.{front_of, some_packets, sighted, framed, frame_of, some_octets, rx_of}
-use Rattle.script_text.specs.Requests.{request_with, words_request, is_printable, line_request, request_of}
+use Rattle.script_text.specs.Requests.{request_with, words_request, is_printable, line_request}
+use Rattle.script_text.specs.ItemLines.{later_request, request_of}
 use Rattle.script_text.specs.FirstLine.{bridge_word, asker_of, renews_of, bridge_of, first_request, words_request_at}
 use Rattle.script_text.specs.FirstLine.{request_at}
 use Rattle.script_text.specs.Decodings.{Decoding, DecodesRequest}
 use Rattle.script_text.proofs.ValueLaws.{bind_ok}
+use Rattle.script_text.proofs.ItemLemmas.{not_item}
 
 -- what is read of a line that is too long, has a bad octet, or asks for nothing
 abbrev pub read_by : (long bad empty : Bool) → Result Request (ℕ × Fault) → Result Request (ℕ × Fault)
@@ -52,16 +54,16 @@ hears_either : (decoding : Decoding) (b : Bool) (words : List (List ℕ)) (other
 hears_either decoding true words other h = hears_bridge decoding words
 hears_either decoding false words other h = h
 
-hears_first : (decoding : Decoding) (words : List (List ℕ)) → DecodesRequest decoding (words_request words)
+hears_first : (decoding : Decoding) (words : List (List ℕ)) → DecodesRequest decoding (later_request words)
     → DecodesRequest decoding (first_request words)
 unfolding first_request
 hears_first decoding [] h = h
 hears_first decoding (word ∷ words) h =
-    hears_either decoding (bytes_eq word bridge_word) words (words_request (word ∷ words)) h
+    hears_either decoding (bytes_eq word bridge_word) words (later_request (word ∷ words)) h
 
 hears_words : (decoding : Decoding) (is_first : Bool) (words : List (List ℕ))
-    → DecodesRequest decoding (words_request words)
-    → DecodesRequest decoding (if is_first then first_request words else words_request words)
+    → DecodesRequest decoding (later_request words)
+    → DecodesRequest decoding (if is_first then first_request words else later_request words)
 hears_words decoding true words h = hears_first decoding words h
 hears_words decoding false words h = h
 
@@ -79,8 +81,8 @@ pub hears_at : (decoding : Decoding) (number : ℕ) (line : List ℕ) → Decode
 unfolding line_request
 hears_at decoding number line h =
     let words = words_of line in
-    hears_read decoding (nat_lt line_limit (length line)) (not (list_all is_printable line))
-    (length line == 0 || slice_index line 0 == 35) (words_request words) (words_request_at number words)
+    hears_read decoding (nat_lt (limit_of line) (length line)) (not (list_all is_printable line))
+    (length line == 0 || slice_index line 0 == 35) (later_request words) (words_request_at number words)
     (hears_words decoding (number == 1) words) h
 
 -- ---- only the first line says who the bridge is
@@ -107,11 +109,11 @@ never_begins kinds.Frame vs words who renews e =
     never (sighted vs p.0) (fault_of p.0) p.2
   where
     never : (sighting : SourceFrame) (fault : Option FrameFault) {P : Type 0}
-        → framed sighting fault ≡ Ok (Begin who renews) → P
+        → framed 7 sighting fault ≡ Ok (Begin who renews) → P
     never sighting None e = absurd cc
     never sighting (Some fault) e = absurd cc
 
-pub words_never_begin : (words : List (List ℕ)) (who : Asker) (renews : Bool)
+words_never_begin : (words : List (List ℕ)) (who : Asker) (renews : Bool)
     → words_request words ≡ Ok (Begin who renews) → ⊥
 unfolding words_request
 words_never_begin words who renews e =
@@ -119,6 +121,11 @@ words_never_begin words who renews e =
     let k = bind_ok (value_or 1 UnknownWord (line_kind_of w.0.0)) _ (Begin who renews) w.2 in
     let r = bind_ok (values_of 2 (front_of k.0) w.0.1) _ (Begin who renews) k.2 in
     never_begins k.0 r.0.0 r.0.1 who renews r.2
+
+pub later_words_never_begin : (words : List (List ℕ)) (who : Asker) (renews : Bool)
+    → later_request words ≡ Ok (Begin who renews) → ⊥
+later_words_never_begin words who renews e =
+    words_never_begin words who renews (not_item words (Begin who renews) (λ h. h) e)
 
 pub begins_by : (long bad empty : Bool) (read : Result Request (ℕ × Fault)) (who : Asker) (renews : Bool)
     → read_by long bad empty read ≡ Ok (Begin who renews) → read ≡ Ok (Begin who renews)
@@ -133,7 +140,7 @@ unfolding line_request
 later_never_begins number line who renews later e =
     let words = words_of line in
     let asked =
-    begins_by (nat_lt line_limit (length line)) (not (list_all is_printable line))
+    begins_by (nat_lt (limit_of line) (length line)) (not (list_all is_printable line))
     (length line == 0 || slice_index line 0 == 35) (words_request_at number words) who renews e in
-    words_never_begin words who renews
-    (sym (ap (λ (b : Bool). if b then first_request words else words_request words) later) ∙ asked)
+    later_words_never_begin words who renews
+    (sym (ap (λ (b : Bool). if b then first_request words else later_request words) later) ∙ asked)

@@ -138,7 +138,7 @@ same_item a b r e f = cc
 same_frame : (a b : SourceFrame) → frame a ≡ frame b → a ≡ b
 same_frame a b e = cc
 
-framed_back : (sighting f : SourceFrame) (fault : Option FrameFault) → framed sighting fault ≡ Ok (Item (frame f))
+framed_back : (sighting f : SourceFrame) (fault : Option FrameFault) → framed 7 sighting fault ≡ Ok (Item (frame f))
     → (fault ≡ None) × (sighting ≡ f)
 framed_back sighting f None e = (refl, same_frame sighting f (same_item (frame sighting) (frame f) _ refl e))
 framed_back sighting f (Some fault) e = absurd cc

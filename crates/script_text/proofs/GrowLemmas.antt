@@ -3,8 +3,8 @@ use Rattle.std.proofs.Common.{◌≡◌, ℕ, map, take, drop, get_or, ◌/◌, 
 use Rattle.std.proofs.Common.{length-append, Result, Ok, Err, refl, sym, ap, ◌∙◌, subst, append_assoc, arith}
 use Rattle.std.specs.Result.{IsErr}
 use Rattle.std.specs.Fmt.{decimal}
-use Rattle.std.specs.List.{join_with_byte}
-use Rattle.std.proofs.lemmas.List.{append-nil, take_more, take_all, take-append-drop, map-append}
+use Rattle.std.specs.List.{join_with_byte, flat_map}
+use Rattle.std.proofs.lemmas.List.{append-nil, take_more, take_all, take-append-drop, map-append, flat_map_more}
 use Rattle.hex.specs.Hex.{encode_with, encode_lower, lower_digits}
 use Rattle.rtp_codec.specs.declared.address.Address.{Address}
 use Rattle.script_text.specs.Addresses.{address_text}
@@ -77,6 +77,27 @@ encode_more xs k lt =
 
 pub encode_rest : (xs : List ℕ) (k : ℕ) → encode_lower (take k xs) ++ encode_lower (drop k xs) ≡ encode_lower xs
 encode_rest xs k = sym (encode_append (take k xs) (drop k xs)) ∙ ap encode_lower (take-append-drop k xs)
+
+-- one more of the values that have octets
+pub flat_more : {X : Type 0} (f : X → List ℕ) (xs : List X) (k : ℕ) (d : X) → k < length xs
+    → encode_lower (flat_map f (take k xs)) ++ encode_lower (f (get_or xs k d))
+    ≡ encode_lower (flat_map f (take (k + 1) xs))
+flat_more {X} f xs k d lt =
+    sym (encode_append (flat_map f (take k xs)) (f (get_or xs k d)))
+    ∙ ap encode_lower (flat_map_more f [] (take k xs) (get_or xs k d)
+    ∙ ap (flat_map f) (sym (take_more xs k d lt)))
+
+flat_append : {X : Type 0} (f : X → List ℕ) (xs ys : List X) → flat_map f xs ++ flat_map f ys ≡ flat_map f (xs ++ ys)
+flat_append {X} f [] ys = refl
+flat_append {X} f (x ∷ xs) ys =
+    append_assoc (f x) (flat_map f xs) (flat_map f ys) ∙ ap (λ (t : List ℕ). f x ++ t) (flat_append f xs ys)
+
+-- what stands behind the first of them
+pub flat_rest : {X : Type 0} (f : X → List ℕ) (xs : List X) (k : ℕ)
+    → encode_lower (flat_map f (take k xs)) ++ encode_lower (flat_map f (drop k xs)) ≡ encode_lower (flat_map f xs)
+flat_rest {X} f xs k =
+    sym (encode_append (flat_map f (take k xs)) (flat_map f (drop k xs)))
+    ∙ ap encode_lower (flat_append f (take k xs) (drop k xs) ∙ ap (flat_map f) (take-append-drop k xs))
 
 pub encode_none : [] ≡ encode_lower []
 unfolding encode_with

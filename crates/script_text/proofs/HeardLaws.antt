@@ -11,14 +11,16 @@ use Rattle.upward.specs.Upstream.{Asker}
 use Rattle.intake.specs.Readings.{Reading, too_long, IsReading}
 use Rattle.intake.specs.Taking.{Voice, IsVoice}
 use Rattle.script_text.specs.declared.fault.Fault.{Fault}
-use Rattle.script_text.specs.Lines.{line_limit}
+use Rattle.script_text.specs.Lines.{limit_of}
 use Rattle.script_text.specs.Words.{words_of}
 use Rattle.script_text.specs.Requests.{Request, Nothing, Begin, Desk, Item, Rx, Wait, Report, Show, is_printable}
-use Rattle.script_text.specs.Requests.{words_request, line_request, request_of}
+use Rattle.script_text.specs.Requests.{line_request}
+use Rattle.script_text.specs.ItemLines.{later_request, request_of}
 use Rattle.script_text.specs.Decodings.{Decoding, script_asker, IsDecoded, DecodesRequest, DecodesLines, InEachDecoding}
 use Rattle.script_text.specs.Lines.{lines_of}
 use Rattle.script_text.proofs.FirstLineLemmas.{read_by}
 use Rattle.script_text.proofs.RxLaws.{rx_back}
+use Rattle.script_text.proofs.ItemLemmas.{not_item}
 
 -- ---- all datagrams
 
@@ -79,9 +81,11 @@ line_octets : (line : List ℕ) (moment : ℕ) (from : Address) (octets : List �
     → request_of line ≡ Ok (Rx moment from octets) → AreOctets octets
 unfolding line_request
 line_octets line moment from octets e =
-    by_recursion octets (rx_back line moment from octets (words_read (nat_lt line_limit (length line))
-    (not (list_all is_printable line)) (length line == 0 || slice_index line 0 == 35) (words_request (words_of line))
-    moment from octets e)).3.bytes
+    let asked =
+    words_read (nat_lt (limit_of line) (length line)) (not (list_all is_printable line))
+    (length line == 0 || slice_index line 0 == 35) (later_request (words_of line)) moment from octets e in
+    let read = not_item (words_of line) (Rx moment from octets) (λ h. h) asked in
+    by_recursion octets (rx_back line moment from octets read).3.bytes
 
 line_heard : (decoding : Decoding) → HearsEach decoding → (line : List ℕ) (asked : Result Request (ℕ × Fault))
     → request_of line ≡ asked → DecodesRequest decoding asked

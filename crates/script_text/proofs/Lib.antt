@@ -6,6 +6,8 @@ pub mod RateLemmas
 pub mod NumberLemmas
 pub mod PacketLemmas
 pub mod Known
+pub mod PairLemmas
+pub mod ItemLemmas
 pub mod FirstLineLemmas
 pub mod StepLemmas
 pub mod RunLemmas
@@ -30,3 +32,4 @@ pub mod HeardLaws
 pub mod FirstLineLaws
 pub mod GrowLemmas
 pub mod RowLemmas
+pub mod ItemTextLemmas

@@ -52,7 +52,7 @@ report_by kinds.Frame vs words moment e =
     never (sighted vs p.0) (fault_of p.0) p.2
   where
     never : (sighting : SourceFrame) (fault : Option FrameFault) {P : Type 0}
-        → framed sighting fault ≡ Ok (Report moment) → P
+        → framed 7 sighting fault ≡ Ok (Report moment) → P
     never sighting None e = absurd cc
     never sighting (Some fault) e = absurd cc
 report_by kinds.Report vs words moment e =

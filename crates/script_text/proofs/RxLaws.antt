@@ -102,7 +102,7 @@ rx_by kinds.Frame vs words moment from octets e =
     never (sighted vs p.0) (fault_of p.0) p.2
   where
     never : (sighting : SourceFrame) (fault : Option FrameFault) {P : Type 0}
-        → framed sighting fault ≡ Ok (Rx moment from octets) → P
+        → framed 7 sighting fault ≡ Ok (Rx moment from octets) → P
     never sighting None e = absurd cc
     never sighting (Some fault) e = absurd cc
 rx_by kinds.Rx vs words moment from octets e =

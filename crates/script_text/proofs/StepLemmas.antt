@@ -1,11 +1,12 @@
 -- Octets lead from place to place.
 use Rattle.std.proofs.Common.{◌≡◌, ℕ, ◌+◌, ◌-◌, ◌<◌, List, [], ◌∷◌, ◌++◌, length, take, drop, Option, Some, None}
 use Rattle.std.proofs.Common.{Result, Ok, Err, Bool, true, false, cond, eqb, get_or, inl, inr, refl, sym, ap, ◌∙◌}
-use Rattle.std.proofs.Common.{subst, append_assoc, arith}
+use Rattle.std.proofs.Common.{subst, append_assoc, arith, ◌≤◌, nat_lt, codes, if◌then◌else◌}
+use Rattle.std.specs.Str.{bytes_eq}
 use Rattle.std.specs.List.{onto_first, All}
 use Rattle.std.specs.Result.{MatchResult, is_ok, is_err}
 use Rattle.std.specs.Str.Lines.{strip_carriage_return}
-use Rattle.std.proofs.lemmas.Bool.{lt-ltb, cases_Bool, eqb-true}
+use Rattle.std.proofs.lemmas.Bool.{lt-ltb, ltb-true, cases_Bool, eqb-true}
 use Rattle.std.proofs.lemmas.List.{append-nil, length-append, length-take, take_more, take-append-drop}
 use Rattle.std.proofs.lemmas.List.Elements.{All-push}
 use Rattle.std.proofs.lemmas.List.Splits.{slice_split_at, slice_split_none}
@@ -19,11 +20,12 @@ use Rattle.script_text.specs.Decodings.{Decoding, DecodesRequest, DecodesLines}
 use Rattle.script_text.specs.Bridge.{Bridge, begun_bridge, answer_begin, answer_call, after_item, after_items, knowing}
 use Rattle.script_text.specs.Bridge.{taken_at, waited_at, origin_at, answer_text, bridge_after}
 use Rattle.bridge_core.specs.Steps.{CoreOf}
+use Rattle.script_text.proofs.ItemLemmas.{limit_least}
 use Rattle.script_text.proofs.FirstLineLemmas.{hears_at}
 use Rattle.script_text.specs.Requests.{Request, Nothing, Begin, Desk, Item, Rx, Wait, Report, Show, line_request}
-use Rattle.script_text.specs.Requests.{request_of}
+use Rattle.script_text.specs.ItemLines.{request_of}
 use Rattle.script_text.specs.FirstLine.{request_at}
-use Rattle.script_text.specs.Lines.{parts_of, lines_by, whole, ended}
+use Rattle.script_text.specs.Lines.{parts_of, lines_by, whole, ended, limit_of}
 use Rattle.script_text.specs.Output.{RunOutput, nothing, told, stopped, continues, outcome_of}
 use Rattle.script_text.specs.inner.Steps.{Held, place_of, Place, to_come, Goes, StepFails, DecodesComing, StepEnds}
 use Rattle.script_text.specs.inner.Steps.{LineEnds, FinishEnds}
@@ -215,18 +217,43 @@ finished held bridge core line sent r nolf whole_line h =
 
 -- ---- a line that is too long
 
-stripped_long : (line : List ℕ) → 65537 < length line → 65536 < length (strip_carriage_return line)
+-- the first five octets of a line stay as they are
+front_kept : (xs ys : List ℕ) → 5 ≤ length xs → take 5 (xs ++ ys) ≡ take 5 xs
+front_kept [] ys long = absurd (omega arith)
+front_kept (a ∷ []) ys long = absurd (omega arith)
+front_kept (a ∷ b ∷ []) ys long = absurd (omega arith)
+front_kept (a ∷ b ∷ c ∷ []) ys long = absurd (omega arith)
+front_kept (a ∷ b ∷ c ∷ d ∷ []) ys long = absurd (omega arith)
+front_kept (a ∷ b ∷ c ∷ d ∷ e ∷ xs) ys long = refl
+
+limit_kept : (xs ys : List ℕ) → 5 ≤ length xs → limit_of (xs ++ ys) ≡ limit_of xs
+limit_kept xs ys long =
+    ap (λ (t : List ℕ). if bytes_eq t (codes "item ") then 8388608 else 65536) (front_kept xs ys long)
+
+-- it is so also where octets at the end are dropped
+limit_cut : (n : ℕ) (line : List ℕ) → 5 ≤ length (take n line) → limit_of (take n line) ≡ limit_of line
+limit_cut n line long =
+    sym (limit_kept (take n line) (drop n line) long) ∙ ap limit_of (take-append-drop n line)
+
+-- a line is too long, and so it is with octets behind it
+abbrev IsLong : List ℕ → Type 0
+IsLong line = limit_of line < length line
+
+stripped_long : (line : List ℕ) → limit_of line + 1 < length line → IsLong (strip_carriage_return line)
 stripped_long line long = short_by_one (eqb (get_or line (length line - 1) 0) 13) line long
   where
-    short_by_one : (b : Bool) (line : List ℕ) → 65537 < length line
-        → 65536 < length (cond b (take (length line - 1) line) line)
-    short_by_one true line long = omega (arith, length-take (length line - 1) line)
-    short_by_one false line long = omega arith
+    short_by_one : (b : Bool) (line : List ℕ) → limit_of line + 1 < length line
+        → IsLong (cond b (take (length line - 1) line) line)
+    short_by_one true line long =
+        let size = length-take (length line - 1) line in
+        let least = limit_least line in
+        rw (limit_cut (length line - 1) line (omega (arith, size, least, long))) (omega (arith, size, long))
+    short_by_one false line long = omega (arith, long)
 
-long_first : (text pending : List ℕ) → NoLf pending → 65537 < length pending
+long_first : (text pending : List ℕ) → NoLf pending → limit_of pending + 1 < length pending
     → (line : List ℕ) × (lines : List (List ℕ)) × (lines_by whole (parts_of (pending ++ text)) ≡ line ∷ lines)
-    × (65536 < length line)
-long_first [] pending nolf long = (pending, [], lines_none whole pending nolf, omega arith)
+    × IsLong line
+long_first [] pending nolf long = (pending, [], lines_none whole pending nolf, omega (arith, long))
 long_first (x ∷ xs) pending nolf long =
     elim (cases_Bool (eqb x 10)) [
       | inl is ↦
@@ -237,9 +264,12 @@ long_first (x ∷ xs) pending nolf long =
             stripped_long pending long,
           )
       | inr isnt ↦
+          let least = limit_least pending in
+          let more : limit_of (pending ++ x ∷ []) + 1 < length (pending ++ x ∷ []) =
+          rw (limit_kept pending (x ∷ []) (omega (arith, least, long)))
+          (omega (arith, long, length-append pending (x ∷ []))) in
           let h =
-          long_first xs (pending ++ x ∷ []) (All-push (λ b. eqb b 10 ≡ false) pending x nolf isnt)
-          (omega (arith, length-append pending (x ∷ []))) in (
+          long_first xs (pending ++ x ∷ []) (All-push (λ b. eqb b 10 ≡ false) pending x nolf isnt) more in (
             h.0,
             h.1,
             ap (λ (t : List ℕ). lines_by whole (parts_of t)) (sym (append_assoc pending (x ∷ []) xs)) ∙ h.2,
@@ -247,15 +277,16 @@ long_first (x ∷ xs) pending nolf long =
           )
     ]
 
-long_request : (number : ℕ) (line : List ℕ) → 65536 < length line → request_at number line ≡ Err (0, LineTooLong)
+long_request : (number : ℕ) (line : List ℕ) → IsLong line → request_at number line ≡ Err (0, LineTooLong)
 unfolding line_request
-long_request number line long = rw (lt-ltb 65536 (length line) long) refl
+long_request number line long = rw (lt-ltb (limit_of line) (length line) long) refl
 
-pub too_long : (place : Place) (text : List ℕ) → NoLf place.pending → 65537 < length place.pending
+pub too_long : (place : Place) (text : List ℕ) → NoLf place.pending
+    → nat_lt (limit_of place.pending + 1) (length place.pending) ≡ true
     → to_come whole place text ≡ stopped place.line 0 LineTooLong
 unfolding outcome_of
 too_long place text nolf long =
-    let h = long_first text place.pending nolf long in
+    let h = long_first text place.pending nolf (ltb-true (limit_of place.pending + 1) (length place.pending) long) in
     rw (h.2, long_request place.line h.0 h.3) refl
 
 -- ---- one stretch of octets, and then another

@@ -63,7 +63,7 @@ tick_by kinds.Frame vs words moment e =
     never (sighted vs p.0) (fault_of p.0) p.2
   where
     never : (sighting : SourceFrame) (fault : Option FrameFault) {P : Type 0}
-        → framed sighting fault ≡ Ok (Item (tick moment)) → P
+        → framed 7 sighting fault ≡ Ok (Item (tick moment)) → P
     never sighting None e = absurd cc
     never sighting (Some fault) e = absurd cc
 tick_by kinds.Tick vs words moment e =

@@ -60,7 +60,7 @@ wait_by kinds.Frame vs words moment from ssrc e =
     never (sighted vs p.0) (fault_of p.0) p.2
   where
     never : (sighting : SourceFrame) (fault : Option FrameFault) {P : Type 0}
-        → framed sighting fault ≡ Ok (Wait moment from ssrc) → P
+        → framed 7 sighting fault ≡ Ok (Wait moment from ssrc) → P
     never sighting None e = absurd cc
     never sighting (Some fault) e = absurd cc
 wait_by kinds.Wait vs words moment from ssrc e =

@@ -7,7 +7,7 @@ use Rattle.intake.specs.Taking.{Voice, IsVoice}
 use Rattle.script_text.specs.declared.script.TheConstants.{BRIDGE_SSRC}
 use Rattle.script_text.specs.declared.fault.Fault.{Fault}
 use Rattle.script_text.specs.Requests.{Request, Nothing, Begin, Desk, Item, Rx, Wait, Report, Show}
-use Rattle.script_text.specs.Requests.{request_of}
+use Rattle.script_text.specs.ItemLines.{request_of}
 
 -- A decoding: what the octets of each datagram are, and the NACK words for each list of lost numbers.
 pub record Decoding : Type 0 where

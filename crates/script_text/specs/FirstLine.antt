@@ -10,7 +10,8 @@ use Rattle.script_text.specs.declared.fault.Fault.{Fault}
 use Rattle.script_text.specs.declared.fault.Fault.TheVariants.{UnknownWord, BadNumber}
 use Rattle.script_text.specs.Numbers.{decimal_of}
 use Rattle.script_text.specs.Words.{◌>>=◌, words_of, word_at, none_left, value_or, Lacks}
-use Rattle.script_text.specs.Requests.{Request, Begin, words_request, line_request, request_of}
+use Rattle.script_text.specs.Requests.{Request, Begin, line_request}
+use Rattle.script_text.specs.ItemLines.{later_request}
 
 -- the first word of a line that says who the bridge is
 abbrev pub bridge_word : List ℕ
@@ -47,12 +48,12 @@ bridge_of words = do
 
 -- what the words of the first line ask for
 unfoldable pub first_request : List (List ℕ) → Result Request (ℕ × Fault)
-first_request [] = words_request []
-first_request (word ∷ words) = if bytes_eq word bridge_word then bridge_of words else words_request (word ∷ words)
+first_request [] = later_request []
+first_request (word ∷ words) = if bytes_eq word bridge_word then bridge_of words else later_request (word ∷ words)
 
 -- what the words of the line of this number ask for
 abbrev pub words_request_at : ℕ → List (List ℕ) → Result Request (ℕ × Fault)
-words_request_at number words = if number == 1 then first_request words else words_request words
+words_request_at number words = if number == 1 then first_request words else later_request words
 
 -- what the line of this number asks for, from 1
 abbrev pub request_at : ℕ → List ℕ → Result Request (ℕ × Fault)

@@ -6,6 +6,7 @@ pub mod Values
 pub mod Packets
 pub mod Calls
 pub mod Requests
+pub mod ItemLines
 pub mod FirstLine
 pub mod Text
 pub mod Datagrams

@@ -1,11 +1,20 @@
 -- The lines of a script (own): LF ends a line, a CR before it is dropped, and so does the end of the input.
-use Rattle.std.specs.Prelude.{ℕ, ◌==◌, List, [], ◌∷◌}
+use Rattle.std.specs.Prelude.{ℕ, ◌==◌, List, [], ◌∷◌, take, codes, if◌then◌else◌}
 use Rattle.std.specs.List.{slice_split}
+use Rattle.std.specs.Str.{bytes_eq}
 use Rattle.std.specs.Str.Lines.{strip_carriage_return}
 
--- how many octets a line has at most, its CR and LF not counted
+-- how many octets a line has at most that hands the lane no item, its CR and LF not counted
 abbrev pub line_limit : ℕ
 line_limit = 65536
+
+-- how many octets a line has at most that hands the lane an item: 2^23
+abbrev pub item_limit : ℕ
+item_limit = 8388608
+
+-- how many octets this line has at most: its first five say whether it hands the lane an item
+abbrev pub limit_of : List ℕ → ℕ
+limit_of line = if bytes_eq (take 5 line) (codes "item ") then item_limit else line_limit
 
 -- what stands between the LFs (10) of a text; the last part is behind the last LF, and may be empty
 abbrev pub parts_of : List ℕ → List (List ℕ)

@@ -22,7 +22,7 @@ use Rattle.script_text.specs.declared.value.Value.{Value}
 use Rattle.script_text.specs.declared.value.Value.TheVariants.{U32, U64, Operator, Address}
 use Rattle.script_text.specs.declared.name.LineKind.{LineKind}
 use Rattle.script_text.specs.declared.name.LineKind.TheVariants as kinds
-use Rattle.script_text.specs.Lines.{line_limit}
+use Rattle.script_text.specs.Lines.{limit_of}
 use Rattle.script_text.specs.Words.{◌>>=◌, words_of, word_at, none_left, value_or}
 use Rattle.script_text.specs.Values.{value_text, values_of, number_at, address_at, AllFit}
 use Rattle.script_text.specs.Packets.{packet_text, octets_or, source_packets_of, AllReadable}
@@ -76,9 +76,9 @@ some_packets place [] = Err (place, MissingWord)
 some_packets place (word ∷ words) = source_packets_of place (word ∷ words)
 
 -- packets that make no frame are told last, at the place of the first of them
-abbrev pub framed : SourceFrame → Option FrameFault → Result Request (ℕ × Fault)
-framed sighting None = Ok (Item (frame sighting))
-framed sighting (Some fault) = Err (7, BadFrame)
+abbrev pub framed : ℕ → SourceFrame → Option FrameFault → Result Request (ℕ × Fault)
+framed place sighting None = Ok (Item (frame sighting))
+framed place sighting (Some fault) = Err (place, BadFrame)
 
 -- the call of an operator that words spell
 abbrev pub desk_of : ℕ → List (List ℕ) → Result Request (ℕ × Fault)
@@ -86,11 +86,11 @@ desk_of op words = do
   call ← call_of 2 words
   Ok (Desk op call)
 
--- what words EXT/M/PT/HEX .. ask for, where this is the frame of their packets
-unfoldable pub frame_of : (List SourcePacket → SourceFrame) → List (List ℕ) → Result Request (ℕ × Fault)
-frame_of sighted words = do
-  packets ← some_packets 7 words
-  framed (sighted packets) (fault_of packets)
+-- what words EXT/M/PT/HEX .. from this place on ask for, where this is the frame of their packets
+unfoldable pub frame_of : ℕ → (List SourcePacket → SourceFrame) → List (List ℕ) → Result Request (ℕ × Fault)
+frame_of place sighted words = do
+  packets ← some_packets place words
+  framed place (sighted packets) (fault_of packets)
 
 -- the frame of these packets, with the values MOMENT ADDRESS SSRC EPOCH TS
 abbrev pub sighted : List Value → List SourcePacket → SourceFrame
@@ -141,14 +141,14 @@ show_of words = do
 -- what a line of a kind asks for, with these values first and words behind them
 abbrev pub request_with : LineKind → List Value → List (List ℕ) → Result Request (ℕ × Fault)
 request_with kinds.Desk vs words = desk_of (number_at 0 vs) words
-request_with kinds.Frame vs words = frame_of (sighted vs) words
+request_with kinds.Frame vs words = frame_of 7 (sighted vs) words
 request_with kinds.Rx vs words = rx_of (number_at 0 vs) (address_at 1 vs) words
 request_with kinds.Wait vs words = wait_of (number_at 0 vs) (address_at 1 vs) (number_at 2 vs) words
 request_with kinds.Tick vs words = tick_item (number_at 0 vs) words
 request_with kinds.Report vs words = report_of (number_at 0 vs) words
 request_with kinds.Show vs words = show_of words
 
--- what words ask for
+-- what the words of a line ask for that hands the lane no item by its first word
 unfoldable pub words_request : List (List ℕ) → Result Request (ℕ × Fault)
 words_request words = do
   word ← word_at 1 words
@@ -164,14 +164,10 @@ is_printable octet = nat_le 32 octet && nat_le octet 126
 -- line, and 35 is `#`
 unfoldable pub line_request : Result Request (ℕ × Fault) → List ℕ → Result Request (ℕ × Fault)
 line_request asked line =
-    if nat_lt line_limit (length line) then Err (0, LineTooLong)
+    if nat_lt (limit_of line) (length line) then Err (0, LineTooLong)
     else if not (list_all is_printable line) then Err (0, BadByte)
     else if length line == 0 || slice_index line 0 == 35 then Ok Nothing
     else asked
-
--- what a line behind the first asks for
-abbrev pub request_of : List ℕ → Result Request (ℕ × Fault)
-request_of line = line_request (words_request (words_of line)) line
 
 -- the words of an operator's line, with these of its call
 abbrev pub desk_words : ℕ → (words : List (List ℕ)) → List (List ℕ)

@@ -14,6 +14,7 @@ ghost use Rattle.script_text.specs.inner.Steps.{HandsItems, AnswersRequest, Answ
 
 use crate::beginning::answer_begin;
 use crate::fault::{ParseFault, RunFault};
+use crate::handed_item::HandedItem;
 use crate::line::{Line, parse_line};
 use crate::outcomes::{print_all_up, print_outcome};
 use crate::print::{print_egress, print_reply};
@@ -193,6 +194,7 @@ fn answer_request<A: Allocator + Copy>(
         Line::Begin(named) => answer_begin(alloc, core, named, out),
         Line::Desk { op, call } => answer_call(alloc, core, op, call, out),
         Line::Frame(frame) => answer_item(alloc, core, &Item::Frame(frame), out),
+        Line::Item(HandedItem { item }) => answer_item(alloc, core, &item, out),
         Line::Rx {
             moment,
             from,

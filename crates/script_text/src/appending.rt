@@ -8,13 +8,16 @@ ghost use Rattle.script_text.specs.Addresses.{address_text};
 ghost use Rattle.script_text.specs.Kinds.{codec_text, media_text};
 ghost use Rattle.script_text.specs.Values.{value_text};
 ghost use Rattle.script_text.specs.Text.{word_text, line_text, fixed};
-ghost use Rattle.script_text.specs.inner.Shown.{said};
+ghost use Rattle.sample_codecs.specs.L16.{octets_in as sample_octets, octets_of};
+ghost use Rattle.script_text.specs.ItemLines.{pair_octets, pairs_octets};
+ghost use Rattle.script_text.specs.inner.Shown.{said, slashed, spelt_packet};
 ghost use Rattle.script_text.specs.inner.Growing.{buffer_of, Grows};
 
 use crate::value::Value;
 use desk_rows::{Codec, Media};
 use itoa::Buffer;
 use rtp_codec::Address;
+use sample_codecs::encode_l16;
 use std::alloc::{AllocError, Allocator};
 
 /// A word of a line that goes out.
@@ -29,6 +32,17 @@ pub(crate) enum Word<'a> {
     Hex(&'a [u8]),
     /// The same, of octets in two parts.
     Parts(&'a [u8], &'a [u8]),
+    /// The same, of samples, two octets each.
+    Samples(&'a [i16]),
+    /// The same, of numbers, two octets each.
+    Numbers(&'a [u16]),
+    /// A packet of a frame.
+    Packet {
+        ext: i64,
+        marker: bool,
+        pt: u8,
+        payload: &'a [u8],
+    },
 }
 
 impl Default for Word<'_> {
@@ -88,7 +102,6 @@ fn append_address<A: Allocator>(address: Address, out: &mut Vec<u8, A>) -> Resul
     append_number(u64::from(address.port), out)
 }
 
-/// How a codec is written.
 fn codec_text(codec: Codec) -> &'static [u8]
     ensures { result.now ≡ codec_text codec }
 {
@@ -98,7 +111,6 @@ fn codec_text(codec: Codec) -> &'static [u8]
     }
 }
 
-/// How a kind of source is written.
 fn media_text(media: Media) -> &'static [u8]
     ensures { result.now ≡ media_text media }
 {
@@ -149,6 +161,81 @@ fn append_parts<A: Allocator>(
     append_hex(rest, out)
 }
 
+fn append_sample<A: Allocator>(sample: i16, out: &mut Vec<u8, A>) -> Result<(), AllocError>
+    ensures { Grows (buffer_of out.old) (buffer_of out.new) (encode_lower (sample_octets sample)) result }
+{
+    let mut octets = [0; 2];
+    encode_l16(&[sample], &mut octets);
+    append_hex(&octets, out)
+}
+
+/// Appends samples in hexadecimal, two octets each.
+fn append_samples<A: Allocator>(samples: &[i16], out: &mut Vec<u8, A>) -> Result<(), AllocError>
+    ensures { Grows (buffer_of out.old) (buffer_of out.new) (encode_lower (octets_of samples.now)) result }
+{
+    for sample in samples {
+        append_sample(*sample, out)?;
+    }
+    Ok(())
+}
+
+fn append_pair<A: Allocator>(number: u16, out: &mut Vec<u8, A>) -> Result<(), AllocError>
+    ensures { Grows (buffer_of out.old) (buffer_of out.new) (encode_lower (pair_octets number)) result }
+{
+    append_hex(&[(number / 256) as u8, (number % 256) as u8], out)
+}
+
+/// Appends numbers in hexadecimal, two octets each.
+fn append_pairs<A: Allocator>(numbers: &[u16], out: &mut Vec<u8, A>) -> Result<(), AllocError>
+    ensures { Grows (buffer_of out.old) (buffer_of out.new) (encode_lower (pairs_octets numbers.now)) result }
+{
+    for number in numbers {
+        append_pair(*number, out)?;
+    }
+    Ok(())
+}
+
+/// How a marker is written between slashes.
+fn marker_text(marker: bool) -> &'static [u8]
+    ensures { result.now ≡ slashed marker }
+{
+    if marker { b"/1/" } else { b"/0/" }
+}
+
+/// Appends the first two parts of a packet.
+fn append_ext<A: Allocator>(ext: i64, marker: bool, out: &mut Vec<u8, A>) -> Result<(), AllocError>
+    ensures { Grows (buffer_of out.old) (buffer_of out.new) (signed_decimal ext ++ slashed marker) result }
+{
+    append_signed(ext, out)?;
+    append(marker_text(marker), out)
+}
+
+/// Appends the last two parts of a packet.
+fn append_payload<A: Allocator>(
+    pt: u8,
+    payload: &[u8],
+    out: &mut Vec<u8, A>,
+) -> Result<(), AllocError>
+    ensures { Grows (buffer_of out.old) (buffer_of out.new) ((decimal pt ++ 47 ∷ []) ++ encode_lower payload.now)
+        result }
+{
+    append_part(pt, b'/', out)?;
+    append_hex(payload, out)
+}
+
+fn append_packet<A: Allocator>(
+    ext: i64,
+    marker: bool,
+    pt: u8,
+    payload: &[u8],
+    out: &mut Vec<u8, A>,
+) -> Result<(), AllocError>
+    ensures { Grows (buffer_of out.old) (buffer_of out.new) (spelt_packet ext marker pt payload.now) result }
+{
+    append_ext(ext, marker, out)?;
+    append_payload(pt, payload, out)
+}
+
 fn append_word<A: Allocator>(word: Word<'_>, out: &mut Vec<u8, A>) -> Result<(), AllocError>
     ensures { Grows (buffer_of out.old) (buffer_of out.new) (word_text (said word.entry)) result }
 {
@@ -158,6 +245,14 @@ fn append_word<A: Allocator>(word: Word<'_>, out: &mut Vec<u8, A>) -> Result<(),
         Word::Signed(n) => append_signed(n, out),
         Word::Hex(octets) => append_hex(octets, out),
         Word::Parts(first, rest) => append_parts(first, rest, out),
+        Word::Samples(samples) => append_samples(samples, out),
+        Word::Numbers(numbers) => append_pairs(numbers, out),
+        Word::Packet {
+            ext,
+            marker,
+            pt,
+            payload,
+        } => append_packet(ext, marker, pt, payload, out),
     }
 }
 

@@ -11,7 +11,7 @@ use std::fmt;
 /// What is wrong with a line. Its number and name are those that are printed.
 #[derive(Clone, Copy, Debug, PartialEq, Eq)]
 pub enum Fault {
-    /// 1: more than 65,536 octets.
+    /// 1: more than 65,536 octets, or 8,388,608 where the line hands the lane an item.
     LineTooLong,
     /// 2: an octet outside 32 to 126.
     BadByte,

@@ -1,32 +1,66 @@
 //! What lines ask for.
 
-ghost use Rattle.std.specs.Prelude.{◌≡◌, ◌≤◌, ◌+◌, length, map};
-ghost use Rattle.frame_gate.specs.Frame.{fault_of};
+ghost use Rattle.std.specs.Prelude.{◌≡◌, ◌≤◌, ◌+◌, length, map, nat_lt};
 ghost use Rattle.script_text.specs.Words.{Gives};
-ghost use Rattle.script_text.specs.inner.Cursor.{words_in, size_of, view, sighting};
+ghost use Rattle.script_text.specs.inner.Cursor.{words_in, size_of, view};
 ghost use Rattle.script_text.specs.Values.{field_of};
-ghost use Rattle.script_text.specs.Requests.{some_packets, framed, frame_of, desk_of};
+ghost use Rattle.script_text.specs.Lines.{limit_of};
+ghost use Rattle.script_text.specs.Requests.{desk_of};
 ghost use Rattle.script_text.specs.Requests.{some_octets, rx_of, wait_of, tick_item, report_of, show_of};
 ghost use Rattle.script_text.specs.Requests.{front_of, request_with, words_request};
 ghost use Rattle.script_text.specs.Words.{words_of};
+ghost use Rattle.script_text.specs.ItemLines.{later_request};
 ghost use Rattle.script_text.specs.FirstLine.{first_request, words_request_at, request_at};
 
 use crate::bridge_line::BridgeLine;
 use crate::calling::call;
 use crate::fault::{Fault, ParseFault};
 use crate::first_line::read_bridge_line;
+use crate::framing::{FrameHead, frame};
+use crate::handed_item::HandedItem;
+use crate::handing::read_item;
 use crate::name::{LineKind, front, parse_kind};
-use crate::packet::{octets, packets};
+use crate::packet::octets;
 use crate::reading::read_values;
 use crate::value::{Value, address_at, operator_at, u32_at, u64_at};
 use crate::words::{end_of_words, first_word, is_printable, next_word};
-use bridge_core::{Frame, FramePacket, MediaFrame};
+use bridge_core::MediaFrame;
 use desk_edit::Call;
 use rtp_codec::Address;
 use std::alloc::{Allocator, Global};
 
-/// How many octets a line may have, its CR and LF not counted.
+/// How many octets a line may have that hands the lane no item, its CR and LF not counted.
 pub(crate) const LINE_LIMIT: usize = 65_536;
+
+/// How many a line may have that hands the lane an item. A frame of 256 packets fits.
+pub(crate) const ITEM_LIMIT: usize = 8_388_608;
+
+/// How many octets this line may have.
+fn limit(line: &[u8]) -> usize
+    ensures { result ≡ limit_of line.now }
+{
+    let start = if line.len() < 5 { line } else { &line[..5] };
+    if start == b"item ".as_slice() {
+        ITEM_LIMIT
+    } else {
+        LINE_LIMIT
+    }
+}
+
+/// Whether a line has more octets than it may have.
+fn is_too_long(line: &[u8]) -> bool
+    ensures { result ≡ nat_lt (limit_of line.now) (length line.now) }
+{
+    line.len() > limit(line)
+}
+
+/// Whether a line has more octets than it may have and a CR.
+// Each octet asks so, and most lines are short.
+pub(crate) fn is_past(line: &[u8]) -> bool
+    ensures { result ≡ nat_lt (limit_of line.now + 1) (length line.now) }
+{
+    line.len() > LINE_LIMIT && line.len() > limit(line) + 1
+}
 
 /// What a line asks for.
 #[derive(Drop)]
@@ -38,6 +72,7 @@ pub(crate) enum Line<A: Allocator + Copy = Global> {
         call: Call<A>,
     },
     Frame(MediaFrame<A>),
+    Item(HandedItem<A>),
     Rx {
         moment: u64,
         from: Address,
@@ -72,70 +107,6 @@ fn show<A: Allocator + Copy>(words: Option<&[u8]>) -> Result<Line<A>, ParseFault
 {
     end_of_words(words, 2)?;
     Ok(Line::Show)
-}
-
-/// What a `frame` line says before its packets.
-#[derive(Clone, Copy)]
-struct FrameHead {
-    moment: u64,
-    address: Address,
-    source: u32,
-    epoch: u64,
-    ts: u32,
-}
-
-/// The packets of a `frame` line, which has at least one.
-fn some_packets<A: Allocator + Copy>(
-    alloc: A,
-    words: Option<&[u8]>,
-) -> Result<Vec<FramePacket<A>, A>, ParseFault>
-    requires { size_of words ≤ LINE_LIMIT + 1 }
-    ensures { Gives (λ v. v.items) result (some_packets 7 (words_in words.entry)) }
-{
-    match words {
-        None => Err(Fault::MissingWord.at(7)),
-        Some(_) => packets(alloc, words),
-    }
-}
-
-/// The frame of these packets, which have to make one.
-fn framed<A: Allocator + Copy>(
-    head: FrameHead,
-    packets: Vec<FramePacket<A>, A>,
-) -> Result<Line<A>, ParseFault>
-    ensures { Gives view result (framed (sighting head packets.items) (fault_of packets.items)) }
-{
-    let FrameHead {
-        moment,
-        address,
-        source,
-        epoch,
-        ts,
-    } = head;
-    match Frame::new(ts, packets) {
-        Err(_) => Err(Fault::BadFrame.at(7)),
-        Ok(frame) => Ok(Line::Frame(MediaFrame {
-            source,
-            address,
-            epoch,
-            moment,
-            frame,
-        })),
-    }
-}
-
-/// A frame with its packets.
-#[tactic(auto, unfolding(crate::specs::Requests::frame_of))]
-fn frame<A: Allocator + Copy>(
-    alloc: A,
-    head: FrameHead,
-    words: Option<&[u8]>,
-) -> Result<Line<A>, ParseFault>
-    requires { size_of words ≤ LINE_LIMIT + 1 }
-    ensures { Gives view result (frame_of (sighting head) (words_in words.entry)) }
-{
-    let packets = some_packets(alloc, words)?;
-    framed(head, packets)
 }
 
 /// The octets that a word at this place spells, of which there is one at least.
@@ -220,7 +191,8 @@ fn line_with<A: Allocator + Copy>(
                 epoch: u64_at(values, 3),
                 ts: u32_at(values, 4),
             };
-            frame(alloc, head, words)
+            let frame = frame(alloc, 7, head, words)?;
+            Ok(Line::Frame(frame))
         }
         LineKind::Rx => rx(alloc, u64_at(values, 0), address_at(values, 1), words),
         LineKind::Wait => {
@@ -246,10 +218,24 @@ fn words_line<A: Allocator + Copy>(alloc: A, words: Option<&[u8]>) -> Result<Lin
     line_with(alloc, kind, values.as_slice(), rest)
 }
 
+/// What the words of a line behind the first ask for.
+#[tactic(auto, using(crate::proofs::ItemLemmas::limit_most, crate::proofs::ItemLemmas::limit_other))]
+fn later_line<A: Allocator + Copy>(alloc: A, line: &[u8]) -> Result<Line<A>, ParseFault>
+    requires { length line.now ≤ limit_of line.now }
+    ensures { Gives view result (later_request (words_of line.now)) }
+{
+    let (word, rest) = first_word(line);
+    if word == b"item".as_slice() {
+        let handed = read_item(alloc, rest)?;
+        return Ok(Line::Item(handed));
+    }
+    words_line(alloc, Some(line))
+}
+
 /// What the words of the first line ask for.
 #[tactic(auto, unfolding(crate::specs::FirstLine::first_request))]
 fn first_line<A: Allocator + Copy>(alloc: A, line: &[u8]) -> Result<Line<A>, ParseFault>
-    requires { length line.now ≤ LINE_LIMIT }
+    requires { length line.now ≤ limit_of line.now }
     ensures { Gives view result (first_request (words_of line.now)) }
 {
     let (word, rest) = first_word(line);
@@ -257,18 +243,18 @@ fn first_line<A: Allocator + Copy>(alloc: A, line: &[u8]) -> Result<Line<A>, Par
         let named = read_bridge_line(alloc, rest)?;
         return Ok(Line::Begin(named));
     }
-    words_line(alloc, Some(line))
+    later_line(alloc, line)
 }
 
 /// What the words of the line of this number ask for.
 fn line_at<A: Allocator + Copy>(alloc: A, number: u64, line: &[u8]) -> Result<Line<A>, ParseFault>
-    requires { length line.now ≤ LINE_LIMIT }
+    requires { length line.now ≤ limit_of line.now }
     ensures { Gives view result (words_request_at number (words_of line.now)) }
 {
     if number == 1 {
         first_line(alloc, line)
     } else {
-        words_line(alloc, Some(line))
+        later_line(alloc, line)
     }
 }
 
@@ -281,7 +267,7 @@ pub(crate) fn parse_line<A: Allocator + Copy>(
 ) -> Result<Line<A>, ParseFault>
     ensures { Gives view result (request_at number line.now) }
 {
-    if line.len() > LINE_LIMIT {
+    if is_too_long(line) {
         return Err(Fault::LineTooLong.at(0));
     }
     if !is_printable(line) {

@@ -8,7 +8,7 @@ ghost use Rattle.hex.specs.Hex.{decode_of};
 ghost use Rattle.script_text.specs.inner.Cursor.{are_parts, words_in, size_of, TakesPacket};
 
 use crate::fault::{Fault, ParseFault};
-use crate::line::LINE_LIMIT;
+use crate::line::ITEM_LIMIT;
 use crate::number::{number, parse_ext};
 use crate::words::{cut, first_word};
 use bridge_core::FramePacket;
@@ -132,17 +132,19 @@ fn take_packet<A: Allocator + Copy>(
     }
 }
 
-/// The packets that the words of a line spell from its place 7 on.
+/// The packets that the words of a line spell from this place on.
 pub(crate) fn packets<A: Allocator + Copy>(
     alloc: A,
+    first: u32,
     words: Option<&[u8]>,
 ) -> Result<Vec<FramePacket<A>, A>, ParseFault>
-    requires { size_of words ≤ LINE_LIMIT + 1 }
-    ensures { Gives (λ v. v.items) result (source_packets_of 7 (words_in words.entry)) }
+    requires place { first ≤ 8 }
+    requires short { size_of words ≤ ITEM_LIMIT + 1 }
+    ensures { Gives (λ v. v.items) result (source_packets_of first (words_in words.entry)) }
 {
     let mut packets = Vec::new(alloc);
     let mut left = words;
-    let mut place = 7;
+    let mut place = first;
     while let Some(text) = left {
         let (word, rest) = first_word(text);
         if let Err(fault) = take_packet(alloc, word, place, &mut packets) {

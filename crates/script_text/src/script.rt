@@ -6,7 +6,7 @@ ghost use Rattle.std.specs.Str.Lines.{strip_carriage_return};
 use crate::answer::answer;
 use crate::beginning::begun;
 use crate::fault::{Fault, RunFault};
-use crate::line::LINE_LIMIT;
+use crate::line::is_past;
 use crate::sink::TextSink;
 use bridge_core::{Core, Settings};
 use bytes::Bytes;
@@ -80,7 +80,7 @@ impl<A: Allocator + Copy> Script<A> {
         ensures write { result ≢ Err RunFault.Write }
     {
         // A CR at the line's end doesn't count, and this octet may be one.
-        if self.pending.len() > LINE_LIMIT + 1 {
+        if is_past(&self.pending) {
             return Err(RunFault::Script {
                 line: self.line,
                 word: 0,

@@ -26,7 +26,7 @@ from lib.shared import CRATES, add_program, found_program, release_program, repl
 NEEDS = "`rt`, three minutes; with BINARY that program, a minute"
 
 # Sections of crates/x_cases_scripts/stdin that take too long.
-LONG = {"no desk", "many datagrams", "large requests and reports", "random calls"}
+LONG = {"no desk", "many datagrams", "large requests and reports", "random calls", "lines of 8,388,608 octets"}
 # The lanes of the bridges of x_cases_front whose case doesn't say how many. All are tried side by side.
 LANES = [1, 2, 4, 16]
 # The cases by sums.

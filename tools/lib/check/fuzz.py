@@ -177,7 +177,7 @@ def said_of_script(program, line):
 
 def scripts(draw, count, program):
     texts = [it.removeprefix("-- ") for it in (CRATES / "x_cases_scripts" / "stdin").read_text().splitlines()]
-    words = ("desk ", "rx ", "wait ", "tick ", "report ", "show", "#")
+    words = ("desk ", "rx ", "wait ", "tick ", "report ", "show", "item", "#")
     corpus = list(
         {it.encode() for it in texts if it.startswith(words) and len(it) < 200 and it.isascii() and "{" not in it}
     )
@@ -189,7 +189,7 @@ def scripts(draw, count, program):
     def line():
         while True:
             found = mutant(draw, corpus, PRINTED).replace(b"\n", b"")
-            if not found.startswith(b"frame"):
+            if not found.startswith((b"frame", b"item frame")):
                 return found
 
     for data in batches(count, line, 500):

@@ -1,4 +1,4 @@
-"""A plain bridge: what the core answers to calls, datagrams and frames. Nobody ticks or reports here."""
+"""A plain bridge: what the core answers to calls, datagrams, frames and other items. Nobody ticks or reports here."""
 
 import collections
 
@@ -282,6 +282,24 @@ class Bridge:
         }
         self.seen.update(f"waits {what}" for what, holds in happened.items() if holds)
 
+    # Items
+
+    def item(self, words):
+        """The lines of an item that a line hands the lane."""
+        if words[0] == "frame":
+            return self.answer(" ".join(words))
+        if words[0] == "nack":
+            pairs = [words[3][at : at + 4] for at in range(0, len(words[3]), 4)]
+            return self.nack(words[1], bytes.fromhex(f"00000000{int(words[2]):08x}{'0000'.join(pairs)}0000"))
+        if words[0] == "block":
+            ssrc, fraction, lost, *others = map(int, words[2:])
+            others = "".join(f"{it:08x}" for it in others)
+            return self.block(words[1], bytes.fromhex(f"{ssrc:08x}{fraction:02x}{lost % 2**24:06x}{others}"))
+        if words[0] == "pli":
+            return self.pli(words[1], bytes.fromhex(f"00000000{int(words[2]):08x}"))
+        self.items += 1
+        return []
+
     # Lines
 
     def answer(self, line):
@@ -292,6 +310,8 @@ class Bridge:
             return []
         if words[0] == "desk":
             return [self.log.call(words[2:])]
+        if words[0] == "item":
+            return self.item(words[1:])
         if words[0] == "wait":
             return self.wait(int(words[1]), words[2], int(words[3]))
         if words[0] == "rx":

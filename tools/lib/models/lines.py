@@ -17,6 +17,8 @@ FAULTS = {
 # What each word behind a command's name is: the greatest number, an address, or one of some words.
 U32, U16, U64 = 2**32 - 1, 2**16 - 1, 2**64 - 1
 CODEC, KIND, ADDRESS, HEX, CNAME = ("pcmu", "l16"), ("audio", "video"), "address", "hex", "cname"
+# A count of lost packets, the clock rate of audio, and pairs of octets; those of samples are bounded by the rate.
+LOST, RATE, PAIRS, SAMPLES = "lost", "rate", "pairs", "samples"
 COMMANDS = {
     "add-room": [U32, U32],
     "remove-room": [U32],
@@ -47,6 +49,18 @@ SCRIPT = {
     "report": [U64],
     "show": [],
 }
+# What a script hands the lane behind the word `item`, without frames.
+ITEMS = {
+    "audio": [ADDRESS, U32, RATE, U32, SAMPLES],
+    "tick": [U64],
+    "nack": [ADDRESS, U32, PAIRS],
+    "block": [ADDRESS, U32, 255, LOST, U32, U32, U32, U32],
+    "pli": [ADDRESS, U32],
+    "report": [U64],
+    "renew": [],
+}
+# How many octets a line of a script has at most, and one that begins with `item `.
+LINE_LIMIT, ITEM_LIMIT = 2**16, 2**23
 # The first words of operators' lines that are no calls.
 ALONE = ("show", "history", "stats", "watch", "quit", "stop")
 # How many of a command's last words may be left out.
@@ -79,6 +93,16 @@ def judge(word, kind, place):
     elif kind == HEX:
         if not re.fullmatch("([0-9a-fA-F]{2})+", word, re.A):
             raise Fault(place, 8)
+    elif kind in (PAIRS, SAMPLES):
+        if not re.fullmatch("([0-9a-fA-F]{4})+", word, re.A):
+            raise Fault(place, 8)
+    elif kind == LOST:
+        size = number_of(word.removeprefix("-"), 2**23)
+        if size is None or size == 2**23 and not word.startswith("-"):
+            raise Fault(place, 6)
+    elif kind == RATE:
+        if word not in ("8000", "44100"):
+            raise Fault(place, 6)
     elif kind == CNAME:
         if not 1 <= len(word) <= 255:
             raise Fault(place, 3)
@@ -129,8 +153,21 @@ def read_alone(words):
         raise Fault(most + 1, 5)
 
 
+def read_item(words):
+    """Raises the first fault of the words of an item, of which the first is word 2 of its line."""
+    if words[:1] == ["audio"] and len(words) > 5 and words[3] in ("8000", "44100"):
+        read_part([*words[:5], "0000"], 2, ITEMS)
+        judge(words[5], PAIRS, 7)
+        if len(words[5]) > 4 * (int(words[3]) // 5):
+            raise Fault(7, 8)
+    read_part(words, 2, ITEMS)
+
+
 def read_script_line(words):
     """Raises the first fault of the words of a script's first line."""
+    if words[0] == "item":
+        read_item(words[1:])
+        return
     if words[0] != "desk":
         read_part(words, 1, SCRIPT)
         return
@@ -146,6 +183,8 @@ def read_script_line(words):
 def fault_of_script_line(line):
     """What a script tells of its first line (bytes, without LF), where that has a fault. Frames aren't judged."""
     line = line.removesuffix(b"\r")
+    if len(line) > (ITEM_LIMIT if line.startswith(b"item ") else LINE_LIMIT):
+        return "line 1 word 0: 1 LineTooLong"
     if any(not 32 <= octet <= 126 for octet in line):
         return "line 1 word 0: 2 BadByte"
     if not line or line.startswith(b"#"):
@@ -200,6 +239,8 @@ def good_name(value):
     return isinstance(value, str) and 1 <= len(value) <= 255 and all(32 <= ord(it) <= 126 for it in value)
 
 
+# What stands for the address of a trace where there is none.
+NO_TRACE = object()
 KEYS = {
     "udp": (None, lambda value: good_address(value, False)),
     "tcp": (None, lambda value: good_address(value, True)),
@@ -208,6 +249,7 @@ KEYS = {
     "report_ms": (5_000, lambda value: good_number(value, 1_000, 5_000)),
     "bridge_ssrc": (1, lambda value: good_number(value, 0, U32)),
     "cname": ("bridge", good_name),
+    "trace": (NO_TRACE, lambda value: good_address(value, True)),
 }
 
 
@@ -224,9 +266,13 @@ def settings_of(text):
         if key not in table and usual is None:
             return f"2 MissingKey {key}"
         found[key] = table.get(key, usual)
-        if not is_good(found[key]):
+        if found[key] is not NO_TRACE and not is_good(found[key]):
             return f"3 BadValue {key}"
+    traced = found["trace"] is not NO_TRACE
+    if traced and (found["operators"] < 2 or " " in found["cname"]):
+        return "3 BadValue trace"
     others = sorted((key.encode(), key) for key in table if key not in KEYS)
     if others:
         return f"4 UnknownKey {others[0][1]}"
-    return "udp {udp} and tcp {tcp} {lanes} {operators} {report_ms} {bridge_ssrc} {cname}".format(**found)
+    shown = "udp {udp} and tcp {tcp} {lanes} {operators} {report_ms} {bridge_ssrc} {cname}".format(**found)
+    return f"{shown} trace {found['trace']}" if traced else shown

@@ -129,10 +129,13 @@ class MixBridge(Bridge):
         self.renews = renews
 
     def sound(self, address, packet, rate):
-        key = packet["ssrc"], address
+        self.put((packet["ssrc"], address), rate, packet["ts"], samples_of(packet["pt"], packet["payload"]))
+
+    def put(self, key, rate, ts, samples):
+        """Puts samples of a source, which a key names, at a timestamp."""
         if key not in self.playouts or self.playouts[key].rate != rate:
             self.playouts[key] = Playout(rate)
-        why = self.playouts[key].put(packet["ts"], samples_of(packet["pt"], packet["payload"]), self.renews)
+        why = self.playouts[key].put(ts, samples, self.renews)
         self.seen[f"buffers that begin anew after {why} sound at {rate} Hz"] += why in ("late", "full")
 
     def sources_for(self, member):
@@ -184,6 +187,16 @@ class MixBridge(Bridge):
         for out, mix in self.mixes.items():
             mix.spoke = out in spoke
         return lines
+
+    def item(self, words):
+        if words[0] == "tick":
+            return self.answer(f"tick {words[1]}")
+        if words[0] == "renew":
+            self.renews = True
+        if words[0] == "audio":
+            samples = list(struct.unpack(f">{len(words[5]) // 4}h", bytes.fromhex(words[5])))
+            self.put((int(words[2]), words[1]), int(words[3]), int(words[4]), samples)
+        return super().item(words)
 
     def answer(self, line):
         return self.tick() if line.startswith("tick ") else super().answer(line)

@@ -104,8 +104,15 @@ class ReportBridge(MixBridge):
 
     def reports(self, moment):
         lines = [line for member in self.desk.members for line in self.receiver_report(member, moment)]
+        return lines + self.sent_reports(moment)
+
+    def sent_reports(self, moment):
+        """The lines of the sender reports of a moment."""
         self.items += 1
-        return lines + [line for member in self.desk.members for line in self.sender_reports(member, moment)]
+        return [line for member in self.desk.members for line in self.sender_reports(member, moment)]
+
+    def item(self, words):
+        return self.sent_reports(int(words[1])) if words[0] == "report" else super().item(words)
 
     def answer(self, line):
         if line.startswith("tick "):

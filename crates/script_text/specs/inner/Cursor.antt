@@ -6,10 +6,12 @@ use Rattle.media_items.specs.Frame.{SourceFrame}
 use Rattle.desk_edit.specs.Asked.{asked_by}
 use Rattle.upward.specs.Upstream.{Asker}
 use Rattle.intake.specs.declared.settings.Settings.{Settings}
+use Rattle.media_items.specs.Inputs.{input_of}
 use Rattle.media_items.specs.Inputs.Input.{frame, tick}
 use Rattle.script_text.specs.declared.fault.ParseFault.{ParseFault}
 use Rattle.script_text.specs.declared.packet.Parts.{Parts}
-use Rattle.script_text.specs.declared.line.FrameHead.{FrameHead}
+use Rattle.script_text.specs.declared.framing.FrameHead.{FrameHead}
+use Rattle.script_text.specs.declared.handed_item.HandedItem.{HandedItem}
 use Rattle.script_text.specs.declared.bridge_line.BridgeLine.{BridgeLine}
 use Rattle.script_text.specs.declared.line.Line.{Line}
 use Rattle.script_text.specs.declared.line.Line.TheVariants as lines
@@ -30,12 +32,17 @@ asker_in settings = record { ssrc = settings.bridge_ssrc; cname = settings.cname
 abbrev pub begin_of : {A : Type 0} → BridgeLine A → Request
 begin_of named = Begin (asker_in named.settings) named.renews
 
+-- an item as it was read
+abbrev pub handed_in : {A : Type 0} → HandedItem A → Request
+handed_in handed = Item (input_of handed.item)
+
 -- a line as it was read, without where it lies in memory
 abbrev pub view : {A : Type 0} → Line A → Request
 view lines.Nothing = Nothing
 view (lines.Begin named) = begin_of named
 view (lines.Desk op call) = Desk op (asked_by call)
 view (lines.Frame f) = Item (frame f)
+view (lines.Item handed) = handed_in handed
 view (lines.Tick moment) = Item (tick moment)
 view (lines.Report moment) = Report moment
 view (lines.Rx moment from octets) = Rx moment from octets.items

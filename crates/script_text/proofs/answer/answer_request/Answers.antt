@@ -7,6 +7,11 @@ returns-in-Frame-clause-answer g c =
     on_ok c.answer_item.result _ _ c.answer_item.ensures.answer (λ hands.
     rw c.in-Frame.is (λ bridge heard stands. (let h = hands bridge stands in (h.0, h.1 ∙ rw c.requires.empty refl))))
 
+pub returns-in-Item-clause-answer : goal.returns-in-Item-clause-answer
+returns-in-Item-clause-answer g c =
+    on_ok c.answer_item-in-Item.result _ _ c.answer_item-in-Item.ensures.answer (λ hands.
+    rw c.in-Item.is (λ bridge heard stands. (let h = hands bridge stands in (h.0, h.1 ∙ rw c.requires.empty refl))))
+
 pub returns-in-Tick-clause-answer : goal.returns-in-Tick-clause-answer
 returns-in-Tick-clause-answer g c =
     on_ok c.answer_item-in-Tick.result _ _ c.answer_item-in-Tick.ensures.answer (λ hands.

@@ -7,8 +7,8 @@ use Rattle.script_text.proofs.packet.packets.Given as goal
 -- the packets so far stand before those of the words that are left
 abbrev pub invariant-loop-left : goal.invariant-loop-left
 invariant-loop-left g l = record {
-  place : l.place + size_of l.left ≤ 65544;
-  packets : source_packets_of 7 (words_in l.fn.words)
+  place : l.place + size_of l.left ≤ 8388617;
+  packets : source_packets_of l.fn.first (words_in l.fn.words)
       ≡ behind l.packets.items (source_packets_of l.place (words_in l.left));
 }
 

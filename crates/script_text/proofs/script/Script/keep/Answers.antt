@@ -1,11 +1,13 @@
-use Rattle.std.proofs.Common.{◌∷◌, [], ◌++◌, arith, ◌≡◌, refl}
+use Rattle.std.proofs.Common.{◌∷◌, [], ◌++◌, ◌≡◌, refl, sym}
 use Rattle.script_text.proofs.StepLemmas.{too_long, kept_goes, kept_heard, none_ended, pushed}
 use Rattle.script_text.proofs.script.Script.keep.Goals as goal
 
-pub returns-then-len-clause-step : goal.returns-then-len-clause-step
-returns-then-len-clause-step g c =
+pub returns-then-is_past-clause-step : goal.returns-then-is_past-clause-step
+returns-then-is_past-clause-step g c =
+    let past = sym c.if-is_past.ensures in
+    let long = rw c.deref.ensures.value at past in
     rw (← c.self.view_is) (λ bridge behind heard stands tail.
-    too_long _ (c.args.octet ∷ tail) c.self.invariant.1 (omega (arith, c.self.inside.pending.ok.0)))
+    too_long _ (c.args.octet ∷ tail) c.self.invariant.1 long)
 
 pub returns-then-is_err-clause-step : goal.returns-then-is_err-clause-step
 returns-then-is_err-clause-step g c =

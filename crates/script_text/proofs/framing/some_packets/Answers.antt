@@ -3,9 +3,9 @@ use Rattle.frame_gate.specs.Frame.{SourcePacket}
 use Rattle.script_text.specs.declared.fault.Fault.{Fault}
 use Rattle.script_text.specs.Words.{Gives}
 use Rattle.script_text.proofs.PacketLemmas.{some_same}
-use Rattle.script_text.proofs.line.some_packets.Goals as goal
+use Rattle.script_text.proofs.framing.some_packets.Goals as goal
 
 pub returns-in-Some : goal.returns-in-Some
 returns-in-Some g c =
     subst (λ (r : Result (List SourcePacket) (ℕ × Fault)). Gives (λ v. v.items) c.packets.result r)
-    (some_same 7 c.args.words _ c.in-Some.is) c.packets.ensures
+    (some_same c.args.place c.args.words _ c.in-Some.is) c.packets.ensures
