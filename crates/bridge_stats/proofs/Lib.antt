@@ -1,4 +1,6 @@
 pub mod Entries
+pub mod Folds
 pub mod GrowLemmas
+pub mod LeftOutLemmas
 pub mod TallyLemmas
 pub mod WholeLemmas

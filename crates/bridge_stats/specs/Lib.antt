@@ -2,6 +2,7 @@ pub mod Counts
 pub mod Headers
 pub mod Kinds
 pub mod Logs
+pub mod Paths
 pub mod Received
 pub mod Runs
 pub mod Senders

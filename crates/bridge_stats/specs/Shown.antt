@@ -7,6 +7,7 @@ use Rattle.bridge_stats.specs.declared.taken.TakenIn.{TakenIn}
 use Rattle.bridge_stats.specs.declared.sender.Sender.{Sender}
 use Rattle.bridge_stats.specs.declared.kind.OutcomeKind.{OutcomeKind}
 use Rattle.bridge_stats.specs.declared.stranger.StrangerNumbers.{StrangerNumbers}
+use Rattle.bridge_stats.specs.declared.path.PathReport.{PathReport}
 use Rattle.bridge_stats.specs.declared.rows.KindRow.{KindRow}
 use Rattle.bridge_stats.specs.declared.rows.SourceRow.{SourceRow}
 use Rattle.bridge_stats.specs.declared.rows.StrangerRow.{StrangerRow}
@@ -22,6 +23,7 @@ use Rattle.bridge_stats.specs.Counts.{datagrams_with, octets_with}
 use Rattle.bridge_stats.specs.Sources.{numbers_of}
 use Rattle.bridge_stats.specs.Stats.{StatsOf}
 use Rattle.bridge_stats.specs.Received.{IsReceived, reception_parts}
+use Rattle.bridge_stats.specs.Paths.{path_parts}
 use Rattle.bridge_stats.specs.Text.{LinePart, words, number, signed, place, no_word, line_text}
 
 -- how many datagrams had an outcome of this kind, and their octets
@@ -80,12 +82,12 @@ stranger_line row =
     ∷ words (codes "packets") ∷ number row.numbers.packets ∷ [])
 
 -- how much was not counted since memory was refused: datagrams of sources, those of strangers, and of streams packets
--- that were sent and reports
-abbrev pub left_out_line : (sources strangers streams : ℕ) → List ℕ
-left_out_line sources strangers streams =
+-- that were sent and reports; and what receivers reported of the way to them
+abbrev pub left_out_line : (sources strangers streams reports : ℕ) → List ℕ
+left_out_line sources strangers streams reports =
     line_text (codes "left-out")
     (words (codes "sources") ∷ number sources ∷ words (codes "strangers") ∷ number strangers
-    ∷ words (codes "streams") ∷ number streams ∷ [])
+    ∷ words (codes "streams") ∷ number streams ∷ words (codes "reports") ∷ number reports ∷ [])
 
 -- the parts of a source's packet: its SSRC and its extended number, or marks that there is none
 abbrev pub highest_parts : Option (ℕ × ℤ) → List LinePart
@@ -107,14 +109,22 @@ abbrev pub highest_of : Option StreamReport → Option (ℕ × ℤ)
 highest_of None = None
 highest_of (Some report) = report.source
 
+-- what the last report says of the way to the receiver, if anything is kept
+abbrev pub path_in : Option StreamReport → Option PathReport
+path_in None = None
+path_in (Some report) = report.path
+
 -- an outgoing stream: what its receiver reported last, and what was sent of it
-abbrev pub stream_line : StreamRow → List ℕ
-stream_line row =
-    line_text (codes "stream")
-    (number row.out_ssrc ∷ words (codes "fraction") ∷ fraction_part row.report
+abbrev pub stream_parts : StreamRow → List LinePart
+stream_parts row =
+    number row.out_ssrc ∷ words (codes "fraction") ∷ fraction_part row.report
     ∷ words (codes "lost") ∷ lost_part row.report
     ∷ words (codes "highest") ∷ (highest_parts (highest_of row.report) ++ words (codes "packets") ∷ number row.packets
-    ∷ words (codes "octets") ∷ number row.octets ∷ words (codes "resent") ∷ number row.resent ∷ []))
+    ∷ words (codes "octets") ∷ number row.octets ∷ words (codes "resent") ∷ number row.resent ∷ [])
+
+-- the same, and the way to its receiver
+abbrev pub stream_line : StreamRow → List ℕ
+stream_line row = line_text (codes "stream") (stream_parts row ++ path_parts (path_in row.report))
 
 abbrev pub lane_line : LaneRow → List ℕ
 lane_line row =
@@ -145,7 +155,8 @@ others_text others =
 
 -- what was left out
 abbrev pub left_out_text : StatsShown → OthersShown → List ℕ
-left_out_text shown others = left_out_line shown.left_out_sources shown.left_out_strangers others.left_out_streams
+left_out_text shown others =
+    left_out_line shown.left_out_sources shown.left_out_strangers others.left_out_streams shown.left_out_reports
 
 -- all that is counted: the outcomes, sources, senders that are no source, what was left out, and what others count
 abbrev pub stats_text : StatsShown → OthersShown → List ℕ
@@ -162,3 +173,4 @@ pub record IsShown (now : ℕ) (intake : IntakeOf) (stats : StatsOf) (shown : St
   pub strangers : shown.strangers.items ≡ map stranger_row stats.strangers.entries
   pub left_out_sources : shown.left_out_sources ≡ stats.sources.left_out
   pub left_out_strangers : shown.left_out_strangers ≡ stats.strangers.left_out
+  pub left_out_reports : shown.left_out_reports ≡ stats.reports.left_out

@@ -6,14 +6,17 @@ use Rattle.bridge_stats.specs.declared.sender.Sender.{Sender}
 use Rattle.bridge_stats.specs.declared.sender.Whom.{Whom}
 use Rattle.bridge_stats.specs.declared.sender.Whom.TheVariants.{Nobody, Source, Stranger}
 use Rattle.bridge_stats.specs.declared.stranger.StrangerNumbers.{StrangerNumbers}
+use Rattle.bridge_stats.specs.declared.path.PathReport.{PathReport}
 use Rattle.bridge_stats.specs.Senders.{sender_of, whose}
 use Rattle.bridge_stats.specs.Tables.{TableOf, IsSourceNoted, IsMet}
 
--- all that was taken in, oldest first; the datagrams of each source that is kept; senders that are no source
+-- all that was taken in, oldest first; the datagrams of each source that is kept; senders that are no source; and what
+-- receivers reported last of the way of each stream that is kept
 pub record StatsOf : Type 0 where
   pub taken : List TakenIn
   pub sources : TableOf (List TakenIn)
   pub strangers : TableOf StrangerNumbers
+  pub reports : TableOf PathReport
 
 -- nothing was taken in
 abbrev pub no_stats : StatsOf
@@ -21,6 +24,7 @@ no_stats = record {
   taken = [];
   sources = record { entries = []; left_out = 0 };
   strangers = record { entries = []; left_out = 0 };
+  reports = record { entries = []; left_out = 0 };
 }
 
 -- A packet is noted apart: of nobody, of a source, or of a sender that is no source.

@@ -1,4 +1,5 @@
 pub mod Growing
 pub mod Kept
+pub mod LeftOut
 pub mod Said
 pub mod Tallies

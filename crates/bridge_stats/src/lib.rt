@@ -3,11 +3,13 @@
 //! Begin with [`BridgeStats::new`]. [`BridgeStats::note`] notes a datagram and its outcome, of which [`TakenIn::of`]
 //! makes one value. Where somebody asks, [`BridgeStats::show`] writes rows into a [`StatsShown`], with how the intake
 //! receives the sources, and [`print_stats`] appends their lines, and those of what others count. A contract sees the
-//! list of all datagrams that were noted, the datagrams of each source that is kept, and a text as its octets.
+//! list of all datagrams that were noted, the datagrams of each source that is kept, what was reported of the way of
+//! each stream that is kept, and a text as its octets.
 //!
 //! ```rust
 //! let mut stats = BridgeStats::new(alloc)?;
-//! stats.note(&TakenIn::of(from, moment, &octets, outcome)); // for each datagram
+//! let taken = TakenIn::of(from, moment, &octets, outcome);
+//! stats.note(alloc, &taken, &octets); // for each datagram
 //! let mut shown = StatsShown::new(alloc)?;
 //! stats.show(now, &intake, &mut shown)?; // now: nanoseconds since 1970
 //! print_stats(&shown, &others, &mut out)?; // datagrams 0 octets 0 dropped TooLong, and so on
@@ -20,6 +22,8 @@ mod laws;
 mod lines;
 mod numbers;
 mod others;
+mod path;
+mod path_table;
 mod received;
 mod rows;
 mod sender;
@@ -38,6 +42,7 @@ pub use self::kind::OutcomeKind;
 pub use self::laws::all_are_counted;
 pub use self::numbers::SourceNumbers;
 pub use self::others::{LaneRow, Limited, OthersShown, Seats, StreamReport, StreamRow};
+pub use self::path::PathReport;
 pub use self::rows::{KindRow, SourceRow, StrangerRow};
 pub use self::sender::Sender;
 pub use self::shown::{StatsShown, print_stats};

@@ -1,12 +1,15 @@
 //! What others count.
 
-ghost use Rattle.std.specs.Prelude.{◌≡◌, ◌∷◌, map};
-ghost use Rattle.bridge_stats.specs.Shown.{fraction_part, lost_part, highest_of, highest_parts, stream_line, lane_line};
+ghost use Rattle.std.specs.Prelude.{◌≡◌, ◌∷◌, [], map};
+ghost use Rattle.bridge_stats.specs.Shown.{fraction_part, lost_part, highest_of, highest_parts, path_in};
+ghost use Rattle.bridge_stats.specs.Shown.{stream_parts, stream_line, lane_line};
+ghost use Rattle.bridge_stats.specs.Paths.{path_jitter_part, trip_part, round_trip_part, path_parts};
 ghost use Rattle.bridge_stats.specs.inner.Said.{said};
 ghost use Rattle.bridge_stats.specs.inner.Growing.{buffer_of, Grows};
 
-use crate::appending::{LineField, NO_WORD, append_line};
+use crate::appending::{LineField, NO_WORD, append_line, append_long_line};
 use crate::lines::StatLine;
+use crate::path::PathReport;
 use std::alloc::{AllocError, Allocator};
 
 /// What the receiver of an outgoing stream reported.
@@ -18,6 +21,8 @@ pub struct StreamReport {
     pub lost: i32,
     /// The source's packet with the highest number that the receiver got: its SSRC and its extended number.
     pub source: Option<(u32, i64)>,
+    /// What it reported last of the way to it, if that is kept.
+    pub path: Option<PathReport>,
 }
 
 /// What was sent of an outgoing stream. Each number counts since the start.
@@ -101,6 +106,12 @@ pub struct OthersShown<'a> {
     pub seats: Seats,
 }
 
+/// The clock rate of video, in Hz.
+const VIDEO_RATE: u64 = 90_000;
+
+/// How many units of a round trip a second has.
+const TRIP_UNITS: u64 = 65_536;
+
 /// The words of a source's packet, or marks that there is none.
 fn highest_fields<'a>(source: Option<(u32, i64)>) -> [LineField<'a>; 2]
     ensures { map said result ≡ highest_parts source }
@@ -134,28 +145,82 @@ fn report_fields<'a>(report: Option<StreamReport>) -> [LineField<'a>; 4]
     }
 }
 
+/// A round trip in whole milliseconds, or a mark that there is none.
+fn trip_field<'a>(trip: Option<u32>) -> LineField<'a>
+    ensures { said result ≡ trip_part trip }
+{
+    match trip {
+        None => LineField::Words(NO_WORD),
+        Some(trip) => LineField::Number(u64::from(trip) * 1_000 / TRIP_UNITS),
+    }
+}
+
+/// The jitter and the round trip in whole milliseconds, or marks that there are none.
+fn path_numbers<'a>(path: Option<PathReport>) -> [LineField<'a>; 2]
+    ensures { map said result ≡ path_jitter_part path ∷ round_trip_part path ∷ [] }
+{
+    match path {
+        None => [LineField::Words(NO_WORD), LineField::Words(NO_WORD)],
+        Some(path) => {
+            let jitter = LineField::Number(u64::from(path.jitter) * 1_000 / VIDEO_RATE);
+            [jitter, trip_field(path.round_trip)]
+        }
+    }
+}
+
+/// The jitter and the round trip, each behind its word.
+fn path_fields<'a>(path: Option<PathReport>) -> [LineField<'a>; 4]
+    ensures { map said result ≡ path_parts path }
+{
+    let [jitter, round_trip] = path_numbers(path);
+    [
+        LineField::Words(b"jitter"),
+        jitter,
+        LineField::Words(b"round-trip"),
+        round_trip,
+    ]
+}
+
+/// What a report says of the way, if it says anything.
+fn path_in(report: Option<StreamReport>) -> Option<PathReport>
+    ensures { result ≡ path_in report }
+{
+    match report {
+        None => None,
+        Some(report) => report.path,
+    }
+}
+
+/// What a stream's receiver reported last, and what was sent of it.
+fn stream_fields<'a>(row: &StreamRow) -> [LineField<'a>; 14]
+    ensures { map said result ≡ stream_parts row.now }
+{
+    let [fraction, lost, ssrc, ext] = report_fields(row.report);
+    [
+        LineField::Number(u64::from(row.out_ssrc)),
+        LineField::Words(b"fraction"),
+        fraction,
+        LineField::Words(b"lost"),
+        lost,
+        LineField::Words(b"highest"),
+        ssrc,
+        ext,
+        LineField::Words(b"packets"),
+        LineField::Number(row.packets),
+        LineField::Words(b"octets"),
+        LineField::Number(row.octets),
+        LineField::Words(b"resent"),
+        LineField::Number(row.resent),
+    ]
+}
+
 impl StatLine for StreamRow {
     ghost line = { stream_line };
 
     fn append<A: Allocator>(&self, out: &mut Vec<u8, A>) -> Result<(), AllocError> {
-        let [fraction, lost, ssrc, ext] = report_fields(self.report);
-        let fields = [
-            LineField::Number(u64::from(self.out_ssrc)),
-            LineField::Words(b"fraction"),
-            fraction,
-            LineField::Words(b"lost"),
-            lost,
-            LineField::Words(b"highest"),
-            ssrc,
-            ext,
-            LineField::Words(b"packets"),
-            LineField::Number(self.packets),
-            LineField::Words(b"octets"),
-            LineField::Number(self.octets),
-            LineField::Words(b"resent"),
-            LineField::Number(self.resent),
-        ];
-        append_line(b"stream", &fields, out)
+        let fields = stream_fields(self);
+        let way = path_fields(path_in(self.report));
+        append_long_line(b"stream", &fields, &way, out)
     }
 }
 

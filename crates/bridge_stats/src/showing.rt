@@ -116,6 +116,7 @@ impl<A: Allocator + Copy> BridgeStats<A> {
         show_strangers(&strangers.cache, &mut shown.strangers)?;
         shown.left_out_sources = sources.left_out;
         shown.left_out_strangers = strangers.left_out;
+        shown.left_out_reports = self.paths.left_out;
         Ok(())
     }
 }
@@ -140,6 +141,7 @@ impl StatsShown {
         show_rows(&others.strangers, &mut self.strangers)?;
         self.left_out_sources = others.left_out_sources;
         self.left_out_strangers = others.left_out_strangers;
+        self.left_out_reports = others.left_out_reports;
         Ok(())
     }
 }

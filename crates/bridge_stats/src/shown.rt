@@ -28,6 +28,8 @@ pub struct StatsShown {
     pub left_out_sources: u64,
     /// How many datagrams of senders that are no source.
     pub left_out_strangers: u64,
+    /// How many reports of the way of streams.
+    pub left_out_reports: u64,
 }
 
 impl StatsShown {
@@ -46,6 +48,7 @@ impl StatsShown {
             strangers,
             left_out_sources: 0,
             left_out_strangers: 0,
+            left_out_reports: 0,
         })
     }
 }
@@ -55,9 +58,10 @@ fn append_left_out<A: Allocator>(
     sources: u64,
     strangers: u64,
     streams: u64,
+    reports: u64,
     out: &mut Vec<u8, A>,
 ) -> Result<(), AllocError>
-    ensures { Grows (buffer_of out.old) (buffer_of out.new) (left_out_line sources strangers streams) result }
+    ensures { Grows (buffer_of out.old) (buffer_of out.new) (left_out_line sources strangers streams reports) result }
 {
     let fields = [
         LineField::Words(b"sources"),
@@ -66,6 +70,8 @@ fn append_left_out<A: Allocator>(
         LineField::Number(strangers),
         LineField::Words(b"streams"),
         LineField::Number(streams),
+        LineField::Words(b"reports"),
+        LineField::Number(reports),
     ];
     append_line(b"left-out", &fields, out)
 }
@@ -155,6 +161,7 @@ fn append_behind_strangers<A: Allocator>(
         shown.left_out_sources,
         shown.left_out_strangers,
         streams,
+        shown.left_out_reports,
         out,
     )?;
     append_others(others, out)

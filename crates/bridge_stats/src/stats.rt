@@ -1,24 +1,32 @@
 //! What a bridge counts.
 
 ghost use Rattle.std.specs.Prelude.{◌≡◌, IfOk};
+ghost use Rattle.std.specs.Map.{lookup};
+ghost use Rattle.bridge_stats.specs.Senders.{same_sender};
 ghost use Rattle.bridge_stats.specs.Stats.{no_stats, HasNoted};
+ghost use Rattle.bridge_stats.specs.Paths.{stream_at, AreReported};
 
+use crate::path::PathReport;
+use crate::path_table::PathTable;
 use crate::sender::{Whom, sender_of, whose};
 use crate::source_table::SourceTable;
 use crate::stranger::Strangers;
 use crate::taken::TakenIn;
 use crate::tally::OutcomeTally;
+use rtp_codec::Address;
 use std::alloc::{AllocError, Allocator, Global};
 use std::marker::Model;
 
 /// What a bridge counts of the datagrams that it takes in.
 ///
-/// Contracts see the list of these datagrams, those of each source that is kept, and the senders that are no source.
+/// Contracts see the list of these datagrams, those of each source that is kept, the senders that are no source, and
+/// what receivers reported of the way of each stream that is kept.
 #[derive(Drop)]
 pub struct BridgeStats<A: Allocator + Copy = Global> {
     pub(crate) tally: OutcomeTally,
     pub(crate) sources: SourceTable<A>,
     pub(crate) strangers: Strangers<A>,
+    pub(crate) paths: PathTable<A>,
 }
 
 impl<A: Allocator + Copy> Model for BridgeStats<A> {
@@ -26,7 +34,12 @@ impl<A: Allocator + Copy> Model for BridgeStats<A> {
 
     ghost Value = { StatsOf };
 
-    ghost view = { λ s. record { taken = s.tally; sources = s.sources; strangers = s.strangers } };
+    ghost view = { λ s. record {
+      taken = s.tally;
+      sources = s.sources;
+      strangers = s.strangers;
+      reports = s.paths;
+    } };
 }
 
 impl<A: Allocator + Copy> BridgeStats<A> {
@@ -36,21 +49,27 @@ impl<A: Allocator + Copy> BridgeStats<A> {
     {
         let sources = SourceTable::new(alloc)?;
         let strangers = Strangers::new(alloc)?;
+        let paths = PathTable::new(alloc)?;
         Ok(Self {
             tally: OutcomeTally::new(),
             sources,
             strangers,
+            paths,
         })
     }
 
-    /// Notes a datagram that was taken in.
+    /// Notes a datagram that was taken in, which has these octets. A compound from a member is read once more, for what
+    /// its blocks report of the way of streams.
     ///
-    /// Only a sender that isn't kept takes memory. Where that is refused, its datagram isn't counted for the sender. It
-    /// counts as one that was left out.
-    pub fn note(&mut self, taken: &TakenIn)
-        ensures { HasNoted taken.now self.old self.new }
+    /// Only a sender or a stream that isn't kept takes memory, and a compound. Where that is refused, a datagram isn't
+    /// counted for its sender, and a block or a compound not for its stream. It counts as one that was left out.
+    pub fn note(&mut self, alloc: A, taken: &TakenIn, octets: &[u8])
+        ensures noted { HasNoted taken.now self.old self.new }
+        ensures reports { AreReported taken.now.outcome taken.now.from taken.now.moment octets.now
+            self.old.reports self.new.reports }
     {
         self.tally.note(taken);
+        self.paths.note(alloc, taken, octets);
         let Some(header) = taken.header else {
             return;
         };
@@ -60,5 +79,12 @@ impl<A: Allocator + Copy> BridgeStats<A> {
             Whom::Source => self.sources.note(sender, taken),
             Whom::Stranger => self.strangers.note(sender, header.pt),
         }
+    }
+
+    /// What was reported last from an address of the way of a stream, if anything is kept.
+    pub fn path(&self, from: &Address, ssrc: u32) -> Option<PathReport>
+        ensures { result ≡ lookup (same_sender (stream_at from.now ssrc)) self.now.reports.entries }
+    {
+        self.paths.path(from, ssrc)
     }
 }

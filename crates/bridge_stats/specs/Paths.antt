@@ -1,0 +1,121 @@
+-- What receivers report of the way of a stream to them (RFC 3550 section 6.4.1).
+use Rattle.std.specs.Prelude.{◌≡◌, ◌⊎◌, ℕ, ◌+◌, ◌-◌, ◌*◌, ◌/◌, ◌%◌, ◌^◌, nat_eq, nat_le, if◌then◌else◌, List, []}
+use Rattle.std.specs.Prelude.{◌∷◌, codes, Option, None, Some}
+use Rattle.std.specs.List.{FoldsTo}
+use Rattle.rtp_codec.specs.declared.address.Address.{Address}
+use Rattle.rtcp_codec.specs.declared.report.ReportBlock.{ReportBlock}
+use Rattle.rtcp_codec.specs.Packet.{Packet, Sender as SenderReport, Receiver, Sdes, Bye, App, Nack, Pli, Other}
+use Rattle.rtcp_codec.specs.Compound.{IsCompound}
+use Rattle.feedback.specs.Times.{ntp_of}
+use Rattle.intake.specs.declared.outcome.Outcome.{Outcome}
+use Rattle.intake.specs.declared.outcome.Outcome.TheVariants.{TooLong, Neither, BadRtp, BadRtcp, Unknown}
+use Rattle.intake.specs.declared.outcome.Outcome.TheVariants.{BadPayload, Spent, Probation, Accepted, Late}
+use Rattle.intake.specs.declared.outcome.Outcome.TheVariants.{Duplicate, Jump, Restarted, Rtcp}
+use Rattle.bridge_stats.specs.declared.sender.Sender.{Sender}
+use Rattle.bridge_stats.specs.declared.path.PathReport.{PathReport}
+use Rattle.bridge_stats.specs.Received.{video_rate}
+use Rattle.bridge_stats.specs.Tables.{TableOf, IsKept, with_left_out}
+use Rattle.bridge_stats.specs.Text.{LinePart, words, number, no_word}
+
+-- of how many streams at their receivers' addresses the last block is kept
+abbrev pub most_paths : ℕ
+most_paths = 5120
+
+-- the middle 32 bits of the NTP timestamp of a moment: 65536ths of a second
+abbrev pub middle_of : ℕ → ℕ
+middle_of moment = ntp_of moment / 2 ^ 16 % 2 ^ 32
+
+-- the time from one moment to another, by their middle 32 bits, which begin anew after 18 hours
+abbrev pub time_from : (first last : ℕ) → ℕ
+time_from first last = (last + 2 ^ 32 - first) % 2 ^ 32
+
+-- the longest round trip that is told: a minute, in 65536ths of a second
+abbrev pub longest_trip : ℕ
+longest_trip = 60 * 2 ^ 16
+
+-- The round trip of this difference. One that is below 0 by a minute at most is 0: the receiver's clock runs fast.
+abbrev pub trip_of : ℕ → Option ℕ
+trip_of difference =
+    if nat_le difference longest_trip then Some difference
+    else (if nat_le (2 ^ 32 - longest_trip) difference then Some 0 else None)
+
+-- The round trip by a block that came at a moment: the time since the sender report that it names (LSR), less the time
+-- for which the receiver had that (DLSR). None if it had no report.
+abbrev pub round_trip : ℕ → ReportBlock → Option ℕ
+round_trip moment block =
+    if nat_eq block.lsr 0 then None
+    else trip_of (time_from block.dlsr (time_from block.lsr (middle_of moment)))
+
+-- what a block that came at a moment reports of the way of its stream
+abbrev pub path_of : ℕ → ReportBlock → PathReport
+path_of moment block = record { jitter = block.jitter; round_trip = round_trip moment block }
+
+-- a stream at the address of its receiver
+abbrev pub stream_at : Address → (ssrc : ℕ) → Sender
+stream_at from ssrc = record { ip = from.ip; port = from.port; ssrc = ssrc }
+
+-- A block was noted that came from an address at a moment.
+abbrev pub IsBlockNoted : Address → ℕ → TableOf PathReport → ReportBlock → TableOf PathReport → Type 0
+IsBlockNoted from moment old block new =
+    IsKept most_paths (stream_at from block.ssrc) (path_of moment block) old new
+
+-- the report blocks of a packet
+abbrev pub blocks_of : Packet → List ReportBlock
+blocks_of (SenderReport ssrc ntp ts packets octets blocks) = blocks
+blocks_of (Receiver ssrc blocks) = blocks
+blocks_of (Sdes chunks) = []
+blocks_of (Bye ssrcs reason) = []
+blocks_of (App subtype ssrc name content) = []
+blocks_of (Nack sender media lost) = []
+blocks_of (Pli sender media) = []
+blocks_of (Other pt count body) = []
+
+-- The blocks of a packet were noted, one after another.
+abbrev pub IsPacketNoted : Address → ℕ → TableOf PathReport → Packet → TableOf PathReport → Type 0
+IsPacketNoted from moment old packet new = FoldsTo (IsBlockNoted from moment) old (blocks_of packet) new
+
+-- All blocks of a compound that came from an address at a moment were noted, or memory ran out, and it was left out and
+-- counted. What is no compound has no blocks.
+abbrev pub HasReported : Address → ℕ → List ℕ → TableOf PathReport → TableOf PathReport → Type 0
+HasReported from moment octets old new =
+    ((packets : List Packet) × IsCompound packets octets × FoldsTo (IsPacketNoted from moment) old packets new)
+    ⊎ (((new ≡ with_left_out old) × ((packets : List Packet) × IsCompound packets octets))
+    ⊎ ((new ≡ old) × ((packets : List Packet) → IsCompound packets octets → ⊥)))
+
+-- The blocks of a datagram with this outcome were noted, if it is a compound from a member.
+abbrev pub AreReported : Outcome → Address → ℕ → List ℕ → TableOf PathReport → TableOf PathReport → Type 0
+AreReported TooLong from moment octets old new = new ≡ old
+AreReported Neither from moment octets old new = new ≡ old
+AreReported (BadRtp fault) from moment octets old new = new ≡ old
+AreReported (BadRtcp fault) from moment octets old new = new ≡ old
+AreReported Unknown from moment octets old new = new ≡ old
+AreReported BadPayload from moment octets old new = new ≡ old
+AreReported Spent from moment octets old new = new ≡ old
+AreReported Probation from moment octets old new = new ≡ old
+AreReported (Accepted ext) from moment octets old new = new ≡ old
+AreReported (Late ext) from moment octets old new = new ≡ old
+AreReported (Duplicate ext) from moment octets old new = new ≡ old
+AreReported Jump from moment octets old new = new ≡ old
+AreReported (Restarted ext) from moment octets old new = new ≡ old
+AreReported (Rtcp packets) from moment octets old new = HasReported from moment octets old new
+
+-- ---- the parts of a stream's line
+
+-- the jitter in whole milliseconds, at the clock rate of video
+abbrev pub path_jitter_part : Option PathReport → LinePart
+path_jitter_part None = no_word
+path_jitter_part (Some path) = number (path.jitter * 1000 / video_rate)
+
+-- a round trip in whole milliseconds
+abbrev pub trip_part : Option ℕ → LinePart
+trip_part None = no_word
+trip_part (Some trip) = number (trip * 1000 / 2 ^ 16)
+
+abbrev pub round_trip_part : Option PathReport → LinePart
+round_trip_part None = no_word
+round_trip_part (Some path) = trip_part path.round_trip
+
+-- the jitter and the round trip, each behind its word
+abbrev pub path_parts : Option PathReport → List LinePart
+path_parts path =
+    words (codes "jitter") ∷ path_jitter_part path ∷ words (codes "round-trip") ∷ round_trip_part path ∷ []

@@ -1,0 +1,174 @@
+//! What receivers reported last of the way of each stream to them.
+
+ghost use Rattle.std.specs.Prelude.{◌≡◌, [], IfOk};
+ghost use Rattle.std.specs.Map.{lookup};
+ghost use Rattle.std.specs.List.{FoldsTo};
+ghost use Rattle.rtcp_codec.specs.View.{packet_of, packets_of};
+ghost use Rattle.bridge_stats.specs.Senders.{same_sender};
+ghost use Rattle.bridge_stats.specs.Tables.{IsKept};
+ghost use Rattle.bridge_stats.specs.Paths.{most_paths, stream_at};
+ghost use Rattle.bridge_stats.specs.inner.LeftOut.{IsLeftOut};
+ghost use Rattle.bridge_stats.specs.Paths.{IsBlockNoted, IsPacketNoted, HasReported, AreReported};
+
+use crate::path::{PathReport, stream_at};
+use crate::sender::Sender;
+use crate::taken::TakenIn;
+use intake::Outcome;
+use lru::LruCache;
+use rtcp_codec::{ReportBlock, Rtcp, RtcpFault, read_compound};
+use rtp_codec::Address;
+use std::alloc::{AllocError, Allocator, Global};
+use std::hash::{BuildHasherDefault, FoldHasher};
+use std::marker::Model;
+use std::num::NonZeroUsize;
+
+/// Of how many streams at their receivers' addresses the last report is kept.
+const MOST_PATHS: usize = 5_120;
+
+/// What was reported of the streams that are kept.
+pub(crate) type PathCache<A> = LruCache<Sender, PathReport, BuildHasherDefault<FoldHasher>, A>;
+
+/// What the last report block says of the way of each stream: of the 5,120 streams, at the addresses of their
+/// receivers, of which blocks came last. Only a stream that isn't kept takes memory. Where that is refused, its block
+/// is left out, and counted.
+///
+/// Contracts see what was reported of each, that of the latest block first.
+#[derive(Drop)]
+pub(crate) struct PathTable<A: Allocator + Copy = Global> {
+    pub(crate) cache: PathCache<A>,
+    pub(crate) left_out: u64,
+}
+
+impl<A: Allocator + Copy> Model for PathTable<A> {
+    ghost use Rattle.std.specs.Prelude.{◌≡◌};
+    ghost use Rattle.bridge_stats.specs.declared.path.PathReport.{PathReport as Path};
+    ghost use Rattle.bridge_stats.specs.Tables.{TableOf};
+    ghost use Rattle.bridge_stats.specs.Paths.{most_paths};
+
+    ghost Value = { TableOf Path };
+
+    ghost view = { λ s. record { entries = s.cache.entries; left_out = s.left_out } };
+
+    ghost invariant = { λ s. s.cache.cap ≡ most_paths };
+}
+
+impl<A: Allocator + Copy> PathTable<A> {
+    /// Nothing was reported. The only error is out of memory.
+    pub(crate) fn new(alloc: A) -> Result<Self, AllocError>
+        ensures { IfOk result (λ table. table ≡ record { entries = []; left_out = 0 }) }
+    {
+        let Some(most) = NonZeroUsize::new(MOST_PATHS) else {
+            unreachable!()
+        };
+        let cache = LruCache::sparse(alloc, most)?;
+        Ok(Self { cache, left_out: 0 })
+    }
+
+    /// What was reported last of a stream from this address.
+    pub(crate) fn path(&self, from: &Address, ssrc: u32) -> Option<PathReport>
+        ensures { result ≡ lookup (same_sender (stream_at from.now ssrc)) self.now.entries }
+    {
+        self.cache.peek(&stream_at(from, ssrc)).copied()
+    }
+
+    /// Keeps what was reported of a stream.
+    fn keep(&mut self, stream: Sender, path: PathReport)
+        ensures { IsKept most_paths stream path self.old self.new }
+    {
+        match self.cache.put(stream, path) {
+            Ok(_) => {}
+            Err(_) => self.left_out = self.left_out.saturating_add(1),
+        }
+    }
+
+    /// Notes a block that came from an address at a moment.
+    fn note_block(&mut self, from: &Address, moment: u64, block: &ReportBlock)
+        ensures { IsBlockNoted from.now moment self.old block.now self.new }
+    {
+        let stream = stream_at(from, block.ssrc);
+        let path = PathReport::of(moment, block);
+        self.keep(stream, path);
+    }
+
+    /// Notes blocks, one after another.
+    fn note_blocks(&mut self, from: &Address, moment: u64, blocks: &[ReportBlock])
+        ensures { FoldsTo (IsBlockNoted from.now moment) self.old blocks.now self.new }
+    {
+        for block in blocks {
+            self.note_block(from, moment, block);
+        }
+    }
+
+    /// Notes the blocks of a packet.
+    fn note_packet(&mut self, from: &Address, moment: u64, packet: &Rtcp<A>)
+        ensures { IsPacketNoted from.now moment self.old (packet_of packet.now) self.new }
+    {
+        match packet {
+            Rtcp::Sender(report) => self.note_blocks(from, moment, &report.blocks),
+            Rtcp::Receiver(report) => self.note_blocks(from, moment, &report.blocks),
+            Rtcp::Sdes(_)
+            | Rtcp::Bye(_)
+            | Rtcp::App(_)
+            | Rtcp::Nack(_)
+            | Rtcp::Pli(_)
+            | Rtcp::Other(_) => {}
+        }
+    }
+
+    /// Notes the blocks of packets, one after another.
+    fn note_packets(&mut self, from: &Address, moment: u64, packets: &[Rtcp<A>])
+        ensures { FoldsTo (IsPacketNoted from.now moment) self.old (packets_of packets.now) self.new }
+    {
+        for packet in packets {
+            self.note_packet(from, moment, packet);
+        }
+    }
+
+    /// Counts one that was left out, if it was read with this fault: memory ran out.
+    fn leave_out(&mut self, fault: RtcpFault)
+        ensures { IsLeftOut fault self.old self.new }
+    {
+        match fault {
+            RtcpFault::OutOfMemory => self.left_out = self.left_out.saturating_add(1),
+            RtcpFault::Short
+            | RtcpFault::Version
+            | RtcpFault::First
+            | RtcpFault::Length
+            | RtcpFault::Padding
+            | RtcpFault::Body => {}
+        }
+    }
+
+    /// Notes the blocks of a compound that came from an address at a moment. Where memory runs out it is left out, and
+    /// counted.
+    fn note_compound(&mut self, alloc: A, from: &Address, moment: u64, octets: &[u8])
+        ensures { HasReported from.now moment octets.now self.old self.new }
+    {
+        match read_compound(alloc, octets) {
+            Ok(packets) => self.note_packets(from, moment, &packets),
+            Err(fault) => self.leave_out(fault),
+        }
+    }
+
+    /// Notes the blocks of a datagram that was taken in and has these octets, if it is a compound from a member.
+    pub(crate) fn note(&mut self, alloc: A, taken: &TakenIn, octets: &[u8])
+        ensures { AreReported taken.now.outcome taken.now.from taken.now.moment octets.now self.old self.new }
+    {
+        match taken.outcome {
+            Outcome::Rtcp { .. } => self.note_compound(alloc, &taken.from, taken.moment, octets),
+            Outcome::TooLong
+            | Outcome::Neither
+            | Outcome::BadRtp(_)
+            | Outcome::BadRtcp(_)
+            | Outcome::Unknown
+            | Outcome::BadPayload
+            | Outcome::Spent
+            | Outcome::Probation
+            | Outcome::Accepted { .. }
+            | Outcome::Late { .. }
+            | Outcome::Duplicate { .. }
+            | Outcome::Jump
+            | Outcome::Restarted { .. } => {}
+        }
+    }
+}
