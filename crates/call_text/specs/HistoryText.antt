@@ -8,6 +8,10 @@ use Rattle.call_history.specs.AcceptedCall.{AcceptedOf}
 abbrev pub said_by : AcceptedOf → List ℕ
 said_by m = decimal m.op ++ codes " " ++ call_line m.call
 
+-- the line of a script that an accepted call has, with an LF
+abbrev pub called_line : AcceptedOf → List ℕ
+called_line m = codes "desk " ++ said_by m ++ codes "\n"
+
 -- the line of an accepted call: its number, its operator, the words of the call, and an LF
 abbrev pub made_line : AcceptedOf → List ℕ
 made_line m = decimal m.number ++ codes " " ++ said_by m ++ codes "\n"

@@ -24,7 +24,7 @@ fn append_head<A: Allocator>(
 }
 
 /// Appends the words of an accepted call, and the end of its line.
-fn append_rest<A: Allocator>(
+pub(crate) fn append_rest<A: Allocator>(
     made: &AcceptedCall<'_>,
     out: &mut Vec<u8, A>,
 ) -> Result<(), AllocError>

@@ -1,12 +1,12 @@
 //! The lines that tell of calls as they are accepted.
 
-ghost use Rattle.std.specs.Prelude.{◌≡◌, ◌+◌, ◌<◌, ◌++◌, length, OnOk, OnErr, vec_len, vec_capacity};
+ghost use Rattle.std.specs.Prelude.{◌≡◌, ◌+◌, ◌<◌, ◌∷◌, ◌++◌, [], length, OnOk, OnErr, vec_len, vec_capacity};
 ghost use Rattle.script_text.specs.inner.Growing.{buffer_of, Grows};
-ghost use Rattle.call_text.specs.HistoryText.{end_line};
+ghost use Rattle.call_text.specs.HistoryText.{end_line, called_line, said_by};
 ghost use Rattle.call_text.specs.NewsText.{news_line, news_text};
 
-use crate::appending::append;
-use crate::history::{append_end, append_made};
+use crate::appending::{append, append_part};
+use crate::history::{append_end, append_made, append_rest};
 use call_history::AcceptedCall;
 use std::alloc::{AllocError, Allocator};
 
@@ -46,6 +46,46 @@ pub fn print_news<A: Allocator>(
 {
     let before = out.len();
     let answer = append_news(all, out);
+    if answer.is_err() {
+        out.truncate(before);
+    }
+    answer
+}
+
+/// Appends the operator of an accepted call, the words of the call, and the end of its line.
+fn append_said<A: Allocator>(
+    made: &AcceptedCall<'_>,
+    out: &mut Vec<u8, A>,
+) -> Result<(), AllocError>
+    ensures { Grows (buffer_of out.old) (buffer_of out.new) (said_by made.now ++ 10 ∷ []) result }
+{
+    append_part(u64::from(made.op()), b' ', out)?;
+    append_rest(made, out)
+}
+
+/// Appends the line of a script that an accepted call has.
+fn append_called<A: Allocator>(
+    made: &AcceptedCall<'_>,
+    out: &mut Vec<u8, A>,
+) -> Result<(), AllocError>
+    ensures { Grows (buffer_of out.old) (buffer_of out.new) (called_line made.now) result }
+{
+    append(b"desk ", out)?;
+    append_said(made, out)
+}
+
+/// Appends the line of a script that an accepted call has: `desk`, its operator and its words. On out of memory, the
+/// only error, nothing changes.
+pub fn print_called<A: Allocator>(
+    made: &AcceptedCall<'_>,
+    out: &mut Vec<u8, A>,
+) -> Result<(), AllocError>
+    ensures ok { OnOk result (out.new.items ≡ out.old.items ++ called_line made.now) }
+    ensures err { OnErr result (out.new.items ≡ out.old.items) }
+    ensures full { OnErr result (vec_capacity out.old < vec_len out.old + length (called_line made.now)) }
+{
+    let before = out.len();
+    let answer = append_called(made, out);
     if answer.is_err() {
         out.truncate(before);
     }

@@ -9,6 +9,8 @@
 //! Their contracts say what a round does, and [`a_watch_tells_each_call_once`] what a watch tells in any number of
 //! them.
 //!
+//! [`Operators::follow`] takes a seat for one that gives no call, and follows those of all others.
+//!
 //! ```rust
 //! // desk and seats: of a shared desk; stream: a connection; front: what is woken after each accepted call
 //! let operators = Operators::new(&rt, alloc, desk, seats);
@@ -27,6 +29,7 @@
 #![tactic(auto)]
 
 mod at_desk;
+mod follower;
 mod latest;
 mod laws;
 mod lobby;
@@ -41,6 +44,7 @@ mod wake;
 mod watching;
 
 pub use self::at_desk::AtDesk;
+pub use self::follower::Follower;
 pub use self::laws::a_watch_tells_each_call_once;
 pub use self::operators::Operators;
 pub use self::printing::print_answer;

@@ -110,6 +110,14 @@ impl<'a, H: DeskBrand> Operators<'a, H> {
         taken
     }
 
+    /// Takes the last free seat: that of the highest operator, while all are free.
+    pub(crate) fn take_last<R: Wait>(&self, rt: &R) -> Option<TakenSeat<'a, H>> {
+        let mut seats = self.seats.lock(rt);
+        let taken = seats.take_last();
+        MutexGuard::unlock(seats);
+        taken
+    }
+
     /// Gives a seat back.
     pub(crate) fn give<R: Wait>(&self, rt: &R, taken: TakenSeat<'a, H>) {
         let mut seats = self.seats.lock(rt);

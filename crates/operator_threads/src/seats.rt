@@ -71,6 +71,18 @@ impl<'a, H: DeskBrand> FreeSeats<'a, H> {
         }
     }
 
+    /// Takes the last of the seats.
+    pub fn take_last(&mut self) -> Option<TakenSeat<'a, H>>
+        ensures taken { IfSome result (λ taken. self.old.seats.items ≡ self.new.seats.items ++ taken.seat ∷ []) }
+        ensures none { IfNone result (self.new.seats.items ≡ []) }
+        ensures capacity { vec_capacity self.new.seats ≡ vec_capacity self.old.seats }
+    {
+        match self.seats.pop() {
+            None => None,
+            Some(seat) => Some(TakenSeat { seat }),
+        }
+    }
+
     /// Gives a seat back. It takes no memory: the list has capacity for the seats that were taken from it. A seat
     /// beyond those is lost.
     pub fn give(&mut self, taken: TakenSeat<'a, H>)

@@ -1,0 +1,112 @@
+//! Appending to a text.
+
+ghost use Rattle.std.specs.Prelude.{◌≡◌, ◌∷◌, ◌++◌, [], decimal, codes, OnOk};
+ghost use Rattle.script_text.specs.Addresses.{address_text};
+ghost use Rattle.trace_text.specs.TraceLines.{mark_of, first_end, first_line, picture_line, half_text};
+
+use crate::speaker::Speaker;
+use itoa::Buffer;
+use rtp_codec::Address;
+use std::alloc::{AllocError, Allocator};
+
+/// Appends a text. Here as below, an `Err`, out of memory, may leave a part of it.
+pub(crate) fn append<A: Allocator>(text: &[u8], out: &mut Vec<u8, A>) -> Result<(), AllocError>
+    ensures { OnOk result (out.new.items ≡ out.old.items ++ text.now) }
+{
+    out.extend_from_slice(text)
+}
+
+/// Appends a number.
+fn append_number<A: Allocator>(number: u64, out: &mut Vec<u8, A>) -> Result<(), AllocError>
+    ensures { OnOk result (out.new.items ≡ out.old.items ++ decimal number) }
+{
+    let mut buffer = Buffer::new();
+    append(buffer.format(number).as_bytes(), out)
+}
+
+/// Appends a text, a number, and another text.
+fn append_around<A: Allocator>(
+    before: &[u8],
+    number: u64,
+    behind: &[u8],
+    out: &mut Vec<u8, A>,
+) -> Result<(), AllocError>
+    ensures { OnOk result (out.new.items ≡ out.old.items ++ before.now ++ decimal number ++ behind.now) }
+{
+    append(before, out)?;
+    append_number(number, out)?;
+    append(behind, out)
+}
+
+/// Appends what stands before each line of a speaker.
+pub(crate) fn append_mark<A: Allocator>(
+    speaker: Speaker,
+    out: &mut Vec<u8, A>,
+) -> Result<(), AllocError>
+    ensures { OnOk result (out.new.items ≡ out.old.items ++ mark_of speaker) }
+{
+    match speaker {
+        Speaker::Front => Ok(()),
+        Speaker::Lane(lane) => append_around(b"lane ", u64::from(lane), b" ", out),
+    }
+}
+
+/// How the first line of a speaker ends.
+fn first_end(speaker: Speaker) -> &'static [u8]
+    ensures { result.now ≡ first_end speaker }
+{
+    match speaker {
+        Speaker::Front => b" renew\n",
+        Speaker::Lane(_) => b"\n",
+    }
+}
+
+/// Appends the first line of a speaker.
+pub(crate) fn append_first<A: Allocator>(
+    speaker: Speaker,
+    ssrc: u32,
+    name: &[u8],
+    out: &mut Vec<u8, A>,
+) -> Result<(), AllocError>
+    ensures { OnOk result (out.new.items ≡ out.old.items ++ first_line speaker ssrc name.now) }
+{
+    append_around(b"bridge ", u64::from(ssrc), b" ", out)?;
+    append(name, out)?;
+    append(first_end(speaker), out)
+}
+
+/// Appends two numbers of an address with a dot between, and a mark behind them.
+fn append_half<A: Allocator>(
+    first: u8,
+    second: u8,
+    mark: &[u8],
+    out: &mut Vec<u8, A>,
+) -> Result<(), AllocError>
+    ensures { OnOk result (out.new.items ≡ out.old.items ++ half_text first second mark.now) }
+{
+    append_around(b"", u64::from(first), b".", out)?;
+    append_around(b"", u64::from(second), mark, out)
+}
+
+/// Appends an address.
+fn append_address<A: Allocator>(address: Address, out: &mut Vec<u8, A>) -> Result<(), AllocError>
+    ensures { OnOk result (out.new.items ≡ out.old.items ++ address_text address) }
+{
+    let [a, b, c, d] = address.ip;
+    append_half(a, b, b".", out)?;
+    append_half(c, d, b":", out)?;
+    append_number(u64::from(address.port), out)
+}
+
+/// Appends the comment that a sender was asked for a picture.
+pub(crate) fn append_picture<A: Allocator>(
+    to: Address,
+    ssrc: u32,
+    out: &mut Vec<u8, A>,
+) -> Result<(), AllocError>
+    ensures { OnOk result (out.new.items ≡ out.old.items ++ picture_line to ssrc) }
+{
+    append(b"# picture ", out)?;
+    append_address(to, out)?;
+    append_around(b" ", u64::from(ssrc), b"\n", out)
+}
