@@ -3,3 +3,4 @@ pub mod LaneLemmas
 pub mod MeantLemmas
 pub mod StepLemmas
 pub mod TurnLemmas
+pub mod TraceLemmas

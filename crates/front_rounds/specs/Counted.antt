@@ -5,6 +5,7 @@ use Rattle.intake.specs.declared.outcome.Outcome.{Outcome}
 use Rattle.bridge_stats.specs.declared.taken.TakenIn.{TakenIn}
 use Rattle.bridge_stats.specs.Headers.{HasHeader}
 use Rattle.bridge_stats.specs.Stats.{StatsOf, HasNoted}
+use Rattle.bridge_stats.specs.Paths.{AreReported}
 use Rattle.media_front.specs.Fronts.{Arrival}
 
 -- The note of a datagram: where it came from and when, how many octets it has, and its outcome. It has the header of an
@@ -21,8 +22,10 @@ pub record IsNoteOf (arrival : Arrival) (outcome : Outcome) (taken : TakenIn) : 
         outcome = outcome;
       }
 
--- A datagram that was taken in was counted once, with its outcome.
+-- A datagram that was taken in was counted once, with its outcome. If it is a compound from a member, what its blocks
+-- report of the way of streams was noted.
 pub record IsCounted (arrival : Arrival) (outcome : Outcome) (old new : StatsOf) : Type 0 where
   pub taken : TakenIn
   pub is : IsNoteOf arrival outcome taken
   pub noted : HasNoted taken old new
+  pub reports : AreReported taken.outcome taken.from taken.moment arrival.octets old.reports new.reports

@@ -7,4 +7,5 @@ pub mod Runs
 pub mod Tries
 pub mod Totals
 pub mod Sleeps
+pub mod Traced
 pub mod inner

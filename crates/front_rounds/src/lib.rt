@@ -11,6 +11,8 @@
 //! [`all_that_came_is_in_turns`] that each datagram that was read is in one turn, in order, and
 //! [`all_that_is_taken_in_is_counted`] that each datagram that was taken in is counted once.
 //!
+//! A front tells its deeds to a [`FrontTrace`], if it has one.
+//!
 //! ```rust
 //! // rounds: a `Rounds` over an `Inlet`, a `Wire` and a `Watch`
 //! let may_wait = rounds.begin_round()?; // connections may wait
@@ -25,6 +27,7 @@ mod reading;
 mod rounds;
 mod running;
 mod switching;
+mod trace;
 mod wakes;
 mod watch;
 
@@ -36,5 +39,6 @@ pub use self::laws::{
 pub use self::logs::{ReadLog, TryLog, WatchLog};
 pub use self::rounds::Rounds;
 pub use self::running::RoundStage;
+pub use self::trace::{FrontDeed, FrontTold, FrontTrace};
 pub use self::wakes::{Wakes, awake_lanes_run_out_of_samples, sleeping_lanes_have_places};
 pub use self::watch::Watch;

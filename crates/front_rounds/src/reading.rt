@@ -57,7 +57,9 @@ impl<N: PublisherName, P: Pace, S: Sink, I: Inlet, W: Wire, C: Watch> Rounds<N, 
         let taken = self
             .media
             .take_in(self.alloc, rows, &from, moment, octets, &mut self.wire)?;
-        self.stats.note(&TakenIn::of(from, moment, octets, taken.0));
+        self.trace.tell_datagram(self.alloc, moment, &from, octets);
+        let counted = TakenIn::of(from, moment, octets, taken.0);
+        self.stats.note(self.alloc, &counted, octets);
         self.ask_first(&from, taken.1, moment)?;
         Ok(true)
     }

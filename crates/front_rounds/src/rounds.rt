@@ -8,6 +8,7 @@ ghost use Rattle.front_rounds.specs.Shapes.{IsDue, IsTaking, IsTakenIn, IsRound,
 
 use crate::inlet::Inlet;
 use crate::running::RoundStage;
+use crate::trace::FrontTrace;
 use crate::wakes::Wakes;
 use crate::watch::Watch;
 use bridge_stats::BridgeStats;
@@ -56,6 +57,8 @@ pub struct Rounds<N: PublisherName, P: Pace, S: Sink, I: Inlet, W: Wire, C: Watc
     pub wakes: Wakes,
     /// What was read last.
     pub chunk: Vec<u8>,
+    /// Where it tells what it does, if it is traced.
+    pub trace: FrontTrace,
 }
 
 impl<N: PublisherName, P: Pace, S: Sink, I: Inlet, W: Wire, C: Watch> Rounds<N, P, S, I, W, C> {
@@ -134,6 +137,7 @@ impl<N: PublisherName, P: Pace, S: Sink, I: Inlet, W: Wire, C: Watch> Rounds<N, 
             × OnOk result (IsTaking rows.now turns) }
     {
         self.has_members = !rows.members().is_empty();
+        self.trace.begin_round(version);
         self.take_datagrams(rows)?;
         let now = self.watch.now()?;
         self.take_due(version, rows, now)
@@ -178,7 +182,9 @@ impl<N: PublisherName, P: Pace, S: Sink, I: Inlet, W: Wire, C: Watch> Rounds<N, 
             (W.attempts self.new.wire) self.new.ticked self.new.stats)
             × OnOk result (turns ≡ let_wait rows.now now ∷ []) }
     {
-        self.media.wait_all(self.alloc, rows, now, &mut self.wire)
+        let done = self.media.wait_all(self.alloc, rows, now, &mut self.wire);
+        self.trace.tell_waits(done.is_ok(), rows, now);
+        done
     }
 
     /// Makes the reports, if they are due.
@@ -190,7 +196,8 @@ impl<N: PublisherName, P: Pace, S: Sink, I: Inlet, W: Wire, C: Watch> Rounds<N, 
             (W.attempts self.new.wire) self.new.ticked self.new.stats)
             × OnOk result ((due : Bool) × (turns ≡ made_report due rows.now now ∷ [])) }
     {
-        self.media.report(self.alloc, rows, now, &mut self.wire)?;
+        let due = self.media.report(self.alloc, rows, now, &mut self.wire)?;
+        self.trace.tell_report(due, now);
         Ok(())
     }
 

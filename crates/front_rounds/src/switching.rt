@@ -113,6 +113,7 @@ impl<N: PublisherName, P: Pace, S: Sink, I: Inlet, W: Wire, C: Watch> Rounds<N, 
             .media
             .ask_picture(self.alloc, &source.address(), source.ssrc, &mut self.wire)?;
         self.note(source, now, sent);
+        self.trace.tell_picture(sent, source);
         Ok(())
     }
 

@@ -74,5 +74,6 @@ pub use self::laws::{
 };
 pub use self::naming::PublisherOf;
 pub use self::offering::places_left;
+pub use self::origins::origin_in;
 pub use self::paying::refill_for;
 pub use self::pricing::pli_octets;

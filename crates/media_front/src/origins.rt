@@ -22,8 +22,8 @@ fn video_origin(rows: &Rows, source: &Source) -> Option<(Address, u32)>
     }
 }
 
-/// The same of the source in a row.
-pub(crate) fn origin_in(rows: &Rows, row: &Row) -> Option<(Address, u32)>
+/// The address and the SSRC that the packets of the source in a row have, if it is video and its member is there.
+pub fn origin_in(rows: &Rows, row: &Row) -> Option<(Address, u32)>
     ensures { option_map origin_of result ≡ origin_in rows.now row.now }
 {
     let source = row.as_source()?;

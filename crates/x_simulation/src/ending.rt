@@ -54,6 +54,7 @@ where
         stage: _,
         wakes: _,
         chunk: _,
+        trace: _,
     } = rounds;
     media
 }

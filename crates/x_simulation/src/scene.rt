@@ -19,7 +19,7 @@ use crate::talkers::Talkers;
 use crate::tally::Tally;
 use bridge_core::{Intake, Settings};
 use bridge_stats::BridgeStats;
-use front_rounds::{RoundStage, Rounds, Wakes as LaneWakes};
+use front_rounds::{FrontTrace, RoundStage, Rounds, Wakes as LaneWakes};
 use media_front::{LaneFeed, MediaFront, PublisherOf, pli_octets};
 use media_workers::SleepPace;
 use operator_desk::{DeskBrand, DeskNames, Log, SharedDesk};
@@ -221,6 +221,7 @@ where
         stage: RoundStage::Whole,
         wakes: LaneWakes::begin(START),
         chunk,
+        trace: FrontTrace::off(),
     }
 }
 

@@ -1,6 +1,7 @@
 use Rattle.std.proofs.Common.{◌≡◌, ◌∷◌, [], ◌++◌, ℕ, List, take, Option, refl, ap, sym, subst, ◌∙◌, inl, inr}
 use Rattle.udp_wire.specs.Attempts.{Attempt}
 use Rattle.bridge_stats.specs.Stats.{StatsOf, HasNoted}
+use Rattle.bridge_stats.specs.Paths.{AreReported}
 use Rattle.media_front.specs.Fronts.{Arrival, HasTaken}
 use Rattle.front_rounds.specs.Came.{datagram, other, nothing, came_by}
 use Rattle.front_rounds.specs.Turns.{TakesArrival, history, passed, took, lost}
@@ -106,6 +107,8 @@ returns-in_err-ask_first g c =
       octets = take c.in-Datagram.octets c.deref.result.now;
     } in
     let outcome = c.in_ok-taken.taken.0 in
+    let of = c.of-counted in
+    let counted = of.result in
     let ended = c.in_ok-taken.taken.1 in
     let turn = took c.catch_up.result arrival outcome ended in
     let old =
@@ -135,10 +138,16 @@ returns-in_err-ask_first g c =
       asker = c.take_in.ensures.asker;
       counted =
           record {
-            taken = c.of.result;
-            is = record { found = c.of.ensures.found; none = c.of.ensures.none; rest = c.of.ensures.rest };
+            taken = counted;
+            is = record { found = of.ensures.found; none = of.ensures.none; rest = of.ensures.rest };
             noted =
-                subst (λ (s : StatsOf). HasNoted c.of.result s c.note.new.self) (ap (λ s. s.stats) same) c.note.ensures;
+                subst (λ (s : StatsOf). HasNoted counted s c.note.new.self) (ap (λ s. s.stats) same)
+                c.note.ensures.noted;
+            reports =
+                subst (λ (s : StatsOf).
+                AreReported counted.outcome counted.from counted.moment arrival.octets s.reports
+                c.note.new.self.reports)
+                (ap (λ s. s.stats) same) c.note.ensures.reports;
           };
     } in
     let k = c.ask_first.ensures in (
@@ -161,6 +170,8 @@ returns g c =
       octets = take c.in-Datagram.octets c.deref.result.now;
     } in
     let outcome = c.in_ok-taken.taken.0 in
+    let of = c.of-counted in
+    let counted = of.result in
     let ended = c.in_ok-taken.taken.1 in
     let turn = took c.catch_up.result arrival outcome ended in
     let old =
@@ -190,10 +201,16 @@ returns g c =
       asker = c.take_in.ensures.asker;
       counted =
           record {
-            taken = c.of.result;
-            is = record { found = c.of.ensures.found; none = c.of.ensures.none; rest = c.of.ensures.rest };
+            taken = counted;
+            is = record { found = of.ensures.found; none = of.ensures.none; rest = of.ensures.rest };
             noted =
-                subst (λ (s : StatsOf). HasNoted c.of.result s c.note.new.self) (ap (λ s. s.stats) same) c.note.ensures;
+                subst (λ (s : StatsOf). HasNoted counted s c.note.new.self) (ap (λ s. s.stats) same)
+                c.note.ensures.noted;
+            reports =
+                subst (λ (s : StatsOf).
+                AreReported counted.outcome counted.from counted.moment arrival.octets s.reports
+                c.note.new.self.reports)
+                (ap (λ s. s.stats) same) c.note.ensures.reports;
           };
     } in
     let k = c.ask_first.ensures in (
