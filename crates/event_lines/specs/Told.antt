@@ -3,11 +3,12 @@ use Rattle.std.specs.Prelude.{ℕ, List, ◌++◌, codes, slice_index}
 use Rattle.std.specs.Fmt.{decimal}
 use Rattle.rtp_codec.specs.declared.address.Address.{Address}
 use Rattle.event_lines.specs.declared.cause.ServerPart.{ServerPart}
-use Rattle.event_lines.specs.declared.cause.ServerPart.TheVariants.{Udp, Tcp, Poll, Clock, Start, Front, Desk, End}
+use Rattle.event_lines.specs.declared.cause.ServerPart.TheVariants.{Udp, Tcp, Trace, Poll, Clock}
+use Rattle.event_lines.specs.declared.cause.ServerPart.TheVariants.{Start, Front, Desk, End}
 use Rattle.event_lines.specs.declared.cause.Cause.{Cause}
 use Rattle.event_lines.specs.declared.cause.Cause.TheVariants.{Failed, LaneMemory, LaneSpent}
 use Rattle.event_lines.specs.declared.event.Event.{Event}
-use Rattle.event_lines.specs.declared.event.Event.TheVariants.{Connection, Refused, Dropped, LeftOut}
+use Rattle.event_lines.specs.declared.event.Event.TheVariants.{Connection, Refused, Dropped, TraceLost, LeftOut}
 use Rattle.event_lines.specs.Words.{why_text}
 
 -- how many causes of an end are kept: one of each of sixteen lanes, and some of the other parts
@@ -25,6 +26,7 @@ place_text a =
 abbrev pub part_text : ServerPart → List ℕ
 part_text (Udp at) = codes "udp " ++ place_text at
 part_text (Tcp at) = codes "tcp " ++ place_text at
+part_text (Trace at) = codes "trace " ++ place_text at
 part_text Poll = codes "poll"
 part_text Clock = codes "clock"
 part_text Start = codes "start"
@@ -44,4 +46,5 @@ event_text (Connection from) = codes "connection from " ++ place_text from
 event_text (Refused from why) = codes "connection from " ++ place_text from ++ codes " refused: " ++ why_text why
 event_text (Dropped lane items) =
     codes "lane " ++ decimal lane ++ codes ": " ++ decimal items ++ codes " items dropped so far"
+event_text (TraceLost to) = codes "trace " ++ place_text to ++ codes " lost"
 event_text (LeftOut events) = decimal events ++ codes " events left out"

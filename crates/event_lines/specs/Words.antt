@@ -26,6 +26,8 @@ system_words n =
     if n == 99 then Some (codes "cannot assign requested address") else
     if n == 100 then Some (codes "network is down") else
     if n == 105 then Some (codes "no buffer space available") else
+    if n == 110 then Some (codes "connection timed out") else
+    if n == 111 then Some (codes "connection refused") else
     None
 
 -- the words for a number: without any the number itself

@@ -19,6 +19,8 @@ pub enum ServerPart {
     Udp(Address),
     /// The socket at this address where operators connect.
     Tcp(Address),
+    /// The connection to this address, to which the trace goes.
+    Trace(Address),
     /// What waits for the sockets.
     Poll,
     /// The system's clock.
@@ -85,6 +87,10 @@ impl fmt::Display for ServerPart {
             ServerPart::Tcp(at) => {
                 let at = ShownPlace(*at);
                 write!(f, "tcp {at}")
+            }
+            ServerPart::Trace(at) => {
+                let at = ShownPlace(*at);
+                write!(f, "trace {at}")
             }
             ServerPart::Poll => write!(f, "poll"),
             ServerPart::Clock => write!(f, "clock"),

@@ -30,6 +30,11 @@ pub enum Event {
         /// How many were dropped for it since the start.
         items: u64,
     },
+    /// The trace ended before the bridge: its reader fell behind, or closed the connection, or memory ran out.
+    TraceLost {
+        /// Where it went to.
+        to: Address,
+    },
     /// This many events have no line of their own.
     LeftOut {
         /// How many.
@@ -54,6 +59,10 @@ impl fmt::Display for Event {
                 f,
                 "lane {lane}: {items} items dropped so far"
             ),
+            Event::TraceLost { to } => {
+                let to = ShownPlace(*to);
+                write!(f, "trace {to} lost")
+            }
             Event::LeftOut { events } => write!(f, "{events} events left out"),
         }
     }

@@ -46,6 +46,8 @@ fn system_words(number: u32) -> Option<&'static str>
         99 => Some("cannot assign requested address"),
         100 => Some("network is down"),
         105 => Some("no buffer space available"),
+        110 => Some("connection timed out"),
+        111 => Some("connection refused"),
         _ => None,
     }
 }

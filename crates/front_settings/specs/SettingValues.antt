@@ -1,7 +1,8 @@
 -- What a value of TOML is as a setting (own).
-use Rattle.std.specs.Prelude.{ℕ, pos, Bool, ◌&&◌, ◌==◌, nat_le, if◌then◌else◌, List, slice_index, Option, Some, None}
+use Rattle.std.specs.Prelude.{ℕ, pos, Bool, not, ◌&&◌, ◌==◌, nat_le, if◌then◌else◌, List, slice_index, Option, Some}
+use Rattle.std.specs.Prelude.{None}
 use Rattle.std.specs.List.{list_all}
-use Rattle.std.specs.Option.{option_and_then}
+use Rattle.std.specs.Option.{option_and_then, option_map}
 use Rattle.toml.specs.Data.{Data, integer, as_str}
 use Rattle.rtp_codec.specs.declared.address.Address.{Address}
 use Rattle.intake.specs.Names.{is_name}
@@ -32,3 +33,16 @@ is_cname text = is_name text && list_all is_printable text
 -- such a text
 abbrev pub cname_in : Data → Option (List ℕ)
 cname_in value = option_and_then (λ text. if is_cname text then Some text else None) (as_str value)
+
+-- the fewest seats of a bridge that is traced: one of them is the trace's
+abbrev pub least_traced : ℕ
+least_traced = 2
+
+-- a name of one word, as the first line of a script has
+abbrev pub is_word : List ℕ → Bool
+is_word text = list_all (λ octet. not (octet == 32)) text
+
+-- where the trace of a bridge with so many seats and this name goes to: only such a bridge has one
+abbrev pub trace_in : ℕ → List ℕ → Data → Option (Option Address)
+trace_in operators name value =
+    if nat_le least_traced operators && is_word name then option_map Some (loopback_in value) else None

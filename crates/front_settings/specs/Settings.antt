@@ -10,8 +10,8 @@ use Rattle.bridge_core.specs.Calls.{most_lanes}
 use Rattle.front_settings.specs.declared.setup.FrontSettings.{FrontSettings}
 use Rattle.front_settings.specs.declared.setup.SettingKey.{SettingKey}
 use Rattle.front_settings.specs.declared.setup.SettingKey.TheVariants.{Udp, Tcp, Lanes, Operators}
-use Rattle.front_settings.specs.declared.setup.SettingKey.TheVariants.{ReportMs, BridgeSsrc, Cname}
-use Rattle.front_settings.specs.SettingValues.{address_in, loopback_in, number_in, cname_in}
+use Rattle.front_settings.specs.declared.setup.SettingKey.TheVariants.{ReportMs, BridgeSsrc, Cname, Trace}
+use Rattle.front_settings.specs.SettingValues.{address_in, loopback_in, number_in, cname_in, trace_in}
 
 -- what is wrong with settings; an unknown key is named by its octets
 pub data Trouble : Type 0 where
@@ -29,6 +29,7 @@ key_text Operators = codes "operators"
 key_text ReportMs = codes "report_ms"
 key_text BridgeSsrc = codes "bridge_ssrc"
 key_text Cname = codes "cname"
+key_text Trace = codes "trace"
 
 -- a value, or the trouble: what follows is judged only behind a value
 infixl 10 ◌>>=◌
@@ -59,7 +60,8 @@ keys_in (member key value rest) = key ∷ keys_in rest
 -- the text is how a setting's key is written
 unfoldable pub is_known : List ℕ → Bool
 is_known text =
-    list_any (λ key. bytes_eq text (key_text key)) (Udp ∷ Tcp ∷ Lanes ∷ Operators ∷ ReportMs ∷ BridgeSsrc ∷ Cname ∷ [])
+    list_any (λ key. bytes_eq text (key_text key))
+    (Udp ∷ Tcp ∷ Lanes ∷ Operators ∷ ReportMs ∷ BridgeSsrc ∷ Cname ∷ Trace ∷ [])
 
 -- the lesser of two texts, octet by octet
 abbrev pub lesser : List ℕ → List ℕ → List ℕ
@@ -103,6 +105,7 @@ settings_of table = do
   report_ms ← given ReportMs (number_in least_report_ms most_report_ms) most_report_ms (value ReportMs)
   bridge_ssrc ← given BridgeSsrc (number_in 0 (2 ^ 32 - 1)) 1 (value BridgeSsrc)
   cname ← given Cname cname_in (codes "bridge") (value Cname)
+  trace ← given Trace (trace_in operators cname) None (value Trace)
   none_left ← none_unknown (unknown_in table)
   Ok (record {
     udp = udp;
@@ -111,6 +114,7 @@ settings_of table = do
     operators = operators;
     report_ms = report_ms;
     bridge = record { bridge_ssrc = bridge_ssrc; cname = cname };
+    trace = trace;
   })
 
 -- the settings of a text, by the table that it is, if it is one

@@ -10,7 +10,7 @@ ghost use Rattle.front_settings.specs.SettingsTold.{Gives};
 
 use crate::fault::SettingsFault;
 use crate::setup::{FrontSettings, SettingKey};
-use crate::values::{cname_of, number_of, tcp_of, udp_of, unknown_in};
+use crate::values::{cname_of, number_of, tcp_of, trace_of, udp_of, unknown_in};
 use bridge_core::Settings;
 use bytes::Bytes;
 use std::alloc::Global;
@@ -58,6 +58,7 @@ fn from_table(alloc: Global, table: &Table) -> Result<FrontSettings, SettingsFau
     )?;
     let bridge_ssrc = number_of(table, SettingKey::BridgeSsrc, 0, u32::MAX, 1)?;
     let cname = cname_of(table)?;
+    let trace = trace_of(table, operators, cname)?;
     none_unknown(alloc, table)?;
     let cname = Bytes::copy_from_slice(alloc, cname)?;
     Ok(FrontSettings {
@@ -67,6 +68,7 @@ fn from_table(alloc: Global, table: &Table) -> Result<FrontSettings, SettingsFau
         operators,
         report_ms,
         bridge: Settings { bridge_ssrc, cname },
+        trace,
     })
 }
 
@@ -81,6 +83,7 @@ fn from_table(alloc: Global, table: &Table) -> Result<FrontSettings, SettingsFau
 /// | `report_ms` | a number from 1,000 to 5,000 | 5,000 |
 /// | `bridge_ssrc` | a number from 0 to 2^32 - 1 | 1 |
 /// | `cname` | a text of 1 to 255 octets, each from 32 to 126 | `bridge` |
+/// | `trace` | a text as of `tcp`; only where `operators` is 2 or more, and `cname` has no space | no trace |
 ///
 /// They are checked in this order, and then any other key is refused. Port 0 is good: the system chooses one. If memory
 /// runs out before the text is read, nothing is checked.

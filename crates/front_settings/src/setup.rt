@@ -22,6 +22,9 @@ pub struct FrontSettings {
     pub report_ms: u32,
     /// How the bridge presents itself to members.
     pub bridge: Settings,
+    /// Where the trace of what it does goes to, in 127.0.0.0/8, if it has one. It then has two seats or more, and a
+    /// name of one word.
+    pub trace: Option<Address>,
 }
 
 /// A key of the settings, named as in the file. The values are checked in this order.
@@ -34,6 +37,7 @@ pub enum SettingKey {
     ReportMs,
     BridgeSsrc,
     Cname,
+    Trace,
 }
 
 impl SettingKey {
@@ -49,6 +53,7 @@ impl SettingKey {
             SettingKey::ReportMs => "report_ms",
             SettingKey::BridgeSsrc => "bridge_ssrc",
             SettingKey::Cname => "cname",
+            SettingKey::Trace => "trace",
         }
     }
 }

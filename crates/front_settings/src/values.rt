@@ -1,12 +1,13 @@
 //! The values of a table, as settings.
 
-ghost use Rattle.std.specs.Prelude.{◌≡◌, ◌≢◌, codes, Err};
+ghost use Rattle.std.specs.Prelude.{◌≡◌, ◌≢◌, codes, Err, None};
 ghost use Rattle.std.specs.List.{list_all};
 ghost use Rattle.std.specs.Option.{option_map};
 ghost use Rattle.toml.specs.Data.{get_member};
 ghost use Rattle.toml.specs.View.{view, table_view};
 ghost use Rattle.script_text.specs.Requests.{is_printable};
-ghost use Rattle.front_settings.specs.SettingValues.{address_in, loopback_in, number_in, is_cname, cname_in};
+ghost use Rattle.front_settings.specs.SettingValues.{address_in, loopback_in, number_in};
+ghost use Rattle.front_settings.specs.SettingValues.{is_cname, cname_in, is_word, trace_in};
 ghost use Rattle.front_settings.specs.Settings.{key_text, needed, given, is_known, unknown_in};
 ghost use Rattle.front_settings.specs.SettingsTold.{Gives};
 
@@ -15,6 +16,9 @@ use crate::setup::SettingKey;
 use rtp_codec::Address;
 use script_text::parse_address;
 use toml::{Table, Value};
+
+/// The fewest seats of a bridge that is traced: one of them is the trace's.
+const LEAST_TRACED: u32 = 2;
 
 /// The address that a text value spells.
 fn address(value: &Value) -> Option<Address>
@@ -131,6 +135,41 @@ pub(crate) fn cname_of(table: &Table) -> Result<&[u8], SettingsFault>
     }
 }
 
+/// Whether a text has no space.
+fn is_word(text: &[u8]) -> bool
+    ensures { result ≡ is_word text.now }
+{
+    text.iter().all(|octet| *octet != 32)
+}
+
+/// Where the trace of a bridge with so many seats and this name goes to, if a value says that it has one.
+fn trace(value: &Value, operators: u32, cname: &[u8]) -> Option<Option<Address>>
+    ensures { result ≡ trace_in operators cname.now (view value.now) }
+{
+    if operators >= LEAST_TRACED && is_word(cname) {
+        loopback(value).map(Some)
+    } else {
+        None
+    }
+}
+
+/// Where the trace of a bridge with so many seats and this name goes to, if it has one.
+pub(crate) fn trace_of(
+    table: &Table,
+    operators: u32,
+    cname: &[u8],
+) -> Result<Option<Address>, SettingsFault>
+    ensures { Gives (λ x. x) result
+        (given SettingKey.Trace (trace_in operators cname.now) None
+        (get_member (codes "trace") (table_view table.now))) }
+{
+    let key = SettingKey::Trace;
+    match value_at(table, key) {
+        None => Ok(None),
+        Some(value) => trace(value, operators, cname).ok_or(SettingsFault::BadValue { key }),
+    }
+}
+
 /// Whether a text is how one of the keys is written.
 #[tactic(auto, unfolding(crate::specs::Settings::is_known))]
 fn is_known(text: &[u8]) -> bool
@@ -143,6 +182,7 @@ fn is_known(text: &[u8]) -> bool
         || text == b"report_ms".as_slice()
         || text == b"bridge_ssrc".as_slice()
         || text == b"cname".as_slice()
+        || text == b"trace".as_slice()
 }
 
 /// The least key that is not known.

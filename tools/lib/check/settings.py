@@ -19,6 +19,8 @@ NEEDS = "the program, twenty seconds"
 
 UDP, TCP = b'udp = "127.0.0.1:0"\n', b'tcp = "127.0.0.1:0"\n'
 BOTH = UDP + TCP
+# A trace goes to an address of this machine, and takes a seat.
+TRACE, TRACED = b'trace = "127.0.0.1:9000"\n', BOTH + b"operators = 2\n"
 # Bad settings, each with the fault that the bridge tells, and what it says that the file has there.
 BAD = [
     (b"", "2 MissingKey udp", "udp is missing"),
@@ -46,6 +48,12 @@ BAD = [
     (BOTH + b'cname = ""\n', "3 BadValue cname", 'cname = ""'),
     (BOTH + b'cname = "a\\tb"\n', "3 BadValue cname", 'cname = "a\\\\tb"'),
     (BOTH + b'cname = "' + 256 * b"a" + b'"\n', "3 BadValue cname", 'cname = "a{111}'),
+    (TRACED + b'trace = "10.0.0.1:9000"\n', "3 BadValue trace", 'trace = "10.0.0.1:9000"'),
+    (TRACED + b"trace = 9000\n", "3 BadValue trace", "trace = 9000"),
+    (BOTH + TRACE, "3 BadValue trace", 'trace = "127.0.0.1:9000"'),
+    (BOTH + b"operators = 1\n" + TRACE, "3 BadValue trace", 'trace = "127.0.0.1:9000"'),
+    (TRACED + b'cname = "a b"\n' + TRACE, "3 BadValue trace", 'trace = "127.0.0.1:9000"'),
+    (TRACED + b"lane = 1\n" + TRACE, "4 UnknownKey lane", "lane = 1"),
     (BOTH + b"lane = 1\n", "4 UnknownKey lane", "lane = 1"),
     (b"zone = 1\nLanes = 1\n" + BOTH, "4 UnknownKey Lanes", "Lanes = 1"),
     (b"lane = 1\noperators = 17\n" + BOTH, "3 BadValue operators", "operators = 17"),
