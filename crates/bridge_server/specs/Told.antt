@@ -1,9 +1,10 @@
 -- What an operator is told of what a bridge counts (own).
 use Rattle.std.specs.Prelude.{◌≡◌, ℕ, List}
+use Rattle.std.specs.Map.{lookup}
 use Rattle.std.specs.Option.{option_map}
-use Rattle.feedback.specs.declared.noting.LossNote.{LossNote}
 use Rattle.intake.specs.inner.Holding.{IntakeOf}
 use Rattle.lane_wire.specs.declared.counts.SendCounts.{SendCounts}
+use Rattle.lane_wire.specs.declared.stream_numbers.Reported.{Reported}
 use Rattle.lane_wire.specs.declared.stream_numbers.StreamNumbers.{StreamNumbers}
 use Rattle.bridge_stats.specs.declared.others.LaneRow.{LaneRow}
 use Rattle.bridge_stats.specs.declared.others.StreamReport.{StreamReport}
@@ -11,7 +12,9 @@ use Rattle.bridge_stats.specs.declared.others.StreamRow.{StreamRow}
 use Rattle.bridge_stats.specs.declared.others.Seats.{Seats}
 use Rattle.bridge_stats.specs.declared.others.OthersShown.{OthersShown}
 use Rattle.bridge_stats.specs.declared.shown.StatsShown.{StatsShown}
+use Rattle.bridge_stats.specs.Senders.{same_sender}
 use Rattle.bridge_stats.specs.Stats.{StatsOf}
+use Rattle.bridge_stats.specs.Paths.{stream_at}
 use Rattle.bridge_stats.specs.Shown.{IsShown, stats_text}
 
 -- These rows show what was counted at a moment, and how an intake received the sources.
@@ -44,15 +47,20 @@ lane_row lane items dropped waiting sent = record {
   waiting = waiting;
 }
 
--- what a receiver reported
-abbrev pub report_row : LossNote → StreamReport
-report_row note = record { fraction = note.fraction; lost = note.lost; source = note.source }
+-- what a receiver reported, and what came last from its address of the way to it, if that is kept
+abbrev pub report_row : StatsOf → Reported → StreamReport
+report_row stats reported = record {
+  fraction = reported.note.fraction;
+  lost = reported.note.lost;
+  source = reported.note.source;
+  path = lookup (same_sender (stream_at reported.from reported.note.out_ssrc)) stats.reports.entries;
+}
 
 -- what was sent of a stream, and what its receiver reported last
-abbrev pub stream_row : ℕ → StreamNumbers → StreamRow
-stream_row ssrc numbers = record {
+abbrev pub stream_row : StatsOf → (ssrc : ℕ) → StreamNumbers → StreamRow
+stream_row stats ssrc numbers = record {
   out_ssrc = ssrc;
-  report = option_map report_row numbers.report;
+  report = option_map (report_row stats) numbers.report;
   packets = numbers.packets;
   octets = numbers.octets;
   resent = numbers.resent;

@@ -1,6 +1,6 @@
 //! Why a bridge does not start, or ends without `stop`.
 
-ghost use Rattle.std.specs.Prelude.{◌≡◌, IfErr, IfOk, Ok};
+ghost use Rattle.std.specs.Prelude.{◌≡◌, ◌↔◌, IfErr, IfOk, Ok};
 ghost use Rattle.std.specs.IoError.{error_kind};
 ghost use Rattle.udp_wire.specs.Ended.{ended_by_io};
 
@@ -9,7 +9,7 @@ use crate::setup::Setup;
 use crate::telling::Teller;
 use event_lines::{Cause, ServerPart, WhyFailed};
 use media_workers::{HandleFault, LaneEnd, PublisherName, StartFault};
-use operator_desk::DeskBrand;
+use operator_desk::{DeskBrand, DeskFault};
 use std::io;
 use std::sync::Wait;
 use std::time::Clock;
@@ -54,6 +54,27 @@ pub(crate) fn started<T, R: Wait>(
             teller.note(rt, Cause::Failed { part, why });
             Err(FrontFault::from(error))
         }
+    }
+}
+
+/// The bridge's fault, if its desk doesn't start.
+pub(crate) fn desk_fault(fault: DeskFault) -> FrontFault
+    ensures { (result ≡ FrontFault.OutOfMemory) ↔ (fault ≡ DeskFault.OutOfMemory) }
+{
+    match fault {
+        DeskFault::OutOfMemory => FrontFault::OutOfMemory,
+        // Settings that were read never have these faults.
+        DeskFault::Count | DeskFault::Places => FrontFault::Io,
+    }
+}
+
+/// The bridge's fault, if its lanes don't start.
+pub(crate) fn start_fault(fault: StartFault) -> FrontFault
+    ensures { (result ≡ FrontFault.OutOfMemory) ↔ (fault ≡ StartFault.OutOfMemory) }
+{
+    match fault {
+        StartFault::OutOfMemory => FrontFault::OutOfMemory,
+        StartFault::Count | StartFault::Spawn => FrontFault::Io,
     }
 }
 

@@ -91,6 +91,7 @@ fn media_in<H: DeskBrand + Setup, R: Wait + Clock + Drop>(
         stage: _,
         wakes: _,
         chunk: _,
+        trace: _,
     } = rounds;
     media
 }

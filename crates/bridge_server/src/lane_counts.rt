@@ -5,9 +5,8 @@ ghost use Rattle.bridge_server.specs.Told.{lane_row, report_row, stream_row};
 
 use crate::rounds::ServerMedia;
 use crate::sinks::counts_for;
-use bridge_core::LossNote;
 use bridge_stats::{BridgeStats, LaneRow, StreamReport, StreamRow};
-use lane_wire::{SendCounts, SharedCounts, StreamNumbers};
+use lane_wire::{Reported, SendCounts, SharedCounts, StreamNumbers};
 use operator_desk::DeskBrand;
 use std::alloc::{AllocError, Global};
 use std::sync::{Arc, Wait};
@@ -120,24 +119,30 @@ pub(crate) fn show_lanes<H: DeskBrand, R: Wait + Clock + Drop>(
     }
 }
 
-/// What a receiver's report says.
-fn report_row(note: &LossNote) -> StreamReport
-    ensures { result ≡ report_row note.now }
+/// What a receiver's report says. Of the way to it is told what came last from its address, if that is kept.
+fn report_row(stats: &BridgeStats, reported: &Reported) -> StreamReport
+    ensures { result ≡ report_row stats.now reported.now }
 {
+    let note = &reported.note;
     StreamReport {
         fraction: note.fraction,
         lost: note.lost,
         source: note.source,
+        path: stats.path(&reported.from, note.out_ssrc),
     }
 }
 
 /// What was sent of a stream, and what its receiver reported last.
-fn stream_row(ssrc: u32, numbers: &StreamNumbers) -> StreamRow
-    ensures { result ≡ stream_row ssrc numbers.now }
+fn stream_row(stats: &BridgeStats, ssrc: u32, numbers: &StreamNumbers) -> StreamRow
+    ensures { result ≡ stream_row stats.now ssrc numbers.now }
 {
+    let report = match &numbers.report {
+        None => None,
+        Some(reported) => Some(report_row(stats, reported)),
+    };
     StreamRow {
         out_ssrc: ssrc,
-        report: numbers.report.map(|note| report_row(&note)),
+        report,
         packets: numbers.packets,
         octets: numbers.octets,
         resent: numbers.resent,
@@ -154,10 +159,10 @@ fn rows_within<R: Wait>(rt: &R, counts: &[Arc<SharedCounts, Global>], share: usi
     rows
 }
 
-/// Shows what was sent of each stream, lane by lane, in each the one of the latest packet or report first. Where the
-/// lanes keep more than 5,120 streams together, each lane has an equal share of the rows, and what others leave of
-/// theirs.
-pub(crate) fn show_streams<R: Wait>(rt: &R, lanes: &mut LaneCounts) {
+/// Shows what was sent of each stream, and what its receiver reported, lane by lane, in each the one that began first
+/// before the others. Where the lanes keep more than 5,120 streams together, each lane has an equal share of the rows,
+/// and what others leave of theirs. It has no rows then for those that began first.
+pub(crate) fn show_streams<R: Wait>(rt: &R, stats: &BridgeStats, lanes: &mut LaneCounts) {
     let LaneCounts {
         counts,
         copied,
@@ -175,23 +180,16 @@ pub(crate) fn show_streams<R: Wait>(rt: &R, lanes: &mut LaneCounts) {
         let most = MOST_STREAMS
             .saturating_sub(shown.streams.len())
             .saturating_sub(kept);
-        show_lane(rt, lane, most, copied, &mut shown.streams);
+        if lane.copy_streams(rt, most, copied).is_ok() {
+            show_lane(stats, copied, &mut shown.streams);
+        }
     }
 }
 
-/// Shows what was sent of so many of a lane's streams at most.
-fn show_lane<R: Wait>(
-    rt: &R,
-    lane: &SharedCounts,
-    most: usize,
-    copied: &mut Vec<(u32, StreamNumbers)>,
-    rows: &mut Vec<StreamRow>,
-) {
-    // There is capacity for the most streams.
-    if lane.copy_streams(rt, most, copied).is_err() {
-        return;
-    }
-    for (ssrc, numbers) in &*copied {
-        let _ = rows.push(stream_row(*ssrc, numbers));
+/// Shows what was sent of a lane's streams, as they were copied.
+fn show_lane(stats: &BridgeStats, copied: &[(u32, StreamNumbers)], rows: &mut Vec<StreamRow>) {
+    for (ssrc, numbers) in copied {
+        // There is capacity for the most streams.
+        let _ = rows.push(stream_row(stats, *ssrc, numbers));
     }
 }

@@ -32,10 +32,13 @@ mod serving;
 mod setup;
 mod sinks;
 mod sockets;
+mod speaking;
 mod stats_desk;
 mod stats_rows;
 mod stopped;
 mod telling;
+mod trace_stream;
+mod tracing;
 mod waking;
 mod watching;
 

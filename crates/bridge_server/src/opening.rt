@@ -1,6 +1,6 @@
 //! How a bridge begins, and the way to its end.
 
-ghost use Rattle.std.specs.Prelude.{◌≡◌, ◌↔◌, ◌≤◌, ◌+◌, true, [], vec_len, All, IfOk};
+ghost use Rattle.std.specs.Prelude.{◌≡◌, ◌≤◌, ◌+◌, true, [], vec_len, All, IfOk};
 ghost use Rattle.intake.specs.Names.{is_name};
 ghost use Rattle.desk_rows.specs.Desk.{blank as no_rows, good};
 ghost use Rattle.versions.specs.Published.{ReaderOf, new_reader};
@@ -11,7 +11,7 @@ ghost use Rattle.lane_wire.specs.Logs.{taken_list};
 ghost use Rattle.bridge_server.specs.Counts.{counts_by};
 ghost use Rattle.bridge_server.specs.OneRun.{IsSetUp, IsOneRun, signer, sent_into};
 
-use crate::causes::{note_desk, note_end, note_round, note_start};
+use crate::causes::{desk_fault, note_desk, note_end, note_round, note_start, start_fault};
 use crate::ending::{close, gather, give_up};
 use crate::front::Front;
 use crate::lane_counts::fresh_counts;
@@ -20,17 +20,17 @@ use crate::rounds::{Running, ServerMedia};
 use crate::serving::serve;
 use crate::setup::Setup;
 use crate::sinks::{LaneSocket, sinks_for};
-use crate::sockets::{Sockets, chunk, sockets_of};
+use crate::sockets::{chunk, sockets_of};
 use crate::stopped::Stopped;
 use crate::telling::Teller;
+use crate::tracing::{Tracer, tracing};
 use crate::waking::FrontWaker;
 use crate::watching::SystemWatch;
 use bridge_core::{Intake, Settings};
-use front_rounds::{RoundStage, Rounds, Wakes};
+use front_rounds::{FrontTrace, RoundStage, Rounds, Wakes};
 use lane_wire::WireSink;
 use media_front::{LaneFeed, MediaFront, pli_octets};
-use media_workers::StartFault;
-use operator_desk::{DeskBrand, DeskFault, DeskNames, Log, MAX_OPERATORS, Seat, SharedDesk};
+use operator_desk::{DeskBrand, DeskNames, Log, MAX_OPERATORS, Seat, SharedDesk};
 use operator_threads::Operators;
 use picture_requests::PictureRequests;
 use rate_limiter::RateLimiter;
@@ -118,35 +118,14 @@ where
     }
 }
 
-/// The bridge's fault, if its desk doesn't start.
-fn desk_fault(fault: DeskFault) -> FrontFault
-    ensures { (result ≡ FrontFault.OutOfMemory) ↔ (fault ≡ DeskFault.OutOfMemory) }
-{
-    match fault {
-        DeskFault::OutOfMemory => FrontFault::OutOfMemory,
-        // Settings that were read never have these faults.
-        DeskFault::Count | DeskFault::Places => FrontFault::Io,
-    }
-}
-
-/// The bridge's fault, if its lanes don't start.
-fn start_fault(fault: StartFault) -> FrontFault
-    ensures { (result ≡ FrontFault.OutOfMemory) ↔ (fault ≡ StartFault.OutOfMemory) }
-{
-    match fault {
-        StartFault::OutOfMemory => FrontFault::OutOfMemory,
-        StartFault::Count | StartFault::Spawn => FrontFault::Io,
-    }
-}
-
-/// Starts the lanes, and returns the front, its waker, and where operators connect.
+/// Starts the lanes. Returns the front, its waker, where operators connect, and what writes the trace, if there is one.
 fn begin<H, R>(
     rt: &R,
     alloc: Global,
-    readers: Vec<LaneReader>,
+    mut readers: Vec<LaneReader>,
     front: Front,
     teller: &Teller,
-) -> Result<(Running<H, R>, FrontWaker, OperatorListener), FrontFault>
+) -> Result<(Running<H, R>, FrontWaker, OperatorListener, Option<Tracer>), FrontFault>
 where
     H: DeskBrand + Setup + Send + Sync + 'static,
     R: Threads + Clock + Wait + Copy + Send + Drop + 'static,
@@ -155,36 +134,36 @@ where
     requires lanes { vec_len readers ≡ H.lanes + 1 }
     requires who { signer front.settings.bridge ≡ H.who }
 {
-    let mut readers = readers;
     let own = readers.pop();
-    let (sockets, listener, waker, moments, settings) = sockets_of(rt, alloc, front, teller)?;
-    let Sockets { inlet, wire, udp } = sockets;
-    let watch = SystemWatch::new(rt, moments);
-    let start = watch.start();
+    let (sockets, listener, waker, clock, trace, settings) = sockets_of(rt, alloc, front, teller)?;
+    let watch = SystemWatch::new(rt, clock);
     let chunk = chunk(alloc)?;
     let (lanes, stats) = fresh_counts(alloc, readers.len())?;
-    let sinks = sinks_for(alloc, &udp, &lanes.counts)?;
-    let reports = ReportTimer::begin(settings.report_ms, start);
+    let bridge = &settings.bridge;
+    let (trace, mut tracer) = tracing(alloc, bridge, trace, teller)?;
+    let sinks = sinks_for(alloc, &sockets.udp, &lanes.counts, &mut tracer, bridge)?;
+    let reports = ReportTimer::begin(settings.report_ms, watch.start());
     let mut media = media_of(rt, alloc, readers, settings.bridge, sinks, reports, teller)?;
     media.renew();
     let rounds = Rounds {
         alloc,
-        inlet,
-        wire,
+        inlet: sockets.inlet,
+        wire: sockets.wire,
+        ticked: watch.start(),
+        wakes: Wakes::begin(watch.start()),
         watch,
         reader: own,
         media,
-        ticked: start,
         stats,
         version: 0,
         pictures: PictureRequests::new(alloc),
         has_members: false,
         stage: RoundStage::Whole,
-        wakes: Wakes::begin(start),
         chunk,
+        trace: FrontTrace::new(trace),
     };
     let running = Running { rounds, lanes };
-    Ok((running, waker, listener))
+    Ok((running, waker, listener, tracer))
 }
 
 /// Starts the lanes, one for each reader, each with a sink.
@@ -224,6 +203,42 @@ where
     }
 }
 
+/// Ends a bridge whose rounds are over, with how the last of them ended: its desk, and then its lanes.
+fn conclude<'a, H, R>(
+    rt: &R,
+    alloc: Global,
+    operators: Operators<'a, H>,
+    count: u32,
+    running: Running<H, R>,
+    round: Result<(), FrontFault>,
+    teller: &Teller,
+) -> Result<Stopped, FrontFault>
+where
+    H: DeskBrand + Setup + Send + Sync + 'static,
+    R: Threads + Clock + Wait + Net + Copy + Send + Sync + Drop + 'static,
+    requires parts { H.seats ≡ H.parts }
+    requires first { good H.start ≡ true }
+    ensures legal { IfOk result (λ s. IsLegal H.start s.log.items) }
+    ensures accepted { IfOk result (λ s. s.accepted.items ≡ counts_by s.log.items count) }
+    ensures one { IfOk result (λ s. IsOneRun H.who H.start (calls_in s.log.items) (sent_into s.sent.items)) }
+    ensures dropped { IfOk result (λ s. vec_len s.dropped ≡ H.lanes) }
+    ensures sent { IfOk result (λ s. vec_len s.sent ≡ H.lanes) }
+{
+    // The desk ends first: a lane then ends at its next item, and what is left in its ring is dropped.
+    match gather(rt, alloc, operators, count) {
+        Ok((desk, last)) => {
+            let lanes = close(rt, alloc, running, &last, teller);
+            note_end(rt, teller, lanes.as_ref().err().copied());
+            Stopped::told(round, lanes, Ok(desk))
+        }
+        Err(fault) => {
+            note_desk(rt, teller, fault);
+            let lanes = give_up(rt, running, teller);
+            Stopped::told(round, Err(lanes), Err(fault))
+        }
+    }
+}
+
 /// Runs a bridge over a desk until an operator stops it, and ends the desk.
 fn run<'a, H, R>(
     rt: &R,
@@ -252,28 +267,24 @@ where
 {
     let count = front.settings.operators;
     match begin(rt, alloc, readers, front, teller) {
-        Ok((running, waker, listener)) => {
+        Ok((running, waker, listener, tracer)) => {
             let operators = Operators::new(rt, alloc, desk, seats);
             let mut running = running;
             let mut listener = listener;
-            let done = serve(rt, alloc, &operators, &waker, &mut listener, &mut running);
+            let done = serve(
+                rt,
+                alloc,
+                &operators,
+                &waker,
+                &mut listener,
+                &mut running,
+                tracer,
+            );
             note_round(rt, teller, &running, &done);
             if operators.has_failed() {
                 note_desk(rt, teller, FrontFault::Io);
             }
-            // The desk ends first: a lane then ends at its next item, and what is left in its ring is dropped.
-            match gather(rt, alloc, operators, count) {
-                Ok((desk, last)) => {
-                    let lanes = close(rt, alloc, running, &last, teller);
-                    note_end(rt, teller, lanes.as_ref().err().copied());
-                    Stopped::told(done, lanes, Ok(desk))
-                }
-                Err(fault) => {
-                    note_desk(rt, teller, fault);
-                    let lanes = give_up(rt, running, teller);
-                    Stopped::told(done, Err(lanes), Err(fault))
-                }
-            }
+            conclude(rt, alloc, operators, count, running, done, teller)
         }
         Err(fault) => {
             desk.end(rt);

@@ -99,8 +99,8 @@ impl<
         }
         let lanes = &mut self.lanes;
         show_lanes(&mut self.rounds.media, lanes);
-        show_streams(rt, lanes);
         let rounds = &self.rounds;
+        show_streams(rt, &rounds.stats, lanes);
         let counts = FrontCounts {
             moment: rounds.ticked,
             stats: &rounds.stats,

@@ -2,9 +2,11 @@
 
 ghost use Rattle.std.specs.Prelude.{◌≡◌, [], length, All, IfOk, vec_len};
 ghost use Rattle.lane_wire.specs.Logs.{taken_list};
+ghost use Rattle.lane_wire.specs.Handlings.{HasAll};
 
-use bridge_core::Egress;
-use lane_wire::{LaneWire, SendFault, SharedCounts, WireLog, WireSink};
+use crate::tracing::{Tracer, lane_trace};
+use bridge_core::{Egress, Settings};
+use lane_wire::{LaneTrace, LaneWire, SendFault, SharedCounts, WireLog, WireSink};
 use mio::net::UdpSocket;
 use rtp_codec::Address;
 use std::alloc::{AllocError, Global};
@@ -122,24 +124,43 @@ pub(crate) fn counts_for(
     Ok(counts)
 }
 
-/// A sink for each of these counts, which sends from a socket. The only error is out of memory.
+/// A sink over a wire, which shows its counts, and hands on what its lane handles, if there is a trace.
+fn sink_of(
+    wire: LaneSocket,
+    shown: Arc<SharedCounts, Global>,
+    trace: Option<LaneTrace>,
+) -> WireSink<LaneSocket>
+    requires { HasAll [] trace }
+    ensures { taken_list result.sent.taken ≡ [] }
+{
+    match trace {
+        None => WireSink::new(wire, shown),
+        Some(trace) => WireSink::traced(wire, shown, trace),
+    }
+}
+
+/// A sink for each of these counts, which sends from a socket, and hands on what its lane handles, if the bridge has a
+/// trace. The only error is out of memory.
 pub(crate) fn sinks_for(
     alloc: Global,
     socket: &Arc<UdpSocket, Global>,
     counts: &[Arc<SharedCounts, Global>],
+    tracer: &mut Option<Tracer>,
+    settings: &Settings,
 ) -> Result<Vec<WireSink<LaneSocket>>, AllocError>
     ensures len { IfOk result (λ sinks. vec_len sinks ≡ length counts.now) }
     ensures untaken { IfOk result (λ sinks. All (λ sink. taken_list sink.sent.taken ≡ []) sinks.items) }
 {
     let mut sinks = Vec::with_capacity(alloc, counts.len())?;
     for shown in counts {
+        let trace = lane_trace(alloc, tracer, settings)?;
         let wire = LaneSocket {
             socket: Arc::try_clone(socket)?,
             whole: Vec::with_capacity(alloc, WHOLE)?,
             parker: Parker::new(),
             log: WireLog::new(),
         };
-        let sink = WireSink::new(wire, Arc::try_clone(shown)?);
+        let sink = sink_of(wire, Arc::try_clone(shown)?, trace);
         sinks.push_reserved(sink);
     }
     Ok(sinks)

@@ -9,6 +9,7 @@ use crate::front::{Front, TCP, UDP, WAKER};
 use crate::listener::OperatorListener;
 use crate::stats_desk::StatsDesk;
 use crate::telling::Teller;
+use crate::trace_stream::TraceStream;
 use crate::waking::FrontWaker;
 use event_lines::{Cause, ServerPart, WhyFailed};
 use front_rounds::{Inlet, Read, ReadLog, TryLog};
@@ -224,17 +225,19 @@ pub(crate) fn sockets_of<R: Wait>(
         OperatorListener,
         FrontWaker,
         Moments,
+        Option<TraceStream>,
         FrontSettings,
     ),
     FrontFault,
 >
-    ensures { IfOk result (λ parts. parts.4 ≡ front.settings) }
+    ensures { IfOk result (λ parts. parts.5 ≡ front.settings) }
 {
     let Front {
         poll,
         udp,
         tcp,
         moments,
+        trace,
         settings,
     } = front;
     let waker = started(
@@ -248,6 +251,7 @@ pub(crate) fn sockets_of<R: Wait>(
         teller: teller.clone()?,
         stats: Arc::new(alloc, StatsDesk::new(alloc)?)?,
         seats: settings.operators,
+        trace: settings.trace,
     };
     let udp = Arc::new(alloc, udp)?;
     let wire = FrontSocket::new(alloc, &udp)?;
@@ -257,5 +261,5 @@ pub(crate) fn sockets_of<R: Wait>(
         has_callers: true,
     };
     let sockets = Sockets { inlet, wire, udp };
-    Ok((sockets, listener, waker, moments, settings))
+    Ok((sockets, listener, waker, moments, trace, settings))
 }

@@ -19,6 +19,8 @@ pub(crate) struct FrontWaker {
     pub(crate) stats: Arc<StatsDesk, Global>,
     /// How many operators' seats there are.
     pub(crate) seats: u32,
+    /// Where the trace goes to, if there is one.
+    pub(crate) trace: Option<Address>,
 }
 
 impl Clone for FrontWaker {
@@ -28,15 +30,25 @@ impl Clone for FrontWaker {
             teller: self.teller.clone()?,
             stats: Arc::try_clone(&self.stats)?,
             seats: self.seats,
+            trace: self.trace,
         })
     }
 }
 
 impl FrontWaker {
-    /// Tells that a connection was refused since no thread could be started for it.
-    pub(crate) fn note_unstarted<R: Wait>(&self, rt: &R, from: Address) {
-        let why = WhyFailed::NoThread;
-        self.teller.tell(rt, Event::Refused { from, why });
+    /// Tells that a connection was refused since no thread could be started for it, unless one was.
+    pub(crate) fn note_talk<R: Wait>(&self, rt: &R, from: Address, is_started: bool) {
+        if !is_started {
+            let why = WhyFailed::NoThread;
+            self.teller.tell(rt, Event::Refused { from, why });
+        }
+    }
+
+    /// Tells that the trace is lost since no thread could be started for it, unless one was.
+    pub(crate) fn note_trace<R: Wait>(&self, rt: &R, is_started: bool) {
+        if let (Some(to), false) = (self.trace, is_started) {
+            self.teller.tell(rt, Event::TraceLost { to });
+        }
     }
 }
 

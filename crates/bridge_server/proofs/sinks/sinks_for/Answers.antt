@@ -15,5 +15,5 @@ loop-shown-preserved c =
       capacity = c.push_reserved.ensures.capacity ∙ k.capacity;
       untaken = subst (All (λ sink. taken_list sink.sent.taken ≡ [])) (sym c.push_reserved.ensures.items)
           (All-append (λ sink. taken_list sink.sent.taken ≡ []) c.loop-shown.sinks.items _ k.untaken
-          (All_one (λ sink. taken_list sink.sent.taken ≡ []) _ c.new-sink.ensures.taken));
+          (All_one (λ sink. taken_list sink.sent.taken ≡ []) _ c.sink_of-sink.ensures));
     }
