@@ -85,6 +85,8 @@ TAKES = {
     "sudo apt install etcd-server": ("etcd, curl, and the ports of a fleet", may_have_fleet),
     "sudo apt": ("packages that the check doesn't install", never),
     "examples/fleet/dispatch.py": ("Kamailio, and a fleet; `check fleet` runs both", never),
+    "nc -l 127.0.0.1 9000": ("a bridge with a trace; `check trace` runs one", never),
+    "sed -n 's/^lane 0": ("the trace of a bridge; `check trace` replays one", never),
     "podman-compose": ("containers, and both programs in them", never),
     "podman build": ("containers, and both programs in them", never),
 }

@@ -3,8 +3,8 @@
 While nobody is there the bridge sleeps. Then two members send PCMU tones, and one of them video, which is lost in part.
 An operator mutes a source, unsubscribes a slot and undoes both. The checks: each stream's numbers have no gap; each
 member hears the other's tone and not its own; a NACK is answered; lost packets are asked for; a PLI is passed on;
-reports come. `stats` counts of each stream what its member got, and has what it reported. The bridge's socket of the
-operator waits for no acknowledgement before it sends an answer's end.
+reports come. `stats` counts of each stream what its member got, and has what it reported, with the jitter and the round
+trip. The bridge's socket of the operator waits for no acknowledgement before it sends an answer's end.
 """
 
 import ctypes
@@ -31,6 +31,12 @@ IDLE = 0.4
 
 # The number of the system call that copies a descriptor of another process (pidfd_getfd(2)).
 GETFD = 438
+
+# The seconds from 1900, where NTP begins, to 1970.
+FROM_1900_TO_1970 = 2208988800
+
+# The round trip that a member's report gives, and how many milliseconds the bridge's clock may be off.
+TRIP_MS, CLOCK_MS = 1750, 100
 
 # Tones of one sample each, mu-law (ITU-T G.711): 988 and -988.
 TONES = {201: 0xCE, 202: 0x4E}
@@ -280,9 +286,14 @@ def counted(call, kind):
     return {line.split()[1]: words_of(line) for line in lines}
 
 
-def other_counts(call, streams):
+def middle_of(seconds):
+    """The middle 32 bits of the NTP timestamp of a moment in seconds since 1970."""
+    return int((seconds + FROM_1900_TO_1970) * 65536) % 2**32
+
+
+def other_counts(call, streams, longest):
     """What `stats` says otherwise than it is: of a stream what came to its member, or of one the report. None if all is
-    so."""
+    so. The round trip is up to so many milliseconds longer than by the report."""
     for member, ssrc in (202, 501), (201, 9001), (202, 9002):
         got, has = call.stream(member, ssrc), streams.get(str(ssrc), {})
         again = len(got) - len({seq_of(packet) for packet in got})
@@ -290,15 +301,21 @@ def other_counts(call, streams):
         said = {word: int(has.get(word, 0)) for word in came}
         if said != came:
             return f"of stream {ssrc} came {came}, and `stats` has {said}"
-    reported = {word: streams["501"][word] for word in ("fraction", "lost")}
-    return None if reported == {"fraction": "64", "lost": "2"} else f"`stats` has the report {reported} on stream 501"
+    reported = {word: streams["501"][word] for word in ("fraction", "lost", "jitter")}
+    if reported != {"fraction": "64", "lost": "2", "jitter": "20"}:
+        return f"`stats` has the report {reported} on stream 501"
+    trip = streams["501"]["round-trip"]
+    is_near = trip != "-" and TRIP_MS - CLOCK_MS <= int(trip) <= TRIP_MS + longest + CLOCK_MS
+    return None if is_near else f"`stats` has the round trip {trip} on stream 501"
 
 
 def check_counts(call):
     """Once the members send nothing any more, `stats` counts what each got of its streams."""
-    # The block: a quarter was lost, two packets in all, and the last packet has the highest number.
-    highest = seq_of(call.stream(202, 501)[-1]).to_bytes(4, "big")
-    call.send(202, bytes.fromhex("81c9000700000009000001f540000002") + highest + bytes(12))
+    # The block: a quarter was lost, two packets in all, and the last packet has the highest number. The jitter is 20
+    # ms. The last sender report came from the bridge 3 s ago, and the member had it for 1.25 s.
+    highest, sent = seq_of(call.stream(202, 501)[-1]).to_bytes(4, "big"), time.time()
+    times = b"".join(number.to_bytes(4, "big") for number in (1800, middle_of(sent - 3), 81920))
+    call.send(202, bytes.fromhex("81c9000700000009000001f540000002") + highest + times)
     end, other = time.monotonic() + PATIENCE, "nothing came"
     # What waits in the bridge is on its way for up to half a second.
     while other:
@@ -307,12 +324,12 @@ def check_counts(call):
         for ssrc, one in call.members.items():
             drain(one, call.got[ssrc])
         streams = counted(call, "stream")
-        other = other_counts(call, streams)
+        other = other_counts(call, streams, (time.time() - sent) * 1000)
     check(set(streams) == {"501", "9001", "9002"}, f"`stats` has the streams {sorted(streams)}")
     lane = counted(call, "lane")["0"]
     check(lane["waiting"] == "0", f"items wait for a lane that is at rest: {lane}")
-    sent = sum(int(has["packets"]) for has in streams.values())
-    check(sent < int(lane["packets"]), f"lane 0 sent {lane['packets']} packets and reports, and its streams {sent}")
+    went = sum(int(has["packets"]) for has in streams.values())
+    check(went < int(lane["packets"]), f"lane 0 sent {lane['packets']} packets and reports, and its streams {went}")
 
 
 def hold(call):

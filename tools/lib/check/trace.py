@@ -1,0 +1,351 @@
+"""Replays the trace of a call, and compares it with the wire.
+
+Members send tones and video over sockets, with packets lost, late and twice; they report, and ask for packets again and
+for pictures. Operators mute, group, move and undo meanwhile. The bridge writes its trace to this tool. Of each lane the
+lines of the trace are a script: it is replayed, by the program or, where there is none, by the models in
+tools/lib/models. Each datagram that the members got is compared with what the scripts send: none differs, none is
+missing, none is over, and each stream is in order.
+
+Then nobody listens where the trace goes to, and the bridge says so and ends; and a reader reads nothing, so that the
+trace ends with `lost`, and the call goes on.
+"""
+
+import collections
+import pathlib
+import random
+import socket
+import subprocess
+import tempfile
+import threading
+import time
+
+from lib.packets import nack, pli, rtp, seq_of
+from lib.serving import Operator, free_port, udp_socket
+from lib.shared import CRATES, add_program_or_build, fail, found_program, try_command
+from lib.traces import Reader, is_control, scripts, sent_by_front, sent_by_lane, stream_in
+
+NEEDS = "a program, half a minute"
+
+# How many lanes bridges have.
+LANES = (1, 4, 16)
+# How many members there are, and how many seconds they talk.
+MEMBERS, SECONDS = 4, 6
+# How many seconds a bridge has to begin, and to end. A program built without proofs takes minutes.
+PATIENCE = 600
+# Payload of a packet of video.
+PICTURE = 700
+
+
+def options(parser):
+    parser.add_argument("--lanes", type=int, action="append", help="a number of lanes, in place of 1, 4 and 16")
+    parser.add_argument("--seed", type=int, default=1, help="where the drawing begins (%(default)s)")
+    add_program_or_build(parser)
+
+
+def check(holds, text):
+    if not holds:
+        fail(text)
+
+
+class Bridge:
+    """A bridge whose trace goes to a port."""
+
+    def __init__(self, args, folder, lanes, trace):
+        self.udp, self.tcp = free_port(socket.SOCK_DGRAM), free_port(socket.SOCK_STREAM)
+        self.said = pathlib.Path(folder) / "stderr"
+        path = pathlib.Path(folder) / "serve.toml"
+        path.write_text(
+            f'udp = "127.0.0.1:{self.udp}"\ntcp = "127.0.0.1:{self.tcp}"\noperators = 3\nlanes = {lanes}\n'
+            f'report_ms = 1000\nbridge_ssrc = 7\ncname = "conf"\ntrace = "127.0.0.1:{trace}"\n'
+        )
+        program = found_program(args.binary)
+        command = [program, "serve", path] if program else try_command(["serve", path], args.seconds)
+        null = subprocess.DEVNULL
+        with self.said.open("w") as said:
+            self.process = subprocess.Popen(
+                command, cwd=CRATES / "confbridge", stdin=null, stdout=null, stderr=said
+            )
+
+    def operator(self):
+        """An operator's connection, once the bridge listens."""
+        end = time.monotonic() + PATIENCE
+        while self.process.poll() is None and time.monotonic() < end:
+            try:
+                return Operator(socket.create_connection(("127.0.0.1", self.tcp), timeout=60))
+            except ConnectionRefusedError:
+                time.sleep(0.1)
+        return fail(f"the bridge doesn't listen: {self.said.read_text()[-2000:]}")
+
+    def stop(self, operator):
+        operator.tell("stop")
+        status = self.process.wait(timeout=PATIENCE)
+        check(status == 0, f"the bridge ended with status {status}: {self.said.read_text()[-2000:]}")
+
+
+class Member(threading.Thread):
+    """A member's socket, which takes all that comes."""
+
+    def __init__(self):
+        super().__init__(daemon=True)
+        self.socket, self.got = udp_socket(), []
+        self.socket.setsockopt(socket.SOL_SOCKET, socket.SO_RCVBUF, 2**24)
+        self.address = f"127.0.0.1:{self.socket.getsockname()[1]}"
+        self.start()
+
+    def run(self):
+        while True:
+            self.got.append(self.socket.recv(65536))
+
+
+class Call:
+    """Members who send, and what they got."""
+
+    def __init__(self, draw, bridge):
+        self.draw, self.to, self.seq, self.late = draw, ("127.0.0.1", bridge.udp), 0, []
+        self.members = [Member() for _ in range(MEMBERS)]
+
+    def setup(self):
+        """The calls that make the desk: each member hears all, and sees the next two."""
+        yield "add-room 1"
+        for at, member in enumerate(self.members):
+            codec = "l16" if at == 1 else "pcmu"
+            yield f"add-member {10 + at} 1 {member.address} {codec} {9000 + at} {65500 + at} {at}"
+            yield f"add-source {200 + at} {10 + at} audio"
+            yield f"add-source {100 + at} {10 + at} video"
+        for at in range(MEMBERS):
+            for place in range(2):
+                out = 500 + 10 * at + place
+                yield f"add-slot {out} {10 + at} {place} 65530 0"
+                yield f"subscribe {out} {100 + (at + place + 1) % MEMBERS}"
+
+    def send(self, member, octets):
+        member.socket.sendto(octets, self.to)
+
+    def pass_on(self, member, octets):
+        """Sends a packet of video: one in thirty is lost, late or sent twice."""
+        fate = self.draw.random()
+        if fate < 0.01:
+            return
+        if fate < 0.02:
+            self.late.append((member, octets))
+            return
+        self.send(member, octets)
+        if fate < 0.03:
+            self.send(member, octets)
+
+    def turn(self):
+        """Each member sends 20 ms of sound, and a frame of one to three packets."""
+        for at, member in enumerate(self.members):
+            octets = bytes([0xCE, 0x4E, 0x40, 0xC0][at : at + 1]) * 160
+            self.send(member, rtp(self.seq, self.seq * 160, 200 + at, octets, pt=0))
+            count = 1 + self.seq % 3
+            for part in range(count):
+                is_last = part == count - 1
+                self.pass_on(member, rtp(self.numbers[at] + part, self.seq * 1800, 100 + at, self.payload(), is_last))
+            self.numbers[at] += count
+        self.seq += 1
+        late, self.late = self.late, []
+        for member, octets in late:
+            self.send(member, octets)
+
+    def payload(self):
+        return self.draw.randbytes(PICTURE)
+
+    def ask(self):
+        """A member asks for packets of a stream again, or for a picture, or reports of it."""
+        at = self.draw.randrange(MEMBERS)
+        out, member = 500 + 10 * at + self.draw.randrange(2), self.members[at]
+        came = [octets for octets in member.got[-200:] if stream_in(octets) == out and octets[1] != 200]
+        last = seq_of(came[-1]) if came else 0
+        fate = self.draw.random()
+        if fate < 0.4:
+            self.send(member, nack(out, (last - self.draw.randrange(20)) % 65536, self.draw.choice([0, 5])))
+        elif fate < 0.5:
+            self.send(member, pli(out))
+        else:
+            block = out.to_bytes(4, "big") + bytes([10, 0, 0, 1]) + last.to_bytes(4, "big") + bytes(12)
+            self.send(member, bytes.fromhex("81c9000700000009") + block)
+
+    def talk(self, seconds):
+        begun = time.monotonic()
+        self.numbers = [1000 * at for at in range(MEMBERS)]
+        while time.monotonic() - begun < seconds:
+            while time.monotonic() - begun >= self.seq * 0.02:
+                self.turn()
+                if self.draw.random() < 0.5:
+                    self.ask()
+            time.sleep(0.002)
+
+
+class Desk(threading.Thread):
+    """An operator who changes the desk and takes much of it back."""
+
+    def __init__(self, draw, operator):
+        super().__init__(daemon=True)
+        self.draw, self.operator, self.calls, self.goes_on = draw, operator, 0, True
+        self.version = int(operator.shown()[-1].split(" ")[1])
+
+    def call(self, line):
+        """Gives a call. Whether it was accepted."""
+        answer = self.operator.ask(line)
+        if answer.startswith("ok "):
+            self.version, self.calls = int(answer.split(" ")[1]), self.calls + 1
+        elif answer.startswith("no "):
+            self.version = int(answer.split(" ")[1])
+        return answer.startswith("ok ")
+
+    def drawn(self):
+        at, other = self.draw.randrange(MEMBERS), self.draw.randrange(MEMBERS)
+        out = 500 + 10 * at + self.draw.randrange(2)
+        return self.draw.choice(
+            [
+                f"mute {200 + at}",
+                f"unmute {200 + at}",
+                f"gain {10 + at} {200 + other} {self.draw.choice([0, 128, 256, 512])}",
+                f"subscribe {out} {100 + other}",
+                f"unsubscribe {out}",
+                f"floor 1 {10 + at}",
+                f"pin 1 {100 + at}",
+                f"remove-slot {out}",
+                f"add-slot {out} {10 + at} {out % 10} 100 200",
+                f"group remove-source {200 + at} / add-source {200 + at} {10 + at} audio",
+                f"undo {self.version}",
+                f"redo {self.version}",
+            ]
+        )
+
+    def run(self):
+        while self.goes_on:
+            self.call(self.drawn())
+            time.sleep(0.02)
+
+
+def differences(wanted, got):
+    """How many of these are missing, and how many are over."""
+    wanted, got = collections.Counter(wanted), collections.Counter(got)
+    return (wanted - got).total(), (got - wanted).total()
+
+
+def check_streams(call, sent):
+    """Each stream came in the order in which its lane sent it."""
+    for member in call.members:
+        got, wanted = collections.defaultdict(list), collections.defaultdict(list)
+        for octets in member.got:
+            got[stream_in(octets)].append(octets)
+        for to, octets in sent:
+            if to == member.address:
+                wanted[stream_in(octets)].append(octets)
+        for stream in set(got) | set(wanted):
+            if stream is not None:
+                check(got[stream] == wanted[stream], f"stream {stream} came in another order than it was sent")
+
+
+def compare(call, lines, lanes, program):
+    """Compares what the members got with what the trace sends. How many datagrams they are."""
+    found = scripts(lines)
+    check(set(found) == {None, *range(lanes)}, f"the trace has the speakers {sorted(map(str, found))}")
+    by_lanes = [one for lane in range(lanes) for one in sent_by_lane(found[lane], lane, lanes, program)]
+    by_front = sent_by_front(found[None], program)
+    got = [(member.address, octets) for member in call.members for octets in member.got]
+    for wanted, came, who in (
+        (by_lanes, [one for one in got if not is_control(one[1])], "lanes"),
+        (by_front, [one for one in got if is_control(one[1])], "the receive side"),
+    ):
+        if who == "lanes":
+            # What lanes pass on to a sender has the form of what the receive side asks for.
+            passed = [one for one in wanted if is_control(one[1])]
+            wanted = [one for one in wanted if not is_control(one[1])]
+            by_front = by_front + passed
+        missing, over = differences(by_front if who != "lanes" else wanted, came)
+        check(not missing and not over, f"of what {who} sent, {missing} datagrams are missing and {over} are over")
+    check_streams(call, by_lanes)
+    return len(got)
+
+
+def quiet(call):
+    """Waits until nothing comes any more."""
+    before = -1
+    while before != sum(len(member.got) for member in call.members):
+        before = sum(len(member.got) for member in call.members)
+        time.sleep(0.5)
+
+
+def check_call(args, lanes):
+    """Holds a call on so many lanes, and replays its trace."""
+    draw, reader = random.Random(args.seed), Reader()
+    with tempfile.TemporaryDirectory() as folder:
+        bridge = Bridge(args, folder, lanes, reader.port)
+        try:
+            operator, other = bridge.operator(), bridge.operator()
+            call = Call(draw, bridge)
+            for line in call.setup():
+                check(operator.ask(line).startswith("ok "), f"`{line}` is refused")
+            desk = Desk(random.Random(args.seed + 1), other)
+            desk.start()
+            call.talk(SECONDS)
+            desk.goes_on = False
+            desk.join()
+            # Without rows nobody is sent anything, so that the trace ends behind the last datagram.
+            answer = operator.ask("remove-room 1")
+            check(answer.startswith("ok "), f"`remove-room 1` is answered `{answer}`")
+            quiet(call)
+            bridge.stop(operator)
+            lines = reader.lines()
+        finally:
+            bridge.process.kill()
+    check("lost" not in lines, "the trace is lost")
+    count = compare(call, lines, lanes, found_program(args.binary))
+    check(count > SECONDS * 300, f"the members got {count} datagrams alone")
+    items = sum(" item " in line for line in lines)
+    print(
+        f"{lanes} lanes: {count:,} datagrams by {items:,} items and {desk.calls} calls in mid-call are as the replayed"
+        " trace sends them"
+    )
+
+
+def check_nobody(args):
+    """Where nobody listens the bridge doesn't start, and says why."""
+    port = free_port(socket.SOCK_STREAM)
+    with tempfile.TemporaryDirectory() as folder:
+        bridge = Bridge(args, folder, 1, port)
+        status = bridge.process.wait(timeout=PATIENCE)
+        said = bridge.said.read_text()
+    wanted = f"confbridge: trace 127.0.0.1:{port}: connection refused\n"
+    check(status and wanted in said, f"the bridge ended with status {status} and said {said!r}")
+    print("nobody listens: the bridge says so, and ends")
+
+
+def check_slow(args):
+    """Where the reader reads nothing, the trace is lost, and the call goes on."""
+    reader = Reader(is_slow=True)
+    with tempfile.TemporaryDirectory() as folder:
+        bridge = Bridge(args, folder, 16, reader.port)
+        try:
+            operator = bridge.operator()
+            call = Call(random.Random(args.seed), bridge)
+            for line in call.setup():
+                check(operator.ask(line).startswith("ok "), f"`{line}` is refused")
+            end = time.monotonic() + 60
+            while "lost" not in bridge.said.read_text():
+                check(time.monotonic() < end, "a trace that nobody reads isn't lost")
+                call.talk(1)
+                call.seq = 0
+            before = len(call.members[0].got)
+            call.talk(1)
+            check(len(call.members[0].got) > before, "the call doesn't go on once the trace is lost")
+            reader.go_on.set()
+            bridge.stop(operator)
+            lines = reader.lines()
+        finally:
+            bridge.process.kill()
+    check(lines[-1] == "lost" and lines.count("lost") == 1, "the trace doesn't end with `lost`")
+    check(f"confbridge: trace 127.0.0.1:{reader.port} lost\n" in bridge.said.read_text(), "the loss isn't told")
+    print("a reader that reads nothing: the trace ends with `lost`, and the call goes on")
+
+
+def run(args):
+    for lanes in args.lanes or LANES:
+        check_call(args, lanes)
+    check_nobody(args)
+    check_slow(args)
+    return 0
