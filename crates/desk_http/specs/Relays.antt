@@ -53,7 +53,7 @@ told_response type_told None =
 abbrev pub form_response : Tables → Query → AnswerForm → List ℕ → PageResponse
 form_response tables query Lines answer = text_response 200 answer
 form_response tables query Json answer = told_response json_type (json_body (shapes_of tables query) answer)
-form_response tables query Metrics answer = told_response metrics_type (metrics_body tables.families.now answer)
+form_response tables query Metrics answer = told_response metrics_type (metrics_body tables.families answer)
 
 -- the response to a request of this route by the bridge's answer, which goes on octet by octet to all but the queries
 abbrev pub text_response_of : Tables → Route → List ℕ → PageResponse

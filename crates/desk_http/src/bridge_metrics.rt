@@ -11,8 +11,7 @@ const LANE_NUMBER: Label = Label {
     place: WordPlace::Word(1),
 };
 
-/// What a bridge does.
-pub(crate) const BRIDGE: [Family; 17] = [
+const BRIDGE: &[Family] = &[
     Family {
         name: "confbridge_lane_items_total",
         help: "Items that a lane was given.",
@@ -212,3 +211,8 @@ pub(crate) const BRIDGE: [Family; 17] = [
         unit: Unit::One,
     },
 ];
+
+/// What a bridge does.
+pub(crate) fn bridge_families() -> &'static [Family] {
+    BRIDGE
+}

@@ -160,8 +160,7 @@ const CALL: [RowField; 3] = [
     },
 ];
 
-/// What `/desk` has.
-pub const DESK: [RowShape; 11] = [
+const DESK: &[RowShape] = &[
     RowShape {
         key: "rooms",
         part: HistoryPart::All,
@@ -241,8 +240,7 @@ pub const DESK: [RowShape; 11] = [
     },
 ];
 
-/// What `/history` has.
-pub const HISTORY: [RowShape; 3] = [
+const HISTORY: &[RowShape] = &[
     RowShape {
         key: "done",
         part: HistoryPart::Done,
@@ -265,3 +263,13 @@ pub const HISTORY: [RowShape; 3] = [
         fields: &VERSION,
     },
 ];
+
+/// What `/desk` has.
+pub(crate) fn desk_shapes() -> &'static [RowShape] {
+    DESK
+}
+
+/// What `/history` has.
+pub(crate) fn history_shapes() -> &'static [RowShape] {
+    HISTORY
+}

@@ -5,8 +5,8 @@
 //! [`PendingLine`] hands that line over once, a [`BridgeRequest`] takes in the bridge's reply, and a [`Responder`]
 //! responds with it. A contract sees requests, lines and replies as octets. The crate has no socket and no clock.
 //!
-//! Answers to queries go on as the bridge's lines, as JSON or as metrics ([`AnswerForm`]). [`TABLES`] has a row for
-//! each key and for each metric.
+//! Answers to queries go on as the bridge's lines, as JSON or as metrics ([`AnswerForm`]). The tables of the page
+//! ([`page_tables`]) have a row for each key and for each metric.
 //!
 //! ```rust
 //! let mut request = BridgeRequest::new(alloc, Vec::from_slice(alloc, b"mute 201")?);
@@ -51,7 +51,7 @@ pub use naming::{Names, NamesOutcome, is_names_text};
 pub use pending_line::PendingLine;
 pub use query::{AnswerForm, Query};
 pub use reading::WordPlace;
-pub use relaying::{TABLES, Tables};
+pub use relaying::{Tables, page_tables};
 pub use responding::BridgeReply;
 pub use routing::{MAX_CHANGE, MAX_LINE, PageRefusal, Route, route_of};
 pub use rows::{HistoryPart, RowField, RowKind, RowShape};

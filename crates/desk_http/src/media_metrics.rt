@@ -25,8 +25,7 @@ const STREAM: Labels = Labels::One(Label {
     place: WordPlace::Word(1),
 });
 
-/// What comes and goes.
-pub(crate) const MEDIA: [Family; 24] = [
+const MEDIA: &[Family] = &[
     Family {
         name: "confbridge_datagrams_total",
         help: "Datagrams that came, by what became of them.",
@@ -199,6 +198,18 @@ pub(crate) const MEDIA: [Family; 24] = [
         unit: Unit::One,
     },
     Family {
+        name: "confbridge_uncounted_datagrams_total",
+        help: "",
+        kind: "counter",
+        line: "left-out",
+        labels: Labels::One(Label {
+            name: "kind",
+            place: WordPlace::Fixed("reports"),
+        }),
+        value: WordPlace::Behind("reports", 1),
+        unit: Unit::One,
+    },
+    Family {
         name: "confbridge_stream_lost_256ths",
         help: "Loss of an outgoing stream since its receiver's report before the last one, in 256ths.",
         kind: "gauge",
@@ -224,6 +235,24 @@ pub(crate) const MEDIA: [Family; 24] = [
         labels: STREAM,
         value: WordPlace::Behind("highest", 2),
         unit: Unit::One,
+    },
+    Family {
+        name: "confbridge_stream_jitter_seconds",
+        help: "Interarrival jitter of an outgoing stream, by its receiver's last report.",
+        kind: "gauge",
+        line: "stream",
+        labels: STREAM,
+        value: WordPlace::Behind("jitter", 1),
+        unit: Unit::Thousandth,
+    },
+    Family {
+        name: "confbridge_stream_round_trip_seconds",
+        help: "Round trip to the receiver of an outgoing stream, by its last report that tells one.",
+        kind: "gauge",
+        line: "stream",
+        labels: STREAM,
+        value: WordPlace::Behind("round-trip", 1),
+        unit: Unit::Thousandth,
     },
     Family {
         name: "confbridge_stream_packets_total",
@@ -253,3 +282,8 @@ pub(crate) const MEDIA: [Family; 24] = [
         unit: Unit::One,
     },
 ];
+
+/// What comes and goes.
+pub(crate) fn media_families() -> &'static [Family] {
+    MEDIA
+}

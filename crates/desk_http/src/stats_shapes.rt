@@ -97,7 +97,7 @@ const STRANGER: [RowField; 4] = [
     },
 ];
 
-const LEFT_OUT: [RowField; 3] = [
+const LEFT_OUT: [RowField; 4] = [
     RowField {
         name: "sources",
         place: WordPlace::Behind("sources", 1),
@@ -110,9 +110,13 @@ const LEFT_OUT: [RowField; 3] = [
         name: "streams",
         place: WordPlace::Behind("streams", 1),
     },
+    RowField {
+        name: "reports",
+        place: WordPlace::Behind("reports", 1),
+    },
 ];
 
-const STREAM: [RowField; 8] = [
+const STREAM: [RowField; 10] = [
     RowField {
         name: "out_ssrc",
         place: WordPlace::Word(1),
@@ -145,10 +149,17 @@ const STREAM: [RowField; 8] = [
         name: "resent",
         place: WordPlace::Behind("resent", 1),
     },
+    RowField {
+        name: "jitter_ms",
+        place: WordPlace::Behind("jitter", 1),
+    },
+    RowField {
+        name: "round_trip_ms",
+        place: WordPlace::Behind("round-trip", 1),
+    },
 ];
 
-/// What `/stats` has.
-pub const STATS: [RowShape; 8] = [
+const STATS: &[RowShape] = &[
     RowShape {
         key: "datagrams",
         part: HistoryPart::All,
@@ -206,3 +217,8 @@ pub const STATS: [RowShape; 8] = [
         fields: &SEATS,
     },
 ];
+
+/// What `/stats` has.
+pub(crate) fn stats_shapes() -> &'static [RowShape] {
+    STATS
+}

@@ -4,9 +4,7 @@ use crate::client::Client;
 use crate::names_store::NamesStore;
 use crate::query_timer::QueryTimer;
 use crate::server_config::ServerConfig;
-use desk_http::{
-    BridgeReply, ClientActivity, Placement, Query, Responder, Router, Site, TABLES, admit,
-};
+use desk_http::{BridgeReply, ClientActivity, Placement, Query, Responder, Router, Site, admit};
 use mio::net::TcpStream;
 use std::alloc::{AllocError, Global};
 use std::fs::Files;
@@ -123,7 +121,7 @@ impl Clients {
     ) {
         for client in &mut self.connected {
             if client.awaits_reply() {
-                let (alloc, tables) = (config.alloc, &TABLES);
+                let (alloc, tables) = (config.alloc, &config.tables);
                 let responder = Responder {
                     alloc,
                     tables,
@@ -148,7 +146,7 @@ impl Clients {
         for client in &mut self.connected {
             if let Some(line) = client.take_names() {
                 let reply = &store.reply_to(rt, config.alloc, &line)?;
-                let (alloc, tables, line) = (config.alloc, &TABLES, line.as_slice());
+                let (alloc, tables, line) = (config.alloc, &config.tables, line.as_slice());
                 let responder = Responder {
                     alloc,
                     tables,
@@ -172,7 +170,7 @@ impl Clients {
     ) {
         for client in &mut self.connected {
             if let Some(line) = client.take_line() {
-                let (alloc, tables, line) = (config.alloc, &TABLES, line.as_slice());
+                let (alloc, tables, line) = (config.alloc, &config.tables, line.as_slice());
                 let responder = Responder {
                     alloc,
                     tables,

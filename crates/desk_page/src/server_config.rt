@@ -1,5 +1,6 @@
 //! What each connection to the page begins with.
 
+use desk_http::Tables;
 use http_server::{Config, Connection};
 use std::alloc::Global;
 use std::hash::RandomState;
@@ -13,6 +14,8 @@ pub(crate) struct ServerConfig {
     pub(crate) keys: RandomState,
     /// The limits of its request.
     pub(crate) config: Config,
+    /// How answers are handed on to machines.
+    pub(crate) tables: Tables,
 }
 
 impl ServerConfig {

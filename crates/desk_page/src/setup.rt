@@ -5,7 +5,7 @@ use crate::script_lines::LINES;
 use crate::script_view::VIEW;
 use crate::server_config::ServerConfig;
 use crate::style::STYLE;
-use desk_http::{Assets, Router, Site, request_limits, token};
+use desk_http::{Assets, Router, Site, page_tables, request_limits, token};
 use std::alloc::Global;
 use std::hash::RandomState;
 use std::io;
@@ -48,5 +48,6 @@ pub(crate) fn server_config<R: RandomSource>(rt: &R, alloc: Global) -> io::Resul
         alloc,
         keys: RandomState::new(rt)?,
         config: request_limits(),
+        tables: page_tables(),
     })
 }

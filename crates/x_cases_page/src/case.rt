@@ -4,8 +4,8 @@ use crate::admissions::placement_is;
 use crate::connections::reply_is;
 use crate::request::{octets_of, request_of, spoken};
 use desk_http::{
-    Assets, BridgeReply, BridgeRequest, ReplyProgress, Responder, Router, Site, TABLES,
-    loopback_addresses, request_limits,
+    Assets, BridgeReply, BridgeRequest, ReplyProgress, Responder, Router, Site, Tables,
+    loopback_addresses, page_tables, request_limits,
 };
 use http_server::{Config, Connection, Service};
 use std::alloc::{AllocError, Global};
@@ -19,6 +19,7 @@ pub struct Page {
     alloc: Global,
     keys: RandomState,
     config: Config,
+    tables: Tables,
     router: Router,
     /// The same page at port 80.
     router_80: Router,
@@ -156,6 +157,7 @@ impl Page {
             alloc,
             keys,
             config: request_limits(),
+            tables: page_tables(),
             router: router_at(alloc, 7080)?,
             router_80: router_at(alloc, 80)?,
         })
@@ -205,7 +207,7 @@ impl Page {
         let site = &self.router.site;
         let mut responder = Responder {
             alloc: self.alloc,
-            tables: &TABLES,
+            tables: &self.tables,
             site,
             line,
             reply,

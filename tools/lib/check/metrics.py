@@ -35,10 +35,10 @@ frames 31 given-up 2 waiting 40 since 7
 source 10.0.0.1:5000 201 packets 7 octets 1204 late 2 duplicate 0 dropped 0 expected 9 lost 2 ago 120000 jitter 0 \
 frames - given-up - waiting -
 stranger 10.0.0.9:5000 777 type 100 packets 12
-left-out sources 0 strangers 5 streams 0
-stream 501 fraction 64 lost 1 highest 101 8 packets 20 octets 22000 resent 3
-stream 502 fraction 0 lost -2 highest - - packets 1 octets 13 resent 0
-stream 9001 fraction - lost - highest - - packets 50 octets 8600 resent 0
+left-out sources 0 strangers 5 streams 0 reports 6
+stream 501 fraction 64 lost 1 highest 101 8 packets 20 octets 22000 resent 3 jitter 12 round-trip 35
+stream 502 fraction 0 lost -2 highest - - packets 1 octets 13 resent 0 jitter 8 round-trip -
+stream 9001 fraction - lost - highest - - packets 50 octets 8600 resent 0 jitter - round-trip -
 lane 0 items 5012 dropped 4 packets 4010 octets 520112 waited 6 not-ready 1 denied 0 refused 7 unreachable 0 \
 too-long 0 other 2 waiting 3
 tomorrow 7 of 9
@@ -57,10 +57,13 @@ SAMPLES = {
     'confbridge_source_frames{address="10.0.0.1:5000",ssrc="101"}': 31,
     'confbridge_stranger_packets_total{address="10.0.0.9:5000",ssrc="777"}': 12,
     'confbridge_uncounted_datagrams_total{kind="strangers"}': 5,
+    'confbridge_uncounted_datagrams_total{kind="reports"}': 6,
     'confbridge_stream_lost_packets{ssrc="502"}': -2,
     'confbridge_stream_highest_sequence_number{ssrc="501"}': 8,
     'confbridge_stream_resent_packets_total{ssrc="501"}': 3,
     'confbridge_stream_packets_total{ssrc="9001"}': 50,
+    'confbridge_stream_jitter_seconds{ssrc="502"}': 0.008,
+    'confbridge_stream_round_trip_seconds{ssrc="501"}': 0.035,
     'confbridge_lane_waiting_items{lane="0"}': 3,
     'confbridge_lane_unsent_packets_total{lane="0",cause="refused"}': 7,
     'confbridge_limited_feedback_total{kind="nacks"}': 4,
@@ -82,6 +85,8 @@ STATS = [
             "packets": 1,
             "octets": 13,
             "resent": 0,
+            "jitter_ms": 8,
+            "round_trip_ms": None,
         },
     ),
 ]
