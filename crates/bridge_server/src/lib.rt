@@ -32,7 +32,6 @@ mod serving;
 mod setup;
 mod sinks;
 mod sockets;
-mod speaking;
 mod stats_desk;
 mod stats_rows;
 mod stopped;

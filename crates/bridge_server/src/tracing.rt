@@ -3,7 +3,6 @@
 ghost use Rattle.std.specs.Prelude.{◌≡◌, [], IfOk};
 ghost use Rattle.lane_wire.specs.Handlings.{handed_on, HasAll};
 
-use crate::speaking::{PLACES, Speaking, take_front, take_lane};
 use crate::telling::Teller;
 use crate::trace_stream::TraceStream;
 use bridge_core::Settings;
@@ -17,8 +16,11 @@ use std::sync::Wait;
 use std::thread;
 use std::time::{Clock, Duration};
 use trace_ring::{TraceReceiver, TraceSender, trace_ring};
-use trace_text::{Speaker, Told};
+use trace_scripts::{Deed, Speaking};
+use trace_text::Speaker;
 
+/// How many deeds the ring of a speaker holds.
+const PLACES: usize = 1_024;
 /// How many milliseconds it sleeps where nothing has come.
 const PAUSE: u64 = 2;
 /// How many pauses the reader has at the end of the bridge: 2 s.
@@ -33,9 +35,14 @@ pub(crate) struct Tracer {
     teller: Teller,
 }
 
-/// What has told nothing but the first line of a speaker.
-fn told_of(speaker: Speaker, settings: &Settings, text: &mut Vec<u8>) -> Result<Told, AllocError> {
-    Told::begin(speaker, settings.bridge_ssrc, &settings.cname, text)
+/// A speaker that has told its first line.
+fn begin<T: Deed>(
+    speaker: Speaker,
+    settings: &Settings,
+    from: TraceReceiver<T>,
+    text: &mut Vec<u8>,
+) -> Result<Speaking<T>, AllocError> {
+    Speaking::begin(speaker, settings.bridge_ssrc, &settings.cname, from, text)
 }
 
 /// Where the front of a bridge hands on what it does, and what writes that over this connection. The only error is out
@@ -48,10 +55,10 @@ fn traced(
 ) -> Result<(TraceSender<FrontTold>, Tracer), AllocError> {
     let mut stream = stream;
     let (sender, from) = trace_ring(alloc, PLACES)?;
-    let told = told_of(Speaker::Front, settings, &mut stream.text)?;
+    let front = begin(Speaker::Front, settings, from, &mut stream.text)?;
     let tracer = Tracer {
         stream,
-        front: Speaking { told, from },
+        front,
         lanes: Vec::new(alloc),
         teller,
     };
@@ -85,8 +92,8 @@ impl Tracer {
             return Err(AllocError);
         };
         let speaker = Speaker::Lane(lane);
-        let told = told_of(speaker, settings, &mut self.stream.text)?;
-        self.lanes.push(Speaking { told, from })?;
+        let voice = begin(speaker, settings, from, &mut self.stream.text)?;
+        self.lanes.push(voice)?;
         Ok(trace)
     }
 }
@@ -132,16 +139,16 @@ impl Tracer {
             return Err(AllocError);
         }
         let text = &mut self.stream.text;
-        let mut any = take_front(rt, alloc, follower, &mut self.front, text)?;
+        let mut any = self.front.take(rt, alloc, follower, text)?;
         for voice in &mut self.lanes {
-            any = take_lane(rt, alloc, follower, voice, text)? || any;
+            any = voice.take(rt, alloc, follower, text)? || any;
         }
         Ok(any)
     }
 
     /// Whether a speaker has given its trace up.
     fn is_lost(&self) -> bool {
-        self.front.from.is_lost() || self.lanes.iter().any(|voice| voice.from.is_lost())
+        self.front.is_lost() || self.lanes.iter().any(|voice| voice.is_lost())
     }
 
     /// Takes what has come, and writes what the reader takes.
