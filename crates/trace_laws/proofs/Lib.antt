@@ -1,0 +1,3 @@
+pub mod VisibleLemmas
+pub mod OctetLemmas
+pub mod ItemLaws
