@@ -296,9 +296,9 @@ def check_call(args, lanes):
     check("lost" not in lines, "the trace is lost")
     count = compare(call, lines, lanes, found_program(args.binary))
     check(count > SECONDS * 300, f"the members got {count} datagrams alone")
-    items = sum(" item " in line for line in lines)
+    items, word = sum(" item " in line for line in lines), "lane" if lanes == 1 else "lanes"
     print(
-        f"{lanes} lanes: {count:,} datagrams by {items:,} items and {desk.calls} calls in mid-call are as the replayed"
+        f"{lanes} {word}: {count:,} datagrams by {items:,} items and {desk.calls} calls in mid-call are as the replayed"
         " trace sends them"
     )
 
@@ -335,11 +335,11 @@ def check_slow(args):
             check(len(call.members[0].got) > before, "the call doesn't go on once the trace is lost")
             reader.go_on.set()
             bridge.stop(operator)
-            lines = reader.lines()
+            lines, said = reader.lines(), bridge.said.read_text()
         finally:
             bridge.process.kill()
     check(lines[-1] == "lost" and lines.count("lost") == 1, "the trace doesn't end with `lost`")
-    check(f"confbridge: trace 127.0.0.1:{reader.port} lost\n" in bridge.said.read_text(), "the loss isn't told")
+    check(f"confbridge: trace 127.0.0.1:{reader.port} lost\n" in said, "the loss isn't told")
     print("a reader that reads nothing: the trace ends with `lost`, and the call goes on")
 
 
