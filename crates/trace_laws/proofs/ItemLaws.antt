@@ -240,3 +240,6 @@ line_read input h few =
     asked_of (later_request (words_of (item_line input))) (item_line input) (join_with_byte 32 (input_words input))
     (line_begins input) few seen
     ∙ words_read input h
+
+pub item_printable : (input : Input) → IsInput input → list_all is_printable (item_line input) ≡ true
+item_printable input h = line_printable item_word (input_words input) word_visible (input_visible input h)

@@ -1,3 +1,6 @@
 pub mod VisibleLemmas
 pub mod OctetLemmas
 pub mod ItemLaws
+pub mod CallLines
+pub mod ScriptReads
+pub mod TraceReads

@@ -97,7 +97,7 @@ visible_hex (b ∷ rest) h =
 dotted : (a b : List ℕ) (c : ℕ) → Visible c → IsWord a → IsWord b → IsWord (a ++ (c ∷ []) ++ b)
 dotted a b c h ha hb = visible_append (a ++ c ∷ []) b (visible_append a (c ∷ []) ha (h, tt)) hb
 
-visible_address : (a : Address) → IsAddress a → IsWord (address_text a)
+pub visible_address : (a : Address) → IsAddress a → IsWord (address_text a)
 visible_address a h =
     let part : (k : ℕ) → IsWord (decimal (get_or a.ip k 0)) = λ k.
     visible_number (get_or a.ip k 0) (omega (arith, h.octets k)) in
@@ -165,7 +165,7 @@ printable octet low high =
     and_from (leb 32 octet) (leb octet 126) (le-leb 32 octet low) (le-leb octet 126 high)
 
 -- a word before what may stand in a line may, too
-word_printable : (xs ys : List ℕ) → IsWord xs → list_all is_printable ys ≡ true
+pub word_printable : (xs ys : List ℕ) → IsWord xs → list_all is_printable ys ≡ true
     → list_all is_printable (xs ++ ys) ≡ true
 word_printable [] ys h k = k
 word_printable (x ∷ xs) ys h k =

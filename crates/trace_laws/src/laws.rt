@@ -1,15 +1,29 @@
-//! A law of the lines, as a function that does nothing, and whose contract is the law.
+//! Laws of the lines, as functions that do nothing, and whose contracts are the laws.
 
-ghost use Rattle.std.specs.Prelude.{◌≡◌, ◌≤◌, length, Ok};
+ghost use Rattle.std.specs.Prelude.{◌≡◌, ℕ, ◌≤◌, List, length, Ok};
+ghost use Rattle.upward.specs.Upstream.{Asker};
 ghost use Rattle.media_items.specs.Inputs.{Input};
+ghost use Rattle.media_workers.specs.LaneRuns.{Versioned};
 ghost use Rattle.script_text.specs.Words.{words_of};
+ghost use Rattle.script_text.specs.Lines.{lines_of};
 ghost use Rattle.script_text.specs.Requests.{Item};
 ghost use Rattle.script_text.specs.ItemLines.{item_line, later_request, request_of};
+ghost use Rattle.script_text.specs.Scripts.{requests_of};
+ghost use Rattle.call_history.specs.AcceptedCall.{AcceptedOf};
 ghost use Rattle.trace_laws.specs.Items.{IsInput};
+ghost use Rattle.trace_laws.specs.Traces.{IsWritten, AreToldCalls, AreToldItems, lane_script, lane_asked};
 
 /// The line of an item is read as that item, if its numbers are in range.
 pub fn item_lines_are_read()
     ensures words { (input : Input) → IsInput input → later_request (words_of (item_line input)) ≡ Ok (Item input) }
     ensures line { (input : Input) → IsInput input → length (item_line input) ≤ 8388608
         → request_of (item_line input) ≡ Ok (Item input) }
+{}
+
+/// A lane's part of a trace is a script that begins the lane's bridge, and then asks for the lane's items, each behind
+/// the calls that lead to its version, and for nothing else.
+pub fn a_trace_is_read()
+    ensures { (lane : ℕ) (who : Asker) (calls : List AcceptedOf) (items : List Versioned) → IsWritten who
+        → AreToldCalls calls → AreToldItems items
+        → requests_of (lines_of (lane_script lane who calls items)) ≡ lane_asked who calls items }
 {}

@@ -1,8 +1,11 @@
-//! The law of the lines that hand a lane an item: what is printed of an item is read as that item.
+//! The laws of the lines of a trace: what is printed of a lane is read as what the lane was handed.
 //!
 //! [`item_lines_are_read`] says it of every item whose numbers are in range, which `IsInput` tells: of the words of its
 //! line, and of the line itself where that has at most 8,388,608 octets. A trace has such a line for each item that a
 //! lane was handed, so whoever replays it reads the same items.
+//!
+//! [`a_trace_is_read`] says it of a lane's whole part of a trace: it is a script that begins a bridge of the same name,
+//! and asks for the lane's items, each behind the calls that lead to its version.
 //!
 //! ```rust
 //! append_item_line(&item, &mut out)?; // out: `item tick 40000000` and an LF
@@ -12,4 +15,4 @@
 
 mod laws;
 
-pub use self::laws::item_lines_are_read;
+pub use self::laws::{a_trace_is_read, item_lines_are_read};

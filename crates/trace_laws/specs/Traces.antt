@@ -1,0 +1,61 @@
+-- A lane's part of a trace as a script, and what it asks for (own).
+use Rattle.std.specs.Prelude.{◌≡◌, ℕ, ◌≤◌, true, false, List, [], ◌∷◌, ◌++◌, length, map, max}
+use Rattle.std.specs.List.{list_all, AllByRecursion}
+use Rattle.upward.specs.Upstream.{Asker}
+use Rattle.media_workers.specs.LaneRuns.{Versioned}
+use Rattle.script_text.specs.Values.{last_operator}
+use Rattle.script_text.specs.Calls.{IsCall}
+use Rattle.script_text.specs.Lines.{line_limit, item_limit}
+use Rattle.script_text.specs.Requests.{Request, Nothing, Begin, Desk, Item, is_printable, desk_line}
+use Rattle.script_text.specs.ItemLines.{item_line}
+use Rattle.script_text.specs.FirstLine.{IsNamed}
+use Rattle.call_history.specs.AcceptedCall.{AcceptedOf}
+use Rattle.trace_text.specs.TraceLines.{first_line}
+use Rattle.trace_text.specs.declared.speaker.Speaker.TheVariants.{Front, Lane}
+use Rattle.trace_scripts.specs.Scripts.{item_done, between, script_lines}
+use Rattle.trace_laws.specs.Items.{IsInput}
+
+-- who has a name that a line may hold, as each bridge has that is traced
+pub record IsWritten (who : Asker) : Type 0 where
+  pub named : IsNamed who
+  pub name : list_all is_printable who.cname ≡ true
+
+-- a call whose numbers are in range, and whose line isn't too long
+pub record IsToldCall (m : AcceptedOf) : Type 0 where
+  pub op : m.op ≤ last_operator
+  pub call : IsCall m.call
+  pub few : length (desk_line m.op m.call) ≤ line_limit
+
+-- an item whose numbers are in range, and whose line isn't too long
+pub record IsToldItem (x : Versioned) : Type 0 where
+  pub input : IsInput x.input
+  pub few : length (item_line x.input) ≤ item_limit
+
+-- all calls are such
+abbrev pub AreToldCalls : List AcceptedOf → Type 0
+AreToldCalls calls = AllByRecursion IsToldCall calls
+
+-- all items are such
+abbrev pub AreToldItems : List Versioned → Type 0
+AreToldItems items = AllByRecursion IsToldItem items
+
+-- the first line of a lane, and the lines of its items behind those of the calls that lead to their versions: its part
+-- of a trace, without the words that name the lane before each line
+abbrev pub lane_script : (lane : ℕ) → Asker → List AcceptedOf → List Versioned → List ℕ
+lane_script lane who calls items =
+    first_line (Lane lane) who.ssrc who.cname ++ script_lines Front 0 (map item_done items) calls
+
+-- what the line of a call asks for
+abbrev pub call_asked : AcceptedOf → Request
+call_asked m = Desk m.op m.call
+
+-- what the lines of items ask for, behind so many told calls of these: each item behind the calls that lead to its
+-- version
+abbrev pub items_asked : (told : ℕ) → List AcceptedOf → List Versioned → List Request
+items_asked told calls [] = []
+items_asked told calls (x ∷ xs) =
+    map call_asked (between told x.version calls) ++ Item x.input ∷ items_asked (max told x.version) calls xs
+
+-- what the whole script asks for: the last line is empty, since an LF ends the line before it
+abbrev pub lane_asked : Asker → List AcceptedOf → List Versioned → List Request
+lane_asked who calls items = Begin who false ∷ items_asked 0 calls items ++ Nothing ∷ []
