@@ -4,3 +4,4 @@ pub mod ItemLaws
 pub mod CallLines
 pub mod ScriptReads
 pub mod TraceReads
+pub mod TraceSends

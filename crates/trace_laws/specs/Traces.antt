@@ -1,6 +1,7 @@
 -- A lane's part of a trace as a script, and what it asks for (own).
 use Rattle.std.specs.Prelude.{◌≡◌, ℕ, ◌≤◌, true, false, List, [], ◌∷◌, ◌++◌, length, map, max}
 use Rattle.std.specs.List.{list_all, AllByRecursion}
+use Rattle.desk_edit.specs.Asked.{CallOf}
 use Rattle.upward.specs.Upstream.{Asker}
 use Rattle.media_workers.specs.LaneRuns.{Versioned}
 use Rattle.script_text.specs.Values.{last_operator}
@@ -38,6 +39,10 @@ AreToldCalls calls = AllByRecursion IsToldCall calls
 -- all items are such
 abbrev pub AreToldItems : List Versioned → Type 0
 AreToldItems items = AllByRecursion IsToldItem items
+
+-- what calls ask
+abbrev pub asked_calls : List AcceptedOf → List CallOf
+asked_calls calls = map (λ (m : AcceptedOf). m.call) calls
 
 -- the first line of a lane, and the lines of its items behind those of the calls that lead to their versions: its part
 -- of a trace, without the words that name the lane before each line

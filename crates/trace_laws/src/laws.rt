@@ -1,17 +1,25 @@
 //! Laws of the lines, as functions that do nothing, and whose contracts are the laws.
 
 ghost use Rattle.std.specs.Prelude.{◌≡◌, ℕ, ◌≤◌, List, length, Ok};
+ghost use Rattle.std.specs.List.{flat_map};
+ghost use Rattle.desk_edit.specs.Calls.{no_calls};
+ghost use Rattle.desk_calls.specs.Accepted.{AreAccepted};
 ghost use Rattle.upward.specs.Upstream.{Asker};
 ghost use Rattle.media_items.specs.Inputs.{Input};
 ghost use Rattle.media_workers.specs.LaneRuns.{Versioned};
+ghost use Rattle.lane_laws.specs.Merges.{InOrder, UpTo};
+ghost use Rattle.lane_laws.specs.Replays.{sent_alone};
 ghost use Rattle.script_text.specs.Words.{words_of};
 ghost use Rattle.script_text.specs.Lines.{lines_of};
 ghost use Rattle.script_text.specs.Requests.{Item};
 ghost use Rattle.script_text.specs.ItemLines.{item_line, later_request, request_of};
-ghost use Rattle.script_text.specs.Scripts.{requests_of};
+ghost use Rattle.script_text.specs.Decodings.{Decoding};
+ghost use Rattle.script_text.specs.Bridge.{first_desk};
+ghost use Rattle.script_text.specs.Scripts.{requests_of, sent_in, answers_of};
 ghost use Rattle.call_history.specs.AcceptedCall.{AcceptedOf};
 ghost use Rattle.trace_laws.specs.Items.{IsInput};
-ghost use Rattle.trace_laws.specs.Traces.{IsWritten, AreToldCalls, AreToldItems, lane_script, lane_asked};
+ghost use Rattle.trace_laws.specs.Traces.{IsWritten, AreToldCalls, AreToldItems, asked_calls};
+ghost use Rattle.trace_laws.specs.Traces.{lane_script, lane_asked};
 
 /// The line of an item is read as that item, if its numbers are in range.
 pub fn item_lines_are_read()
@@ -26,4 +34,17 @@ pub fn a_trace_is_read()
     ensures { (lane : ℕ) (who : Asker) (calls : List AcceptedOf) (items : List Versioned) → IsWritten who
         → AreToldCalls calls → AreToldItems items
         → requests_of (lines_of (lane_script lane who calls items)) ≡ lane_asked who calls items }
+{}
+
+/// A lane's part of a trace, as a script, sends what a bridge of one lane sends for the lane's items: each by the desk of
+/// its version.
+///
+/// The calls are accepted one after another from the first desk, and the versions of the items don't fall. By
+/// [`one_lane_sends_it_alone`](lane_laws::one_lane_sends_it_alone) the lane sent, of all that, what is about its streams.
+pub fn a_trace_sends_what_its_lane_sent()
+    ensures { (decoding : Decoding) (lane : ℕ) (who : Asker) (calls : List AcceptedOf) (items : List Versioned)
+        → IsWritten who → AreToldCalls calls → AreToldItems items
+        → AreAccepted (no_calls (first_desk who)) (asked_calls calls) → InOrder 0 items → UpTo (length calls) items
+        → flat_map (λ es. es) (sent_in (answers_of decoding (lane_script lane who calls items)))
+        ≡ sent_alone who (first_desk who) (asked_calls calls) items }
 {}
