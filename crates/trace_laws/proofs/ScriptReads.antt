@@ -2,7 +2,7 @@
 use Rattle.std.proofs.Common.{◌≡◌, ℕ, zero, suc, ◌+◌, ◌-◌, ◌≤◌, ◌==◌, true, false, List, [], ◌∷◌, ◌++◌}
 use Rattle.std.proofs.Common.{length, map, take, drop, max, get_or, codes, Ok, refl, sym, ap, ◌∙◌, subst, arith, eqb}
 use Rattle.std.proofs.Common.{append_assoc, leb}
-use Rattle.std.specs.List.{list_all}
+use Rattle.std.specs.List.{list_all, AllByRecursion}
 use Rattle.std.specs.Str.Lines.{strip_carriage_return}
 use Rattle.std.proofs.lemmas.Bool.{and_parts, leb-true, ne_eqb}
 use Rattle.media_workers.specs.LaneRuns.{Versioned}
@@ -19,9 +19,11 @@ use Rattle.call_text.proofs.LineLemmas.{desk_joined}
 use Rattle.trace_text.specs.TraceLines.{calls_text}
 use Rattle.trace_text.specs.declared.speaker.Speaker.TheVariants.{Front}
 use Rattle.trace_scripts.specs.Scripts.{item_done, between, script_lines}
-use Rattle.trace_laws.specs.Traces.{AreToldCalls, AreToldItems, call_asked, items_asked}
+use Rattle.trace_laws.specs.Traces.{IsToldCall, IsWithin, AreToldCalls, AreWithin}
+use Rattle.trace_laws.specs.Traces.{AreToldItems, call_asked, items_asked}
 use Rattle.trace_laws.proofs.ItemLaws.{item_printable, line_read}
 use Rattle.trace_laws.proofs.CallLines.{desk_printable, desk_read}
+use Rattle.trace_laws.proofs.CallSizes.{desk_few}
 
 -- ---- a line that is printed has neither LF nor CR
 
@@ -99,44 +101,48 @@ call_ended m rest =
     sym (append_assoc (codes "desk ") (said_by m) (codes "\n")) ∙ ap (λ (t : List ℕ). t ++ 10 ∷ []) (desk_joined m) in
     ap (λ (t : List ℕ). t ++ rest) line ∙ append_assoc (desk_line m.op m.call) (10 ∷ []) rest
 
-calls_asked : (ms : List AcceptedOf) (rest : List ℕ) (requests : List Request) → AreToldCalls ms → Asks rest requests
-    → Asks (calls_text Front ms ++ rest) (map call_asked ms ++ requests)
-calls_asked [] rest requests told others = others
-calls_asked (m ∷ ms) rest requests told others =
+calls_asked : (ms : List AcceptedOf) (rest : List ℕ) (requests : List Request) → AreToldCalls ms → AreWithin ms
+    → Asks rest requests → Asks (calls_text Front ms ++ rest) (map call_asked ms ++ requests)
+calls_asked [] rest requests told within others = others
+calls_asked (m ∷ ms) rest requests told within others =
     let more = calls_text Front ms ++ rest in
+    let few = desk_few m.op m.call told.0.op told.0.call within.0 in
     subst (λ (t : List ℕ). Asks t (call_asked m ∷ map call_asked ms ++ requests))
     (sym (append_assoc (called_line m) (calls_text Front ms) rest ∙ call_ended m more))
     (asks_more (desk_line m.op m.call) more (call_asked m) (map call_asked ms ++ requests)
     (desk_printable m.op m.call told.0.op told.0.call)
-    (desk_read m.op m.call told.0.op told.0.call told.0.few)
-    (calls_asked ms rest requests told.1 others))
+    (desk_read m.op m.call told.0.op told.0.call few)
+    (calls_asked ms rest requests told.1 within.1 others))
 
-told_drop : (n : ℕ) (ms : List AcceptedOf) → AreToldCalls ms → AreToldCalls (drop n ms)
-told_drop zero ms told = told
-told_drop (suc n) [] told = tt
-told_drop (suc n) (m ∷ ms) told = told_drop n ms told.1
+all_drop : {A : Type 0} (P : A → Type 0) (n : ℕ) (xs : List A) → AllByRecursion P xs → AllByRecursion P (drop n xs)
+all_drop P zero xs all = all
+all_drop P (suc n) [] all = tt
+all_drop P (suc n) (x ∷ xs) all = all_drop P n xs all.1
 
-told_take : (n : ℕ) (ms : List AcceptedOf) → AreToldCalls ms → AreToldCalls (take n ms)
-told_take zero ms told = tt
-told_take (suc n) [] told = tt
-told_take (suc n) (m ∷ ms) told = (told.0, told_take n ms told.1)
+all_take : {A : Type 0} (P : A → Type 0) (n : ℕ) (xs : List A) → AllByRecursion P xs → AllByRecursion P (take n xs)
+all_take P zero xs all = tt
+all_take P (suc n) [] all = tt
+all_take P (suc n) (x ∷ xs) all = (all.0, all_take P n xs all.1)
 
 -- ---- and of items behind them
 
 pub items_read : (told : ℕ) (calls : List AcceptedOf) (items : List Versioned) → AreToldCalls calls
-    → AreToldItems items
+    → AreWithin calls → AreToldItems items
     → Asks (script_lines Front told (map item_done items) calls) (items_asked told calls items ++ Nothing ∷ [])
-items_read told calls [] said given = asks_end
-items_read told calls (x ∷ xs) said given =
+items_read told calls [] said within given = asks_end
+items_read told calls (x ∷ xs) said within given =
+    let n : ℕ = x.version - told in
+    let left = drop told calls in
     let before = between told x.version calls in
     let behind = script_lines Front (max told x.version) (map item_done xs) calls in
     let others = items_asked (max told x.version) calls xs ++ Nothing ∷ [] in
     let line = item_line x.input in
     let own : Asks (line ++ 10 ∷ behind) (Item x.input ∷ others) =
     asks_more line behind (Item x.input) others (item_printable x.input given.0.input)
-    (line_read x.input given.0.input given.0.few) (items_read (max told x.version) calls xs said given.1) in
+    (line_read x.input given.0.input given.0.few) (items_read (max told x.version) calls xs said within given.1) in
     let all = calls_asked before (line ++ 10 ∷ behind) (Item x.input ∷ others)
-    (told_take (x.version - told) (drop told calls) (told_drop told calls said)) own in
+    (all_take IsToldCall n left (all_drop IsToldCall told calls said))
+    (all_take _ n left (all_drop (λ (m : AcceptedOf). IsWithin m.call) told calls within)) own in
     let text : script_lines Front told (map item_done (x ∷ xs)) calls
     ≡ calls_text Front before ++ (line ++ 10 ∷ behind) =
     append_assoc (calls_text Front before) (item_text x.input) behind

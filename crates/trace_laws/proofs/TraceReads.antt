@@ -18,7 +18,7 @@ use Rattle.call_history.specs.AcceptedCall.{AcceptedOf}
 use Rattle.trace_text.specs.TraceLines.{first_line}
 use Rattle.trace_text.specs.declared.speaker.Speaker.TheVariants.{Front, Lane}
 use Rattle.trace_scripts.specs.Scripts.{item_done, script_lines}
-use Rattle.trace_laws.specs.Traces.{IsWritten, AreToldCalls, AreToldItems, lane_script, lane_asked}
+use Rattle.trace_laws.specs.Traces.{IsWritten, AreToldCalls, AreWithin, AreToldItems, lane_script, lane_asked}
 use Rattle.trace_laws.proofs.VisibleLemmas.{IsWord, visible_test, visible_number, word_printable}
 use Rattle.trace_laws.proofs.CallLines.{words_asked}
 use Rattle.trace_laws.proofs.ScriptReads.{line_first, items_read}
@@ -58,12 +58,12 @@ bridge_ended lane who rest = simp append_assoc refl
 -- ---- all lines
 
 pub script_read : (lane : ℕ) (who : Asker) (calls : List AcceptedOf) (items : List Versioned) → IsWritten who
-    → AreToldCalls calls → AreToldItems items
+    → AreToldCalls calls → AreWithin calls → AreToldItems items
     → requests_of (lines_of (lane_script lane who calls items)) ≡ lane_asked who calls items
 unfolding requests_from
-script_read lane who calls items h said given =
+script_read lane who calls items h said within given =
     let rest = script_lines Front 0 (map item_done items) calls in
     let line = bridge_line who false in
     ap (λ (t : List ℕ). requests_of (lines_of t)) (bridge_ended lane who rest)
     ∙ rw (line_first line rest (bridge_printable who h), bridge_read who h)
-    (ap (λ (rs : List Request). Begin who false ∷ rs) (items_read 0 calls items said given 2 (omega arith)))
+    (ap (λ (rs : List Request). Begin who false ∷ rs) (items_read 0 calls items said within given 2 (omega arith)))

@@ -27,6 +27,7 @@ use Rattle.call_history.specs.AcceptedCall.{AcceptedOf}
 use Rattle.trace_scripts.specs.Scripts.{between}
 use Rattle.trace_laws.specs.Traces.{IsWritten, AreToldCalls, AreToldItems, call_asked, items_asked, lane_script}
 use Rattle.trace_laws.specs.Traces.{lane_asked, asked_calls}
+use Rattle.trace_laws.proofs.CallSizes.{all_within}
 use Rattle.trace_laws.proofs.TraceReads.{script_read}
 
 -- ---- lists of calls
@@ -175,7 +176,8 @@ pub script_sends : (decoding : Decoding) (lane : ℕ) (who : Asker) (calls : Lis
 script_sends decoding lane who calls items written said given ok order up =
     let start = first_desk who in
     let text = lane_script lane who calls items in
-    let read = script_read lane who calls items written said given in
+    let within = all_within (no_calls start) calls ok in
+    let read = script_read lane who calls items written said within given in
     let speaker : speaker_of text ≡ who = ap named_by read in
     let steps : steps_of decoding text ≡ steps_after (no_calls start) (led 0 calls items) =
     ap (λ (rs : List Request). (after_all (opening_bridge decoding) rs).steps) read

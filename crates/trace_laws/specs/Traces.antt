@@ -2,12 +2,14 @@
 use Rattle.std.specs.Prelude.{◌≡◌, ℕ, ◌≤◌, true, false, List, [], ◌∷◌, ◌++◌, length, map, max}
 use Rattle.std.specs.List.{list_all, AllByRecursion}
 use Rattle.desk_edit.specs.Asked.{CallOf}
+use Rattle.desk_edit.specs.Asked.CallOf.{Apply, Group, Undo, Redo}
+use Rattle.desk_edit.specs.Reasons.{group_limit}
 use Rattle.upward.specs.Upstream.{Asker}
 use Rattle.media_workers.specs.LaneRuns.{Versioned}
 use Rattle.script_text.specs.Values.{last_operator}
 use Rattle.script_text.specs.Calls.{IsCall}
-use Rattle.script_text.specs.Lines.{line_limit, item_limit}
-use Rattle.script_text.specs.Requests.{Request, Nothing, Begin, Desk, Item, is_printable, desk_line}
+use Rattle.script_text.specs.Lines.{item_limit}
+use Rattle.script_text.specs.Requests.{Request, Nothing, Begin, Desk, Item, is_printable}
 use Rattle.script_text.specs.ItemLines.{item_line}
 use Rattle.script_text.specs.FirstLine.{IsNamed}
 use Rattle.call_history.specs.AcceptedCall.{AcceptedOf}
@@ -21,22 +23,32 @@ pub record IsWritten (who : Asker) : Type 0 where
   pub named : IsNamed who
   pub name : list_all is_printable who.cname ≡ true
 
--- a call whose numbers are in range, and whose line isn't too long
+-- a call whose numbers are in range
 pub record IsToldCall (m : AcceptedOf) : Type 0 where
   pub op : m.op ≤ last_operator
   pub call : IsCall m.call
-  pub few : length (desk_line m.op m.call) ≤ line_limit
+
+-- a group has no more commands than a desk accepts
+abbrev pub IsWithin : CallOf → Type 0
+IsWithin (Apply command) = Unit {0}
+IsWithin (Group commands) = length commands ≤ group_limit
+IsWithin (Undo last) = Unit {0}
+IsWithin (Redo last) = Unit {0}
 
 -- an item whose numbers are in range, and whose line isn't too long
 pub record IsToldItem (x : Versioned) : Type 0 where
   pub input : IsInput x.input
   pub few : length (item_line x.input) ≤ item_limit
 
--- all calls are such
+-- the numbers of all these calls are in range
 abbrev pub AreToldCalls : List AcceptedOf → Type 0
 AreToldCalls calls = AllByRecursion IsToldCall calls
 
--- all items are such
+-- no group among these calls has more commands than that
+abbrev pub AreWithin : List AcceptedOf → Type 0
+AreWithin calls = AllByRecursion (λ (m : AcceptedOf). IsWithin m.call) calls
+
+-- the numbers of all these items are in range, and no line of theirs is too long
 abbrev pub AreToldItems : List Versioned → Type 0
 AreToldItems items = AllByRecursion IsToldItem items
 

@@ -18,7 +18,7 @@ ghost use Rattle.script_text.specs.Bridge.{first_desk};
 ghost use Rattle.script_text.specs.Scripts.{requests_of, sent_in, answers_of};
 ghost use Rattle.call_history.specs.AcceptedCall.{AcceptedOf};
 ghost use Rattle.trace_laws.specs.Items.{IsInput};
-ghost use Rattle.trace_laws.specs.Traces.{IsWritten, AreToldCalls, AreToldItems, asked_calls};
+ghost use Rattle.trace_laws.specs.Traces.{IsWritten, AreToldCalls, AreWithin, AreToldItems, asked_calls};
 ghost use Rattle.trace_laws.specs.Traces.{lane_script, lane_asked};
 
 /// The line of an item is read as that item, if its numbers are in range.
@@ -32,15 +32,15 @@ pub fn item_lines_are_read()
 /// the calls that lead to its version, and for nothing else.
 pub fn a_trace_is_read()
     ensures { (lane : ℕ) (who : Asker) (calls : List AcceptedOf) (items : List Versioned) → IsWritten who
-        → AreToldCalls calls → AreToldItems items
+        → AreToldCalls calls → AreWithin calls → AreToldItems items
         → requests_of (lines_of (lane_script lane who calls items)) ≡ lane_asked who calls items }
 {}
 
-/// A lane's part of a trace, as a script, sends what a bridge of one lane sends for the lane's items: each by the desk of
-/// its version.
+/// A lane's part of a trace, as a script, sends what a bridge of one lane sends for the lane's items: each by the desk
+/// of its version.
 ///
 /// The calls are accepted one after another from the first desk, and the versions of the items don't fall. By
-/// [`one_lane_sends_it_alone`](lane_laws::one_lane_sends_it_alone) the lane sent, of all that, what is about its streams.
+/// [`one_lane_sends_it_alone`](lane_laws::one_lane_sends_it_alone) the lane sent what of all that is about its streams.
 pub fn a_trace_sends_what_its_lane_sent()
     ensures { (decoding : Decoding) (lane : ℕ) (who : Asker) (calls : List AcceptedOf) (items : List Versioned)
         → IsWritten who → AreToldCalls calls → AreToldItems items

@@ -5,9 +5,9 @@
 //! lane was handed, so whoever replays it reads the same items.
 //!
 //! [`a_trace_is_read`] says it of a lane's whole part of a trace: it is a script that begins a bridge of the same name,
-//! and asks for the lane's items, each behind the calls that lead to its version. By
-//! [`a_trace_sends_what_its_lane_sent`] it sends what a bridge of one lane sends for these items: of that, what is about
-//! the lane's streams is what the lane sent.
+//! and asks for the lane's items, each behind the calls that lead to its version.
+//! [`a_trace_sends_what_its_lane_sent`] says what the script sends: what a bridge of one lane sends for these items.
+//! What of that is about the lane's streams is what the lane sent.
 //!
 //! ```rust
 //! append_item_line(&item, &mut out)?; // out: `item tick 40000000` and an LF
