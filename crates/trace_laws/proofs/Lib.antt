@@ -6,3 +6,4 @@ pub mod CallSizes
 pub mod ScriptReads
 pub mod TraceReads
 pub mod TraceSends
+pub mod MadeCalls

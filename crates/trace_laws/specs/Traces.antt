@@ -1,10 +1,11 @@
 -- A lane's part of a trace as a script, and what it asks for (own).
 use Rattle.std.specs.Prelude.{◌≡◌, ℕ, ◌≤◌, true, false, List, [], ◌∷◌, ◌++◌, length, map, max}
-use Rattle.std.specs.List.{list_all, AllByRecursion}
+use Rattle.std.specs.List.{flat_map, list_all, AllByRecursion}
 use Rattle.desk_edit.specs.Asked.{CallOf}
 use Rattle.desk_edit.specs.Asked.CallOf.{Apply, Group, Undo, Redo}
 use Rattle.desk_edit.specs.Reasons.{group_limit}
 use Rattle.upward.specs.Upstream.{Asker}
+use Rattle.bridge_core.specs.Sent.{Sent}
 use Rattle.media_workers.specs.LaneRuns.{Versioned}
 use Rattle.script_text.specs.Values.{last_operator}
 use Rattle.script_text.specs.Calls.{IsCall}
@@ -12,6 +13,8 @@ use Rattle.script_text.specs.Lines.{item_limit}
 use Rattle.script_text.specs.Requests.{Request, Nothing, Begin, Desk, Item, is_printable}
 use Rattle.script_text.specs.ItemLines.{item_line}
 use Rattle.script_text.specs.FirstLine.{IsNamed}
+use Rattle.script_text.specs.Decodings.{Decoding}
+use Rattle.script_text.specs.Scripts.{sent_in, answers_of}
 use Rattle.call_history.specs.AcceptedCall.{AcceptedOf}
 use Rattle.trace_text.specs.TraceLines.{first_line}
 use Rattle.trace_text.specs.declared.speaker.Speaker.TheVariants.{Front, Lane}
@@ -76,3 +79,7 @@ items_asked told calls (x ∷ xs) =
 -- what the whole script asks for: the last line is empty, since an LF ends the line before it
 abbrev pub lane_asked : Asker → List AcceptedOf → List Versioned → List Request
 lane_asked who calls items = Begin who false ∷ items_asked 0 calls items ++ Nothing ∷ []
+
+-- all that a script sends for items, in order
+abbrev pub script_sent : Decoding → List ℕ → List Sent
+script_sent decoding text = flat_map (λ es. es) (sent_in (answers_of decoding text))

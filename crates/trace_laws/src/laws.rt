@@ -1,7 +1,6 @@
 //! Laws of the lines, as functions that do nothing, and whose contracts are the laws.
 
 ghost use Rattle.std.specs.Prelude.{◌≡◌, ℕ, ◌≤◌, List, length, Ok};
-ghost use Rattle.std.specs.List.{flat_map};
 ghost use Rattle.desk_edit.specs.Calls.{no_calls};
 ghost use Rattle.desk_calls.specs.Accepted.{AreAccepted};
 ghost use Rattle.upward.specs.Upstream.{Asker};
@@ -15,11 +14,11 @@ ghost use Rattle.script_text.specs.Requests.{Item};
 ghost use Rattle.script_text.specs.ItemLines.{item_line, later_request, request_of};
 ghost use Rattle.script_text.specs.Decodings.{Decoding};
 ghost use Rattle.script_text.specs.Bridge.{first_desk};
-ghost use Rattle.script_text.specs.Scripts.{requests_of, sent_in, answers_of};
+ghost use Rattle.script_text.specs.Scripts.{requests_of};
 ghost use Rattle.call_history.specs.AcceptedCall.{AcceptedOf};
 ghost use Rattle.trace_laws.specs.Items.{IsInput};
 ghost use Rattle.trace_laws.specs.Traces.{IsWritten, AreToldCalls, AreWithin, AreToldItems, asked_calls};
-ghost use Rattle.trace_laws.specs.Traces.{lane_script, lane_asked};
+ghost use Rattle.trace_laws.specs.Traces.{lane_script, lane_asked, script_sent};
 
 /// The line of an item is read as that item, if its numbers are in range.
 pub fn item_lines_are_read()
@@ -45,6 +44,6 @@ pub fn a_trace_sends_what_its_lane_sent()
     ensures { (decoding : Decoding) (lane : ℕ) (who : Asker) (calls : List AcceptedOf) (items : List Versioned)
         → IsWritten who → AreToldCalls calls → AreToldItems items
         → AreAccepted (no_calls (first_desk who)) (asked_calls calls) → InOrder 0 items → UpTo (length calls) items
-        → flat_map (λ es. es) (sent_in (answers_of decoding (lane_script lane who calls items)))
+        → script_sent decoding (lane_script lane who calls items)
         ≡ sent_alone who (first_desk who) (asked_calls calls) items }
 {}

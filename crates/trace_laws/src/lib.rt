@@ -7,7 +7,8 @@
 //! [`a_trace_is_read`] says it of a lane's whole part of a trace: it is a script that begins a bridge of the same name,
 //! and asks for the lane's items, each behind the calls that lead to its version.
 //! [`a_trace_sends_what_its_lane_sent`] says what the script sends: what a bridge of one lane sends for these items.
-//! What of that is about the lane's streams is what the lane sent.
+//! What of that is about the lane's streams is what the lane sent. [`a_trace_replays_its_lane`] says that of the lanes
+//! of a bridge that has ended.
 //!
 //! ```rust
 //! append_item_line(&item, &mut out)?; // out: `item tick 40000000` and an LF
@@ -16,5 +17,7 @@
 #![tactic(auto)]
 
 mod laws;
+mod replaying;
 
 pub use self::laws::{a_trace_is_read, a_trace_sends_what_its_lane_sent, item_lines_are_read};
+pub use self::replaying::a_trace_replays_its_lane;
