@@ -7,3 +7,4 @@ pub mod ScriptReads
 pub mod TraceReads
 pub mod TraceSends
 pub mod MadeCalls
+pub mod MarkedLines

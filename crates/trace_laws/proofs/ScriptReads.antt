@@ -30,7 +30,7 @@ use Rattle.trace_laws.proofs.CallSizes.{desk_few}
 printed : (x : ℕ) → is_printable x ≡ true → 32 ≤ x
 printed x h = leb-true 32 x (and_parts (leb 32 x) (leb x 126) h).0
 
-line_free : (line : List ℕ) → list_all is_printable line ≡ true → Free 10 line
+pub line_free : (line : List ℕ) → list_all is_printable line ≡ true → Free 10 line
 line_free [] h = tt
 line_free (x ∷ xs) h =
     let parts = and_parts (is_printable x) (list_all is_printable xs) h in
@@ -44,12 +44,12 @@ no_return (x ∷ xs) zero h =
     ne_eqb x 13 (λ e. absurd (omega (arith, e, low)))
 no_return (x ∷ xs) (suc k) h = no_return xs k (and_parts (is_printable x) (list_all is_printable xs) h).1
 
-unstripped : (line : List ℕ) → list_all is_printable line ≡ true → strip_carriage_return line ≡ line
+pub unstripped : (line : List ℕ) → list_all is_printable line ≡ true → strip_carriage_return line ≡ line
 unstripped line h = rw (no_return line (length line - 1) h) refl
 
 -- ---- the lines of a text
 
-split_first : (xs ys : List ℕ) → Free 10 xs → parts_of (xs ++ 10 ∷ ys) ≡ xs ∷ parts_of ys
+pub split_first : (xs ys : List ℕ) → Free 10 xs → parts_of (xs ++ 10 ∷ ys) ≡ xs ∷ parts_of ys
 split_first [] ys h = refl
 split_first (x ∷ xs) ys h = rw (h.0, split_first xs ys h.1) refl
 
@@ -95,7 +95,7 @@ asks_end n more = refl
 
 -- ---- the lines of calls
 
-call_ended : (m : AcceptedOf) (rest : List ℕ) → called_line m ++ rest ≡ desk_line m.op m.call ++ 10 ∷ rest
+pub call_ended : (m : AcceptedOf) (rest : List ℕ) → called_line m ++ rest ≡ desk_line m.op m.call ++ 10 ∷ rest
 call_ended m rest =
     let line : called_line m ≡ desk_line m.op m.call ++ 10 ∷ [] =
     sym (append_assoc (codes "desk ") (said_by m) (codes "\n")) ∙ ap (λ (t : List ℕ). t ++ 10 ∷ []) (desk_joined m) in
@@ -114,12 +114,12 @@ calls_asked (m ∷ ms) rest requests told within others =
     (desk_read m.op m.call told.0.op told.0.call few)
     (calls_asked ms rest requests told.1 within.1 others))
 
-all_drop : {A : Type 0} (P : A → Type 0) (n : ℕ) (xs : List A) → AllByRecursion P xs → AllByRecursion P (drop n xs)
+pub all_drop : {A : Type 0} (P : A → Type 0) (n : ℕ) (xs : List A) → AllByRecursion P xs → AllByRecursion P (drop n xs)
 all_drop P zero xs all = all
 all_drop P (suc n) [] all = tt
 all_drop P (suc n) (x ∷ xs) all = all_drop P n xs all.1
 
-all_take : {A : Type 0} (P : A → Type 0) (n : ℕ) (xs : List A) → AllByRecursion P xs → AllByRecursion P (take n xs)
+pub all_take : {A : Type 0} (P : A → Type 0) (n : ℕ) (xs : List A) → AllByRecursion P xs → AllByRecursion P (take n xs)
 all_take P zero xs all = tt
 all_take P (suc n) [] all = tt
 all_take P (suc n) (x ∷ xs) all = (all.0, all_take P n xs all.1)

@@ -25,7 +25,7 @@ use Rattle.trace_laws.proofs.ScriptReads.{line_first, items_read}
 
 -- ---- the first line
 
-bridge_printable : (who : Asker) → IsWritten who → list_all is_printable (bridge_line who false) ≡ true
+pub bridge_printable : (who : Asker) → IsWritten who → list_all is_printable (bridge_line who false) ≡ true
 bridge_printable who h =
     let ssrc : IsWord (decimal who.ssrc) = visible_number who.ssrc (omega (arith, h.named.ssrc)) in
     let behind : list_all is_printable (32 ∷ who.cname) ≡ true =
@@ -51,7 +51,7 @@ bridge_read who h =
     (bridge_printable who h)
     ∙ bridge_again who false h.named
 
-bridge_ended : (lane : ℕ) (who : Asker) (rest : List ℕ)
+pub bridge_ended : (lane : ℕ) (who : Asker) (rest : List ℕ)
     → first_line (Lane lane) who.ssrc who.cname ++ rest ≡ bridge_line who false ++ 10 ∷ rest
 bridge_ended lane who rest = simp append_assoc refl
 

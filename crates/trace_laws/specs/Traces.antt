@@ -16,7 +16,7 @@ use Rattle.script_text.specs.FirstLine.{IsNamed}
 use Rattle.script_text.specs.Decodings.{Decoding}
 use Rattle.script_text.specs.Scripts.{sent_in, answers_of}
 use Rattle.call_history.specs.AcceptedCall.{AcceptedOf}
-use Rattle.trace_text.specs.TraceLines.{first_line}
+use Rattle.trace_text.specs.TraceLines.{marked, first_line}
 use Rattle.trace_text.specs.declared.speaker.Speaker.TheVariants.{Front, Lane}
 use Rattle.trace_scripts.specs.Scripts.{item_done, between, script_lines}
 use Rattle.trace_laws.specs.Items.{IsInput}
@@ -64,6 +64,12 @@ asked_calls calls = map (λ (m : AcceptedOf). m.call) calls
 abbrev pub lane_script : (lane : ℕ) → Asker → List AcceptedOf → List Versioned → List ℕ
 lane_script lane who calls items =
     first_line (Lane lane) who.ssrc who.cname ++ script_lines Front 0 (map item_done items) calls
+
+-- a lane's part of a trace, as the trace has it
+abbrev pub lane_part : (lane : ℕ) → Asker → List AcceptedOf → List Versioned → List ℕ
+lane_part lane who calls items =
+    marked (Lane lane) (first_line (Lane lane) who.ssrc who.cname)
+    ++ script_lines (Lane lane) 0 (map item_done items) calls
 
 -- what the line of a call asks for
 abbrev pub call_asked : AcceptedOf → Request
