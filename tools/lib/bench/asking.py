@@ -79,22 +79,27 @@ def ask(operator, seconds, rate):
 
 
 def counted(folder):
-    """The instructions of all threads but the last one, which is the operator's."""
-    totals = {}
+    """What callgrind counted of each thread, in their order: its instructions, and the names of its functions."""
+    threads = {}
     for path in pathlib.Path(folder).glob("counted-*"):
-        said = re.search(r"^totals: (\d+)", path.read_text(), re.MULTILINE)
-        totals[int(path.name.rpartition("-")[2])] = int(said[1]) if said else 0
-    if len(totals) < 4:
-        fail(f"callgrind told of {len(totals)} threads")
-    return sum(totals[thread] for thread in sorted(totals)[:-1])
+        text = path.read_text()
+        said = re.search(r"^totals: (\d+)", text, re.MULTILINE)
+        names = re.findall(r"^c?fn=\(\d+\) (\S+)", text, re.MULTILINE)
+        threads[int(path.name.rpartition("-")[2])] = int(said[1]) if said else 0, names
+    if len(threads) < 4:
+        fail(f"callgrind told of {len(threads)} threads")
+    return [threads[thread] for thread in sorted(threads)]
 
 
-def measured(program, args, rate):
-    """The instructions of media, and how often `stats` was asked."""
+def measured(program, args, rate, more=""):
+    """What each thread took, the operator's as the last one, and how often `stats` was asked. More settings may be
+    given."""
     sockets = [udp_socket() for _ in range(args.members)]
     with tempfile.TemporaryDirectory() as folder:
         tool = ["valgrind", "--tool=callgrind", "--separate-threads=yes", f"--callgrind-out-file={folder}/counted"]
-        bridge, udp, tcp = started(program, settings(folder, lanes=args.lanes), under=[*tool, "--quiet"])
+        path = settings(folder, lanes=args.lanes)
+        path.write_text(path.read_text() + more)
+        bridge, udp, tcp = started(program, path, under=[*tool, "--quiet"])
         with socket.create_connection(("127.0.0.1", tcp)) as connection:
             operator = Operator(connection)
             for line in lines(sockets):
@@ -111,10 +116,17 @@ def measured(program, args, rate):
         return counted(folder), asked
 
 
+def media(threads):
+    """The instructions of all threads but the operator's."""
+    return sum(instructions for instructions, _ in threads[:-1])
+
+
 def run(args):
     program = release_program(args.binary)
-    alone, _ = measured(program, args, 0)
-    beside, asked = measured(program, args, args.rate)
+    threads, _ = measured(program, args, 0)
+    alone = media(threads)
+    threads, asked = measured(program, args, args.rate)
+    beside = media(threads)
     answer, second = (beside - alone) / asked, alone / args.seconds
     share = STATED * answer / second
     print(f"media: {second:,.0f} instructions a second; {asked} answers: {answer:,.0f} each")
