@@ -14,6 +14,8 @@ use udp_wire::socket_address;
 const EVENTS: usize = 4;
 /// How many seconds the other side has to accept the connection.
 const PATIENCE: u64 = 5;
+/// The system's number for a connection that nobody accepts in time (ETIMEDOUT).
+const TIMED_OUT: i32 = 110;
 /// How many octets wait for the reader at most.
 const MOST_WAITING: usize = 16_777_216;
 /// How many octets that were written are kept at most while others wait.
@@ -45,7 +47,7 @@ fn connected<R: Net>(rt: &R, alloc: Global, to: Address) -> io::Result<TcpStream
         return Err(error);
     }
     if events.is_empty() {
-        return Err(io::Error::from(ErrorKind::TimedOut));
+        return Err(io::Error::from_raw_os_error(TIMED_OUT));
     }
     poll.registry().deregister(&mut stream)?;
     Ok(stream)
@@ -111,6 +113,11 @@ impl TraceStream {
         }
         self.shift();
         Ok(())
+    }
+
+    /// Appends the line that ends a whole trace.
+    pub(crate) fn end(&mut self) -> Result<(), AllocError> {
+        self.text.extend_from_slice(b"# end\n")
     }
 
     /// Appends the line that ends a trace which lacks what follows. Out of memory leaves it out.

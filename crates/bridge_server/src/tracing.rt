@@ -172,14 +172,23 @@ impl Tracer {
         }
     }
 
-    /// Writes what waits, for two seconds at most.
-    fn finish<R: Clock>(&mut self, rt: &R) {
+    /// Writes what waits, for two seconds at most. Returns whether all was written.
+    fn finish<R: Clock>(&mut self, rt: &R) -> bool {
         for _ in 0..LAST_PAUSES {
-            if self.stream.write().is_err() || self.stream.is_clear() {
-                return;
+            if self.stream.write().is_err() {
+                return false;
+            }
+            if self.stream.is_clear() {
+                return true;
             }
             thread::sleep(rt, Duration::from_millis(PAUSE));
         }
+        false
+    }
+
+    /// Ends a whole trace by its last line. Returns whether all was written.
+    fn end<R: Clock>(&mut self, rt: &R) -> bool {
+        self.stream.end().is_ok() && self.finish(rt)
     }
 
     /// Writes the trace until the bridge is stopped. Returns whether it is whole.
@@ -206,8 +215,8 @@ impl Tracer {
     }
 }
 
-/// Writes the trace of a bridge until it is stopped: the body of a thread. Where the trace is lost before, that is
-/// told, and the bridge goes on.
+/// Writes the trace of a bridge until it is stopped: the body of a thread. Where the trace is lost before, or its reader
+/// takes too long for the end of it, that is told, and the bridge goes on.
 pub(crate) fn trace_calls<'a, H: DeskBrand, R: Wait + Clock>(
     rt: &R,
     alloc: Global,
@@ -219,9 +228,12 @@ pub(crate) fn trace_calls<'a, H: DeskBrand, R: Wait + Clock>(
         is_whole = tracer.run(rt, alloc, operators, &mut follower);
         follower.leave(rt);
     }
-    if !is_whole {
-        let to = tracer.stream.to;
-        tracer.teller.tell(rt, Event::TraceLost { to });
+    if is_whole && tracer.end(rt) {
+        return;
     }
-    tracer.finish(rt);
+    let to = tracer.stream.to;
+    tracer.teller.tell(rt, Event::TraceLost { to });
+    if !is_whole {
+        tracer.finish(rt);
+    }
 }

@@ -3,12 +3,12 @@ use Rattle.std.specs.Prelude.{◌≡◌, ℕ, ◌-◌, List, [], ◌∷◌, ◌+
 use mathlib.Core.List.{IsPrefix}
 use Rattle.media_workers.specs.LaneRuns.{Versioned}
 use Rattle.script_text.specs.ItemLines.{item_text}
-use Rattle.script_text.specs.Requests.{rx_line, wait_line, report_line}
+use Rattle.script_text.specs.Requests.{wait_line, report_line}
 use Rattle.call_history.specs.AcceptedCall.{AcceptedOf}
 use Rattle.operator_desk.specs.Entry.{EntryOf}
 use Rattle.operator_desk.specs.PastCalls.{made_of}
 use Rattle.front_rounds.specs.Traced.{DeedOf, took, waited, reported, asked}
-use Rattle.trace_text.specs.TraceLines.{marked, calls_text, picture_line}
+use Rattle.trace_text.specs.TraceLines.{marked, calls_text, datagram_line, picture_line}
 use Rattle.trace_text.specs.declared.speaker.Speaker.{Speaker}
 use Rattle.trace_text.specs.declared.told.Told.{Told}
 
@@ -23,8 +23,7 @@ item_done handled = record { version = handled.version; line = item_text handled
 
 -- a deed of the front
 abbrev pub front_done : DeedOf → DoneAt
-front_done (took version moment from octets) =
-    record { version = version; line = rx_line moment from octets ++ 10 ∷ [] }
+front_done (took version moment from octets) = record { version = version; line = datagram_line moment from octets }
 front_done (waited version moment origin) =
     record { version = version; line = wait_line moment origin.address origin.ssrc ++ 10 ∷ [] }
 front_done (reported version moment) = record { version = version; line = report_line moment ++ 10 ∷ [] }

@@ -1,8 +1,9 @@
 -- The lines of a trace (own).
-use Rattle.std.specs.Prelude.{ℕ, List, [], ◌++◌, codes, decimal}
+use Rattle.std.specs.Prelude.{ℕ, ◌==◌, if◌then◌else◌, List, [], ◌∷◌, ◌++◌, length, codes, decimal}
 use Rattle.std.specs.List.{flat_map}
 use Rattle.rtp_codec.specs.declared.address.Address.{Address}
 use Rattle.script_text.specs.Addresses.{address_text}
+use Rattle.script_text.specs.Requests.{rx_line}
 use Rattle.call_history.specs.AcceptedCall.{AcceptedOf}
 use Rattle.call_text.specs.HistoryText.{called_line}
 use Rattle.trace_text.specs.declared.speaker.Speaker.{Speaker}
@@ -30,6 +31,15 @@ first_line speaker ssrc name = codes "bridge " ++ decimal ssrc ++ codes " " ++ n
 -- the lines of accepted calls
 abbrev pub calls_text : Speaker → List AcceptedOf → List ℕ
 calls_text speaker calls = flat_map (λ call. marked speaker (called_line call)) calls
+
+-- the comment on a datagram without octets, which no line of a script has
+abbrev pub empty_line : (moment : ℕ) → Address → List ℕ
+empty_line moment from = codes "# rx " ++ decimal moment ++ codes " " ++ address_text from ++ codes "\n"
+
+-- the line of a datagram that was taken in
+abbrev pub datagram_line : (moment : ℕ) → Address → List ℕ → List ℕ
+datagram_line moment from octets =
+    if length octets == 0 then empty_line moment from else rx_line moment from octets ++ 10 ∷ []
 
 -- the comment that the bridge asked a sender for a picture, of its own accord
 abbrev pub picture_line : Address → ℕ → List ℕ

@@ -2,11 +2,12 @@
 
 ghost use Rattle.std.specs.Prelude.{◌≡◌, ◌∷◌, ◌++◌, [], decimal, codes, OnOk};
 ghost use Rattle.script_text.specs.Addresses.{address_text};
-ghost use Rattle.trace_text.specs.TraceLines.{mark_of, first_end, first_line, picture_line, half_text};
+ghost use Rattle.trace_text.specs.TraceLines.{mark_of, first_end, first_line, empty_line, datagram_line, picture_line, half_text};
 
 use crate::speaker::Speaker;
 use itoa::Buffer;
 use rtp_codec::Address;
+use script_text::append_rx_line;
 use std::alloc::{AllocError, Allocator};
 
 /// Appends a text. Here as below, an `Err`, out of memory, may leave a part of it.
@@ -96,6 +97,35 @@ fn append_address<A: Allocator>(address: Address, out: &mut Vec<u8, A>) -> Resul
     append_half(a, b, b".", out)?;
     append_half(c, d, b":", out)?;
     append_number(u64::from(address.port), out)
+}
+
+/// Appends the comment on a datagram without octets.
+fn append_empty<A: Allocator>(
+    moment: u64,
+    from: Address,
+    out: &mut Vec<u8, A>,
+) -> Result<(), AllocError>
+    ensures { OnOk result (out.new.items ≡ out.old.items ++ empty_line moment from) }
+{
+    append_around(b"# rx ", moment, b" ", out)?;
+    append_address(from, out)?;
+    append(b"\n", out)
+}
+
+/// Appends the line of a datagram that was taken in.
+pub(crate) fn append_datagram_line<A: Allocator>(
+    moment: u64,
+    from: Address,
+    octets: &[u8],
+    out: &mut Vec<u8, A>,
+) -> Result<(), AllocError>
+    ensures { OnOk result (out.new.items ≡ out.old.items ++ datagram_line moment from octets.now) }
+{
+    if octets.len() == 0 {
+        append_empty(moment, from, out)
+    } else {
+        append_rx_line(moment, from, octets, out)
+    }
 }
 
 /// Appends the comment that a sender was asked for a picture.

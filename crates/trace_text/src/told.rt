@@ -2,18 +2,18 @@
 
 ghost use Rattle.std.specs.Prelude.{◌≡◌, ◌+◌, ◌-◌, ◌≤◌, ◌∷◌, ◌++◌, [], length, take, max, IfOk, OnOk};
 ghost use Rattle.media_items.specs.Inputs.{input_of};
-ghost use Rattle.script_text.specs.Requests.{rx_line, wait_line, report_line};
+ghost use Rattle.script_text.specs.Requests.{wait_line, report_line};
 ghost use Rattle.script_text.specs.ItemLines.{item_text};
 ghost use Rattle.call_text.specs.HistoryText.{called_line};
-ghost use Rattle.trace_text.specs.TraceLines.{marked, first_line, calls_text, picture_line};
+ghost use Rattle.trace_text.specs.TraceLines.{marked, first_line, calls_text, datagram_line, picture_line};
 
-use crate::appending::{append_first, append_mark, append_picture};
+use crate::appending::{append_datagram_line, append_first, append_mark, append_picture};
 use crate::speaker::Speaker;
 use call_history::AcceptedCall;
 use call_text::print_called;
 use media_items::Item;
 use rtp_codec::Address;
-use script_text::{append_item_line, append_report_line, append_rx_line, append_wait_line};
+use script_text::{append_item_line, append_report_line, append_wait_line};
 use std::alloc::{AllocError, Allocator};
 
 /// What a speaker has told: so many calls. What it did since, it did at the version that they lead to.
@@ -84,11 +84,10 @@ fn append_datagram<A: Allocator>(
     octets: &[u8],
     out: &mut Vec<u8, A>,
 ) -> Result<(), AllocError>
-    ensures { OnOk result (out.new.items
-        ≡ out.old.items ++ marked speaker (rx_line moment from octets.now ++ 10 ∷ [])) }
+    ensures { OnOk result (out.new.items ≡ out.old.items ++ marked speaker (datagram_line moment from octets.now)) }
 {
     append_mark(speaker, out)?;
-    append_rx_line(moment, from, octets, out)
+    append_datagram_line(moment, from, octets, out)
 }
 
 /// Appends the line of a wait.
@@ -178,7 +177,7 @@ impl Told {
         append_item(self.speaker, item, out)
     }
 
-    /// Tells a datagram that was taken in.
+    /// Tells a datagram that was taken in. One without octets has a comment.
     pub fn tell_datagram<A: Allocator>(
         &self,
         moment: u64,
@@ -187,7 +186,7 @@ impl Told {
         out: &mut Vec<u8, A>,
     ) -> Result<(), AllocError>
         ensures text { OnOk result (out.new.items ≡ out.old.items
-            ++ marked self.now.speaker (rx_line moment from octets.now ++ 10 ∷ [])) }
+            ++ marked self.now.speaker (datagram_line moment from octets.now)) }
     {
         append_datagram(self.speaker, moment, from, octets, out)
     }
