@@ -215,8 +215,8 @@ impl Tracer {
     }
 }
 
-/// Writes the trace of a bridge until it is stopped: the body of a thread. Where the trace is lost before, or its reader
-/// takes too long for the end of it, that is told, and the bridge goes on.
+/// Writes the trace of a bridge until it is stopped: the body of a thread. Where the trace is lost before, or its
+/// reader takes too long for the end of it, that is told, and the bridge goes on.
 pub(crate) fn trace_calls<'a, H: DeskBrand, R: Wait + Clock>(
     rt: &R,
     alloc: Global,

@@ -1,11 +1,14 @@
 -- What is counted of outgoing streams, and what their receivers reported last (own).
 use Rattle.std.specs.Prelude.{◌≡◌, ◌⊎◌, ℕ, ◌≤◌, ◌<◌, if◌then◌else◌, nat_eq, List, [], ◌∷◌, ◌++◌, length, All}
-use Rattle.std.specs.Prelude.{Option, None, Some, is_some, Result, Ok, Err}
+use Rattle.std.specs.Prelude.{Option, None, Some, is_some, Result, Ok, Err, Bool, false}
 use Rattle.std.specs.declared.alloc.Global.{Global}
 use Rattle.std.specs.Map.{lookup}
+use Rattle.rtp_codec.specs.Address.{same_address}
+use Rattle.rtp_codec.specs.declared.address.Address.{Address}
 use Rattle.bridge_core.specs.declared.egress.Egress.{Egress}
 use Rattle.bridge_core.specs.declared.egress.Egress.TheVariants.{Media, Control, Note}
 use Rattle.lane_wire.specs.declared.fault.SendFault.{SendFault}
+use Rattle.lane_wire.specs.declared.stream_numbers.Reported.{Reported}
 use Rattle.lane_wire.specs.declared.stream_numbers.StreamNumbers.{StreamNumbers}
 use Rattle.lane_wire.specs.declared.stream_numbers.KeptStream.{KeptStream}
 use Rattle.lane_wire.specs.declared.stream_numbers.StreamNews.{StreamNews}
@@ -25,28 +28,39 @@ pub record StreamsOf : Type 0 where
 
 -- nothing was counted
 abbrev pub no_numbers : StreamNumbers
-no_numbers = record { packets = 0; octets = 0; resent = 0; report = None }
+no_numbers = record { packets = 0; octets = 0; resent = 0; to = None; report = None }
+
+-- packets went to this address last
+abbrev pub is_receiver : Option Address → Address → Bool
+is_receiver None from = false
+is_receiver (Some to) from = same_address to from
+
+-- a report, if it came from where packets go to
+abbrev pub kept_report : Address → Option Reported → Option Reported
+kept_report to None = None
+kept_report to (Some reported) = if is_receiver (Some to) reported.from then Some reported else None
 
 -- what is new, and of which stream, where the last try to send this had this answer: a packet that the system took, or
 -- a report
 abbrev pub news_of : Egress Global → Result (Unit {0}) SendFault → Option (ℕ × StreamNews)
 news_of (Media version item to ssrc number bytes resent_by) (Ok done) =
-    Some (ssrc, Packet (length bytes) (is_some resent_by))
+    Some (ssrc, Packet to (length bytes) (is_some resent_by))
 news_of (Media version item to ssrc number bytes resent_by) (Err fault) = None
 news_of (Control version item to ssrc bytes) answer = None
 news_of (Note version item from note) answer = Some (note.out_ssrc, Report (record { from = from; note = note }))
 
 -- the counts with what is new: one packet more, its octets, and one more that was sent again if this one was; or
--- another last report
+-- another last report. A report is kept while packets go to where it came from
 abbrev pub after_news : StreamNews → StreamNumbers → StreamNumbers
-after_news (Packet octets is_resent) n = record {
+after_news (Packet to octets is_resent) n = record {
   packets = plus n.packets 1;
   octets = plus n.octets octets;
   resent = plus n.resent (if is_resent then 1 else 0);
-  report = n.report;
+  to = Some to;
+  report = kept_report to n.report;
 }
 after_news (Report reported) n =
-    record { packets = n.packets; octets = n.octets; resent = n.resent; report = Some reported }
+    record n { report = if is_receiver n.to reported.from then Some reported else n.report }
 
 -- what is kept of a stream, with what is new of it and the number of that
 abbrev pub after_more : StreamNews → (number : ℕ) → KeptStream → KeptStream

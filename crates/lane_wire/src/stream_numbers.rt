@@ -1,7 +1,8 @@
 //! What is counted of one outgoing stream.
 
 ghost use Rattle.std.specs.Prelude.{◌≡◌};
-ghost use Rattle.lane_wire.specs.Streams.{no_numbers, news_of, after_news, after_more, first_kept};
+ghost use Rattle.lane_wire.specs.Streams.{no_numbers, is_receiver, kept_report, news_of, after_news};
+ghost use Rattle.lane_wire.specs.Streams.{after_more, first_kept};
 
 use crate::counts::octets_in;
 use crate::fault::SendFault;
@@ -26,7 +27,9 @@ pub struct StreamNumbers {
     pub octets: u64,
     /// How many of these packets were sent again.
     pub resent: u64,
-    /// What its receiver reported last.
+    /// Where its last packet was sent to.
+    pub to: Option<Address>,
+    /// What was reported last from there.
     pub report: Option<Reported>,
 }
 
@@ -44,12 +47,14 @@ pub struct KeptStream {
 pub enum StreamNews {
     /// The system took a packet of it.
     Packet {
+        /// Where it was sent to.
+        to: Address,
         /// How many octets the packet has.
         octets: u64,
         /// Whether it was sent again.
         is_resent: bool,
     },
-    /// Its receiver reported.
+    /// A member reported.
     Report(Reported),
 }
 
@@ -59,12 +64,14 @@ pub(crate) fn news_of(egress: &Egress, answer: Result<(), SendFault>) -> Option<
 {
     match egress {
         Egress::Media {
+            to,
             ssrc,
             resent_by,
             ..
         } => match answer {
             Ok(()) => {
                 let news = StreamNews::Packet {
+                    to: *to,
                     octets: octets_in(egress),
                     is_resent: resent_by.is_some(),
                 };
@@ -83,6 +90,32 @@ pub(crate) fn news_of(egress: &Egress, answer: Result<(), SendFault>) -> Option<
     }
 }
 
+/// Whether packets went to this address last.
+fn is_receiver(to: Option<Address>, from: Address) -> bool
+    ensures { result ≡ is_receiver to from }
+{
+    match to {
+        Some(to) => to == from,
+        None => false,
+    }
+}
+
+/// A report, if it came from where packets go to.
+fn kept_report(to: Address, report: Option<Reported>) -> Option<Reported>
+    ensures { result ≡ kept_report to report }
+{
+    match report {
+        Some(reported) => {
+            if is_receiver(Some(to), reported.from) {
+                Some(reported)
+            } else {
+                None
+            }
+        }
+        None => None,
+    }
+}
+
 impl StreamNumbers {
     /// Nothing was counted.
     pub(crate) fn new() -> Self
@@ -92,6 +125,7 @@ impl StreamNumbers {
             packets: 0,
             octets: 0,
             resent: 0,
+            to: None,
             report: None,
         }
     }
@@ -101,12 +135,22 @@ impl StreamNumbers {
         ensures { self.new ≡ after_news news self.old }
     {
         match news {
-            StreamNews::Packet { octets, is_resent } => {
+            StreamNews::Packet {
+                to,
+                octets,
+                is_resent,
+            } => {
                 self.packets = self.packets.saturating_add(1);
                 self.octets = self.octets.saturating_add(octets);
                 self.resent = self.resent.saturating_add(u64::from(is_resent));
+                self.report = kept_report(to, self.report);
+                self.to = Some(to);
             }
-            StreamNews::Report(reported) => self.report = Some(reported),
+            StreamNews::Report(reported) => {
+                if is_receiver(self.to, reported.from) {
+                    self.report = Some(reported);
+                }
+            }
         }
     }
 }

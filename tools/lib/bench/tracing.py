@@ -38,6 +38,8 @@ def run(args):
         fail("the trace is lost")
     before = sum(one[0] for one in alone[:-1])
     media = sum(one[0] for one in traced[:-1]) - tracer[0][0]
-    print(f"media: {before / args.seconds:,.0f} instructions a second; with a trace of {len(lines):,} lines"
-          f" {media / before - 1:+.2%}; the trace's own thread takes {tracer[0][0] / before:.2f} times as many as media")
+    print(
+        f"media: {before / args.seconds:,.0f} instructions a second; with a trace of {len(lines):,} lines"
+        f" {media / before - 1:+.2%}; its own thread takes {tracer[0][0] / before:.2f} times as many as media"
+    )
     return 0

@@ -6,8 +6,11 @@ lines of the trace are a script: it is replayed, by the program or, where there 
 tools/lib/models. Each datagram that the members got is compared with what the scripts send: none differs, none is
 missing, none is over, and each stream is in order.
 
-Then nobody listens where the trace goes to, and the bridge says so and ends; and a reader reads nothing, so that the
-trace ends with `lost`, and the call goes on.
+Two datagrams have no octets: they have comments in the trace, whose last line is `# end`.
+
+Then nobody listens where the trace goes to, and the bridge says so and ends. A reader reads nothing, so that the trace
+ends with `lost`, and the call goes on. And the reader of a whole trace is slow when the bridge is stopped: the loss of
+its end is told.
 """
 
 import collections
@@ -120,6 +123,11 @@ class Call:
 
     def send(self, member, octets):
         member.socket.sendto(octets, self.to)
+
+    def send_nothing(self):
+        """A member and a stranger send datagrams without octets."""
+        self.send(self.members[0], b"")
+        self.send(Member(), b"")
 
     def pass_on(self, member, octets):
         """Sends a packet of video: one in thirty is lost, late or sent twice."""
@@ -282,6 +290,7 @@ def check_call(args, lanes):
                 check(operator.ask(line).startswith("ok "), f"`{line}` is refused")
             desk = Desk(random.Random(args.seed + 1), other)
             desk.start()
+            call.send_nothing()
             call.talk(SECONDS)
             desk.goes_on = False
             desk.join()
@@ -293,7 +302,8 @@ def check_call(args, lanes):
             lines = reader.lines()
         finally:
             bridge.process.kill()
-    check("lost" not in lines, "the trace is lost")
+    check(lines[-1] == "# end" and "lost" not in lines, "the trace isn't whole")
+    check(sum(line.startswith("# rx ") for line in lines) == 2, "datagrams without octets have no comments")
     count = compare(call, lines, lanes, found_program(args.binary))
     check(count > SECONDS * 300, f"the members got {count} datagrams alone")
     items, word = sum(" item " in line for line in lines), "lane" if lanes == 1 else "lanes"
@@ -343,9 +353,34 @@ def check_slow(args):
     print("a reader that reads nothing: the trace ends with `lost`, and the call goes on")
 
 
+def check_stop(args):
+    """Where the reader reads nothing from a stop on, the bridge says so after two seconds, and ends."""
+    reader = Reader(is_slow=True)
+    with tempfile.TemporaryDirectory() as folder:
+        bridge = Bridge(args, folder, 16, reader.port)
+        try:
+            operator = bridge.operator()
+            call = Call(random.Random(args.seed), bridge)
+            for line in call.setup():
+                check(operator.ask(line).startswith("ok "), f"`{line}` is refused")
+            # Some 12 MB: more than the system's buffers take, and less than the bridge keeps.
+            call.talk(1)
+            check("lost" not in bridge.said.read_text(), "the trace is lost before the stop")
+            bridge.stop(operator)
+            said = bridge.said.read_text()
+            reader.go_on.set()
+            lines = reader.lines()
+        finally:
+            bridge.process.kill()
+    check(f"confbridge: trace 127.0.0.1:{reader.port} lost\n" in said, "the loss of the end isn't told")
+    check(lines[-1] != "# end", "a trace without its end has the last line of a whole one")
+    print("a reader that reads nothing of the end: the loss is told")
+
+
 def run(args):
     for lanes in args.lanes or LANES:
         check_call(args, lanes)
     check_nobody(args)
     check_slow(args)
+    check_stop(args)
     return 0

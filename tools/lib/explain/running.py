@@ -206,6 +206,9 @@ class Run:
                     with_firsts(part, self.firsts) for part in done.line.removeprefix("desk 0 group ").split(" / ")
                 ]
                 yield "desk 0 group " + " / ".join(commands)
+            elif done.line.startswith("rx ") and done.line.endswith(" "):
+                # A datagram without octets has no line in a script.
+                yield f"# {done.line.rstrip()}"
             else:
                 yield done.line
 
