@@ -19,8 +19,11 @@ use trace_ring::{TraceReceiver, TraceSender, trace_ring};
 use trace_scripts::{Deed, Speaking};
 use trace_text::Speaker;
 
-/// How many deeds the ring of a speaker holds.
-const PLACES: usize = 1_024;
+/// How many items the ring of a lane holds: as many as wait for the lane itself.
+const LANE_PLACES: usize = 1_024;
+/// How many deeds the ring of the front holds. In one round time may pass for each of a desk's 2,048 video sources, and
+/// a batch of datagrams may come.
+const FRONT_PLACES: usize = 4_096;
 /// How many milliseconds it sleeps where nothing has come.
 const PAUSE: u64 = 2;
 /// How many pauses the reader has at the end of the bridge: 2 s.
@@ -54,7 +57,7 @@ fn traced(
     teller: Teller,
 ) -> Result<(TraceSender<FrontTold>, Tracer), AllocError> {
     let mut stream = stream;
-    let (sender, from) = trace_ring(alloc, PLACES)?;
+    let (sender, from) = trace_ring(alloc, FRONT_PLACES)?;
     let front = begin(Speaker::Front, settings, from, &mut stream.text)?;
     let tracer = Tracer {
         stream,
@@ -86,7 +89,7 @@ impl Tracer {
     fn begin_lane(&mut self, alloc: Global, settings: &Settings) -> Result<LaneTrace, AllocError>
         ensures { IfOk result (λ trace. handed_on trace ≡ []) }
     {
-        let (trace, ring, is_lost) = LaneTrace::new(alloc, PLACES)?;
+        let (trace, ring, is_lost) = LaneTrace::new(alloc, LANE_PLACES)?;
         let from = TraceReceiver::new(ring, is_lost);
         let Ok(lane) = u32::try_from(self.lanes.len()) else {
             return Err(AllocError);
@@ -227,6 +230,8 @@ pub(crate) fn trace_calls<'a, H: DeskBrand, R: Wait + Clock>(
     if let Some(mut follower) = operators.follow(rt) {
         is_whole = tracer.run(rt, alloc, operators, &mut follower);
         follower.leave(rt);
+    } else {
+        let _ = tracer.stream.lose();
     }
     if is_whole && tracer.end(rt) {
         return;
