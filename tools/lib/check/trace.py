@@ -9,8 +9,8 @@ missing, none is over, and each stream is in order.
 Two datagrams have no octets: they have comments in the trace, whose last line is `# end`.
 
 Then nobody listens where the trace goes to, and the bridge says so and ends. A reader reads nothing, so that the trace
-ends with `lost`, and the call goes on. And the reader of a whole trace is slow when the bridge is stopped: the loss of
-its end is told.
+ends with `lost`, and the call goes on; or it closes the connection. And the reader of a whole trace is slow when the
+bridge is stopped: the loss of its end is told.
 """
 
 import collections
@@ -278,6 +278,36 @@ def quiet(call):
         time.sleep(0.5)
 
 
+def check_moments(found):
+    """Each lane begins with `item renew`. Frames go on when a datagram came or time passed, and reports when they were
+    due: the moments are those of the receive side."""
+    moments = collections.defaultdict(set)
+    for line in found.pop(None):
+        words = line.split(" ")
+        moments[words[0]].add(words[1])
+    for lane, script in found.items():
+        items = [line.split(" ") for line in script if line.startswith("item ")]
+        check(items[0] == ["item", "renew"], f"lane {lane} begins with {items[0]}")
+        for _, kind, *rest in items:
+            if kind == "frame":
+                check(rest[0] in moments["rx"] | moments["wait"], f"lane {lane} has a frame of no datagram and no wait")
+            if kind == "report":
+                check(rest[0] in moments["report"], f"lane {lane} has a report of its own")
+
+
+def check_streams_told(call, told):
+    """What `stats` counts of each stream came."""
+    came = collections.Counter(
+        stream_in(octets) for member in call.members for octets in member.got if not 192 <= octets[1] <= 223
+    )
+    counted = {}
+    for line in told:
+        words = line.split(" ")
+        if words[0] == "stream":
+            counted[int(words[1])] = int(words[words.index("packets") + 1])
+    check(counted == came, f"`stats` counts {counted}, and {dict(came)} came")
+
+
 def check_call(args, lanes):
     """Holds a call on so many lanes, and replays its trace."""
     draw, reader = random.Random(args.seed), Reader()
@@ -298,12 +328,14 @@ def check_call(args, lanes):
             answer = operator.ask("remove-room 1")
             check(answer.startswith("ok "), f"`remove-room 1` is answered `{answer}`")
             quiet(call)
+            check_streams_told(call, operator.shown("stats"))
             bridge.stop(operator)
             lines = reader.lines()
         finally:
             bridge.process.kill()
     check(lines[-1] == "# end" and "lost" not in lines, "the trace isn't whole")
     check(sum(line.startswith("# rx ") for line in lines) == 2, "datagrams without octets have no comments")
+    check_moments(scripts(lines))
     count = compare(call, lines, lanes, found_program(args.binary))
     check(count > SECONDS * 300, f"the members got {count} datagrams alone")
     items, word = sum(" item " in line for line in lines), "lane" if lanes == 1 else "lanes"
@@ -353,6 +385,37 @@ def check_slow(args):
     print("a reader that reads nothing: the trace ends with `lost`, and the call goes on")
 
 
+def check_closed(args):
+    """Where the reader closes the connection, the bridge says so, the call goes on, and the seat is free again."""
+    reader = socket.socket()
+    reader.bind(("127.0.0.1", 0))
+    reader.listen()
+    port = reader.getsockname()[1]
+    with tempfile.TemporaryDirectory() as folder:
+        bridge = Bridge(args, folder, 2, port)
+        try:
+            operator = bridge.operator()
+            call = Call(random.Random(args.seed), bridge)
+            for line in call.setup():
+                check(operator.ask(line).startswith("ok "), f"`{line}` is refused")
+            check(operator.shown("stats")[-2] == "seats 2 of 3", "a trace has no seat")
+            call.talk(1)
+            reader.accept()[0].close()
+            end = time.monotonic() + 60
+            while f"confbridge: trace 127.0.0.1:{port} lost\n" not in bridge.said.read_text():
+                check(time.monotonic() < end, "a trace whose reader is gone isn't lost")
+                call.talk(1)
+                call.seq = 0
+            before = len(call.members[0].got)
+            call.talk(1)
+            check(len(call.members[0].got) > before, "the call doesn't go on once the reader is gone")
+            check(operator.shown("stats")[-2] == "seats 1 of 3", "a trace that is lost keeps its seat")
+            bridge.stop(operator)
+        finally:
+            bridge.process.kill()
+    print("a reader that closes: the loss is told, the call goes on, and the seat is free again")
+
+
 def check_stop(args):
     """Where the reader reads nothing from a stop on, the bridge says so after two seconds, and ends."""
     reader = Reader(is_slow=True)
@@ -382,5 +445,6 @@ def run(args):
         check_call(args, lanes)
     check_nobody(args)
     check_slow(args)
+    check_closed(args)
     check_stop(args)
     return 0
