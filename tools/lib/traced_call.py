@@ -29,7 +29,7 @@ class Bridge:
 
     def __init__(self, args, folder, lanes, trace):
         self.udp, self.tcp = free_port(socket.SOCK_DGRAM), free_port(socket.SOCK_STREAM)
-        self.said = pathlib.Path(folder) / "stderr"
+        self.said, self.trace = pathlib.Path(folder) / "stderr", trace
         path = pathlib.Path(folder) / "serve.toml"
         path.write_text(
             f'udp = "127.0.0.1:{self.udp}"\ntcp = "127.0.0.1:{self.tcp}"\noperators = 3\nlanes = {lanes}\n'
@@ -52,6 +52,10 @@ class Bridge:
             except ConnectionRefusedError:
                 time.sleep(0.1)
         return fail(f"the bridge doesn't listen: {self.said.read_text()[-2000:]}")
+
+    def has_lost(self):
+        """Whether it has said that its trace is lost."""
+        return f"confbridge: trace 127.0.0.1:{self.trace} lost\n" in self.said.read_text()
 
     def stop(self, operator):
         operator.tell("stop")
@@ -148,10 +152,11 @@ class Call:
             block = out.to_bytes(4, "big") + bytes([10, 0, 0, 1]) + last.to_bytes(4, "big") + bytes(12)
             self.send(member, bytes.fromhex("81c9000700000009") + block)
 
-    def talk(self, seconds):
-        begun = time.monotonic()
+    def talk(self, seconds, until=lambda: False):
+        """Talks for so long, or until this is so."""
+        begun, self.seq = time.monotonic(), 0
         self.numbers = [1000 * at for at in range(MEMBERS)]
-        while time.monotonic() - begun < seconds:
+        while time.monotonic() - begun < seconds and not until():
             while time.monotonic() - begun >= self.seq * 0.02:
                 self.turn()
                 if self.draw.random() < 0.5:

@@ -14,6 +14,7 @@ bridge is stopped: the loss of its end is told.
 """
 
 import collections
+import contextlib
 import random
 import socket
 import tempfile
@@ -118,31 +119,37 @@ def check_streams_told(call, told):
     check(counted == came, f"`stats` counts {counted}, and {dict(came)} came")
 
 
-def check_call(args, lanes):
-    """Holds a call on so many lanes, and replays its trace."""
-    draw, reader = random.Random(args.seed), Reader()
+@contextlib.contextmanager
+def held(args, lanes, port):
+    """A bridge whose trace goes to this port, an operator, and a call whose desk is made."""
     with tempfile.TemporaryDirectory() as folder:
-        bridge = Bridge(args, folder, lanes, reader.port)
+        bridge = Bridge(args, folder, lanes, port)
         try:
-            operator, other = bridge.operator(), bridge.operator()
-            call = Call(draw, bridge)
+            operator, call = bridge.operator(), Call(random.Random(args.seed), bridge)
             for line in call.setup():
                 check(operator.ask(line).startswith("ok "), f"`{line}` is refused")
-            desk = Desk(random.Random(args.seed + 1), other)
-            desk.start()
-            call.send_nothing()
-            call.talk(SECONDS)
-            desk.goes_on = False
-            desk.join()
-            # Without rows nobody is sent anything, so that the trace ends behind the last datagram.
-            answer = operator.ask("remove-room 1")
-            check(answer.startswith("ok "), f"`remove-room 1` is answered `{answer}`")
-            quiet(call)
-            check_streams_told(call, operator.shown("stats"))
-            bridge.stop(operator)
-            lines = reader.lines()
+            yield bridge, operator, call
         finally:
             bridge.process.kill()
+
+
+def check_call(args, lanes):
+    """Holds a call on so many lanes, and replays its trace."""
+    reader = Reader()
+    with held(args, lanes, reader.port) as (bridge, operator, call):
+        desk = Desk(random.Random(args.seed + 1), bridge.operator())
+        desk.start()
+        call.send_nothing()
+        call.talk(SECONDS)
+        desk.goes_on = False
+        desk.join()
+        # Without rows nobody is sent anything, so that the trace ends behind the last datagram.
+        answer = operator.ask("remove-room 1")
+        check(answer.startswith("ok "), f"`remove-room 1` is answered `{answer}`")
+        quiet(call)
+        check_streams_told(call, operator.shown("stats"))
+        bridge.stop(operator)
+        lines = reader.lines()
     check(lines[-1] == "# end" and "lost" not in lines, "the trace isn't whole")
     check(sum(line.startswith("# rx ") for line in lines) == 2, "datagrams without octets have no comments")
     check_moments(scripts(lines))
@@ -167,85 +174,56 @@ def check_nobody(args):
     print("nobody listens: the bridge says so, and ends")
 
 
+def lose(bridge, call):
+    """Talks until the bridge says that the trace is lost."""
+    call.talk(60, bridge.has_lost)
+    check(bridge.has_lost(), "the trace isn't lost")
+
+
+def check_going_on(call):
+    before = len(call.members[0].got)
+    call.talk(1)
+    check(len(call.members[0].got) > before, "the call doesn't go on once the trace is lost")
+
+
 def check_slow(args):
     """Where the reader reads nothing, the trace is lost, and the call goes on."""
     reader = Reader(is_slow=True)
-    with tempfile.TemporaryDirectory() as folder:
-        bridge = Bridge(args, folder, 16, reader.port)
-        try:
-            operator = bridge.operator()
-            call = Call(random.Random(args.seed), bridge)
-            for line in call.setup():
-                check(operator.ask(line).startswith("ok "), f"`{line}` is refused")
-            end = time.monotonic() + 60
-            while "lost" not in bridge.said.read_text():
-                check(time.monotonic() < end, "a trace that nobody reads isn't lost")
-                call.talk(1)
-                call.seq = 0
-            before = len(call.members[0].got)
-            call.talk(1)
-            check(len(call.members[0].got) > before, "the call doesn't go on once the trace is lost")
-            reader.go_on.set()
-            bridge.stop(operator)
-            lines, said = reader.lines(), bridge.said.read_text()
-        finally:
-            bridge.process.kill()
+    with held(args, 16, reader.port) as (bridge, operator, call):
+        lose(bridge, call)
+        # The bridge waits two seconds for the reader.
+        reader.go_on.set()
+        check_going_on(call)
+        bridge.stop(operator)
+        lines = reader.lines()
     check(lines[-1] == "lost" and lines.count("lost") == 1, "the trace doesn't end with `lost`")
-    check(f"confbridge: trace 127.0.0.1:{reader.port} lost\n" in said, "the loss isn't told")
     print("a reader that reads nothing: the trace ends with `lost`, and the call goes on")
 
 
 def check_closed(args):
     """Where the reader closes the connection, the bridge says so, the call goes on, and the seat is free again."""
-    reader = socket.socket()
-    reader.bind(("127.0.0.1", 0))
-    reader.listen()
-    port = reader.getsockname()[1]
-    with tempfile.TemporaryDirectory() as folder:
-        bridge = Bridge(args, folder, 2, port)
-        try:
-            operator = bridge.operator()
-            call = Call(random.Random(args.seed), bridge)
-            for line in call.setup():
-                check(operator.ask(line).startswith("ok "), f"`{line}` is refused")
-            check(operator.shown("stats")[-2] == "seats 2 of 3", "a trace has no seat")
-            call.talk(1)
-            reader.accept()[0].close()
-            end = time.monotonic() + 60
-            while f"confbridge: trace 127.0.0.1:{port} lost\n" not in bridge.said.read_text():
-                check(time.monotonic() < end, "a trace whose reader is gone isn't lost")
-                call.talk(1)
-                call.seq = 0
-            before = len(call.members[0].got)
-            call.talk(1)
-            check(len(call.members[0].got) > before, "the call doesn't go on once the reader is gone")
-            check(operator.shown("stats")[-2] == "seats 1 of 3", "a trace that is lost keeps its seat")
-            bridge.stop(operator)
-        finally:
-            bridge.process.kill()
+    reader = socket.create_server(("127.0.0.1", 0))
+    with held(args, 2, reader.getsockname()[1]) as (bridge, operator, call):
+        check(operator.shown("stats")[-2] == "seats 2 of 3", "a trace has no seat")
+        reader.accept()[0].close()
+        lose(bridge, call)
+        check_going_on(call)
+        check(operator.shown("stats")[-2] == "seats 1 of 3", "a trace that is lost keeps its seat")
+        bridge.stop(operator)
     print("a reader that closes: the loss is told, the call goes on, and the seat is free again")
 
 
 def check_stop(args):
     """Where the reader reads nothing from a stop on, the bridge says so after two seconds, and ends."""
     reader = Reader(is_slow=True)
-    with tempfile.TemporaryDirectory() as folder:
-        bridge = Bridge(args, folder, 16, reader.port)
-        try:
-            operator = bridge.operator()
-            call = Call(random.Random(args.seed), bridge)
-            for line in call.setup():
-                check(operator.ask(line).startswith("ok "), f"`{line}` is refused")
-            # Some 12 MB: more than the system's buffers take, and less than the bridge keeps.
-            call.talk(1)
-            check("lost" not in bridge.said.read_text(), "the trace is lost before the stop")
-            bridge.stop(operator)
-            said = bridge.said.read_text()
-            reader.go_on.set()
-            lines = reader.lines()
-        finally:
-            bridge.process.kill()
-    check(f"confbridge: trace 127.0.0.1:{reader.port} lost\n" in said, "the loss of the end isn't told")
+    with held(args, 16, reader.port) as (bridge, operator, call):
+        # Some 12 MB: more than the system's buffers take, and less than the bridge keeps.
+        call.talk(1)
+        check(not bridge.has_lost(), "the trace is lost before the stop")
+        bridge.stop(operator)
+        check(bridge.has_lost(), "the loss of the end isn't told")
+        reader.go_on.set()
+        lines = reader.lines()
     check(lines[-1] != "# end", "a trace without its end has the last line of a whole one")
     print("a reader that reads nothing of the end: the loss is told")
 
