@@ -3,8 +3,9 @@
 use crate::options::ExitReason;
 use desk_http::{BridgeReply, Names, NamesOutcome, is_names_text};
 use std::alloc::{Alloc, AllocError, AllocGlobal, Global};
-use std::fs::{Files, OpenFile};
+use std::fs::{Files, OpenFile, OpenOptions};
 use std::io::{Eprint, ErrorKind, Write};
+use std::os::unix::fs::OpenOptionsExt;
 use std::{fs, io};
 
 /// The names. Where the arguments name no file, they end with the program.
@@ -25,9 +26,12 @@ fn reply_line(
     Ok(BridgeReply::Text(format!(in alloc; "{word} {version}{reason}\n")?.into_bytes()))
 }
 
-/// Writes a text to a file, and syncs it to the disk.
+/// Writes a text to a file, and syncs it to the disk. A file that isn't there yet is its owner's alone: names are those
+/// of people.
 fn write<R: Files>(rt: &R, path: &str, text: &[u8]) -> io::Result<()> {
-    let mut file = fs::create(rt, path)?;
+    let mut options = OpenOptions::new();
+    options.write(true).create(true).truncate(true).mode(0o600);
+    let mut file = options.open(rt, path)?;
     file.write_all(text)?;
     file.sync_all()
 }

@@ -324,6 +324,7 @@ def keeps_names(page, path):
     check(
         page.names() == (first + 1, text) and path.read_text() == text, "new names aren't told, or aren't in the file"
     )
+    check(path.stat().st_mode & 0o777 == 0o600, "others may read the file of names")
     head = f"names {first + 1}\n"
     longest = '{"a": "' + "n" * 800 + '"}'
     for body, reason in [
