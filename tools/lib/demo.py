@@ -1,15 +1,16 @@
 """Starts a bridge, its page and two members, and holds a call until it is stopped.
 
 The bridge has the settings of examples/serve.toml, and the page is at http://127.0.0.1:7080/. Member 10 sends a tone of
-440 Hz and frames of a test picture, member 11 a tone of 1000 Hz. Both read what they are sent. The desk is made through
-the page, which so names each change that **Undo** takes back. Where a port is taken the demo changes nothing. Ctrl-C
-ends all of it.
+440 Hz and frames of a test picture, member 11 a tone of 1000 Hz. Both read what they are sent. With --hear a player of
+the system plays what member 10 hears: member 11's tone, and not its own. The desk is made through the page, which so
+names each change that **Undo** takes back. Where a port is taken the demo changes nothing. Ctrl-C ends all of it.
 """
 
 import http.client
 import json
 import math
 import re
+import shutil
 import socket
 import subprocess
 import time
@@ -34,10 +35,17 @@ DESK = [
     "give-floor 1 10",
 ]
 NAMES = {"room 1": "Demo", "member 10": "Ada", "member 11": "Ben"}
+# What plays mu-law of 8000 Hz from its standard input. The first that is installed does.
+PLAYERS = [
+    ["pacat", "--playback", "--raw", "--format=ulaw", "--rate=8000", "--channels=1"],
+    ["aplay", "-q", "-t", "raw", "-f", "MU_LAW", "-r", "8000", "-c", "1"],
+    ["ffplay", "-loglevel", "error", "-nodisp", "-f", "mulaw", "-ar", "8000", "-i", "-"],
+]
 
 
 def options(parser):
     add_program_or_build(parser)
+    parser.add_argument("--hear", action="store_true", help="play what member 10 hears, by pacat, aplay or ffplay")
 
 
 def mu_law(sample):
@@ -112,7 +120,27 @@ def connected(program, address):
     return fail(f"the program for {text_of(address)} has ended with status {program.returncode}")
 
 
-def talk():
+def started_player():
+    """The program that plays what member 10 hears. Ends where none is installed."""
+    found = next((words for words in PLAYERS if shutil.which(words[0])), None)
+    if not found:
+        names = ", ".join(words[0] for words in PLAYERS)
+        fail(f"--hear needs a player, one of {names}. Nothing was changed")
+    return subprocess.Popen(found, stdin=subprocess.PIPE)
+
+
+def play(player, datagram):
+    """Gives the sound of a packet of a mix to the player. A player that has ended ends the demo."""
+    if len(datagram) < 12 or datagram[1] & 127 != 0:
+        return
+    try:
+        player.stdin.write(datagram[12 + 4 * (datagram[0] & 15) :])
+        player.stdin.flush()
+    except BrokenPipeError:
+        fail(f"{player.args[0]} has ended, which plays what member 10 hears")
+
+
+def talk(player=None):
     """The members send 50 times a second, and read what has come."""
     sockets = [udp_socket(port) for port, _, _ in MEMBERS]
     begun, tick, seq = time.monotonic(), 0, 0
@@ -122,7 +150,9 @@ def talk():
             one.setblocking(False)
             try:
                 while True:
-                    one.recv(65536)
+                    datagram = one.recv(65536)
+                    if player and one is sockets[0]:
+                        play(player, datagram)
             except BlockingIOError:
                 pass
         if tick % 2 == 0:
@@ -135,6 +165,7 @@ def talk():
 
 def run(args):
     refuse_taken()
+    player = started_player() if args.hear else None
     programs = [started("confbridge", ["serve", ROOT / "examples/serve.toml"], 86400, args.binary)]
     try:
         connected(programs[0], TCP).close()
@@ -142,10 +173,12 @@ def run(args):
         connected(programs[1], PAGE).close()
         make_desk()
         print(f"the desk is at http://{text_of(PAGE)}/ (Ctrl-C ends the call)", flush=True)
-        talk()
+        talk(player)
     except KeyboardInterrupt:
         return 0
     finally:
+        if player:
+            player.terminate()
         # `rt try` ends the program that it runs once it is asked to end, and leaves it behind where it is killed.
         for program in programs:
             program.terminate()

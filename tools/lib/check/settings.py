@@ -1,8 +1,10 @@
 """Starts bridges with good and bad settings.
 
 It compares their exit statuses and standard error, on which a line says what failed and why before the last one says
-how the bridge ends. The faults are those of docs/FORMATS.md. Ports are of the system's choice. Then it runs the
-`ExecStop` of examples/confbridge.service on a bridge, and counts the lines of many connections.
+how the bridge ends. The faults are those of docs/FORMATS.md. Ports are of the system's choice. Then it counts the lines
+of many connections. At last ./confbridge runs bridges, as units and containers do. In mid-call SIGHUP does nothing, and
+SIGTERM and SIGINT stop a bridge with its last lines and status 0. A full or closed standard error keeps none from
+starting.
 """
 
 import pathlib
@@ -12,10 +14,11 @@ import subprocess
 import tempfile
 import time
 
+from lib.scripted import check_script
 from lib.serving import LISTENS, said_at_the_end, udp_socket
-from lib.shared import ROOT, add_program, fail, release_program
+from lib.shared import add_program, fail, release_program
 
-NEEDS = "the program, twenty seconds"
+NEEDS = "the program, a minute"
 
 UDP, TCP = b'udp = "127.0.0.1:0"\n', b'tcp = "127.0.0.1:0"\n'
 BOTH = UDP + TCP
@@ -66,7 +69,6 @@ GOOD = [
 ]
 USAGE = "usage: confbridge replay | confbridge serve FILE\n"
 FAILED = "confbridge: input or output failed\n"
-UNIT = ROOT / "examples" / "confbridge.service"
 # So many connections come at once, and so many lines a second tell of them.
 CROWD, MOST_LINES = 60, 10
 EVENT = re.compile(r"confbridge: connection from 127[.]0[.]0[.]1:[0-9]+( refused: busy)?")
@@ -137,16 +139,6 @@ def stop_by_line(_, port):
         desk.recv(1)
 
 
-def stop_by_unit(bridge, port):
-    """Stops a bridge as systemd does: by the unit's `ExecStop`, which ends once the bridge has."""
-    line = next(line for line in UNIT.read_text().splitlines() if line.startswith("ExecStop="))
-    check("/7000" in line, "the unit's ExecStop speaks to another port than that of examples/serve.toml")
-    command = line.removeprefix("ExecStop=").replace("${MAINPID}", str(bridge.pid)).replace("/7000", f"/{port}")
-    with subprocess.Popen(["/bin/sh", "-c", command], stdin=subprocess.DEVNULL) as stopping:
-        bridge.wait(20)
-        check(stopping.wait(20) == 0, f"the unit's ExecStop ends with status {stopping.returncode}")
-
-
 def stop_in_a_crowd(bridge, port):
     """Stops a bridge to which many have connected, of which its one seat refuses most."""
     with socket.create_connection(("127.0.0.1", port), timeout=20) as desk:
@@ -195,8 +187,7 @@ def check_all(program, folder, taken):
     check_cause(program, ["serve", path], 3, "udp 192.0.2.1:5004: cannot assign requested address", FAILED)
     for octets in GOOD:
         path.write_bytes(octets)
-        for stop in stop_by_line, stop_by_unit:
-            check_start(program, path, stop)
+        check_start(program, path, stop_by_line)
     path.write_bytes(BOTH)
     check_crowd(program, path)
 
@@ -206,6 +197,7 @@ def run(args):
     udp = udp_socket()
     with tempfile.TemporaryDirectory() as folder, udp, socket.create_server(("127.0.0.1", 0)) as tcp:
         check_all(program, pathlib.Path(folder), (tcp, udp))
-    print(f"{len(BAD)} bad settings refused, {len(GOOD)} good ones taken")
-    print("each bad start says why, and the unit's ExecStop ends a bridge")
+        print(f"{len(BAD)} bad settings refused, {len(GOOD)} good ones taken; each bad start says why")
+        check_script(program, pathlib.Path(folder))
+    print("./confbridge stops a bridge in mid-call by SIGTERM and SIGINT, and starts one without standard error")
     return 0
