@@ -7,10 +7,12 @@ import threading
 import time
 
 import sdp
-from desk import Desk, Rows, in_words
+from desk import MUSIC, FULL, ROOMS, SPEECH, Desk, Rows, in_words
 from fleet_rooms import LEAST, Fleet
+from own_rooms import EMPTY, OwnRooms
 from refused import Refused, words_of
 from rtpengine import Rtpengine
+from targets import Targets, without_others
 
 # A line of the desk holds 45 of the longest commands.
 LONGEST_GROUP = 44
@@ -20,6 +22,12 @@ NUMBERS = 100_000
 LOOKS = 50
 # For rtpengine: RTP and RTCP have one port; addresses are known, of browsers by ICE, and not to be learnt from packets.
 MUX, KNOWN = ["offer", "require"], ["asymmetric", "strict-source"]
+# A phone's address is that of its request, whatever its description names, and then that from which its packets come.
+# Until that is certain, packets from the first count more than a stranger's, or the last ones count: where a phone has
+# said that its sound comes from elsewhere, late ones from the first would count too much. The bridge's side keeps its
+# port when a phone offers again.
+LEARNT = ["SIP-source-address", "strict-source", "port-latching"]
+NEAREST, LAST = "endpoint-learning-heuristic", "endpoint-learning-delayed"
 
 
 def log(text):
@@ -32,15 +40,22 @@ def numbers():
 
 
 class Call:
-    """A call. `side` is the name that rtpengine has for who calls: browser or phone."""
+    """A call. `side` is the name that rtpengine has for who calls: browser or phone.
 
-    def __init__(self, side, room, name, slots, id):
-        self.side, self.room, self.name, self.id = side, room, name[:40], id
+    `source` is who asked for it: an account, or an address. A page knows its call by `id`, a secret, and a phone its by
+    the Call-ID and its own tag, together with the gateway's (RFC 3261 section 12).
+    """
+
+    def __init__(self, side, room, name, source, slots):
+        self.side, self.room, self.name, self.source, self.id = side, room, name[:40], source, secrets.token_hex(16)
         # The streams that the member gets. Slot 0 is the stage: it shows what operators pin, or who has the floor.
         self.mix, self.slots = secrets.randbits(32), [secrets.randbits(32) for _ in range(slots)]
         self.member = self.voice = self.camera = self.refused = None
-        # Whether rtpengine has the call.
-        self.is_open = False
+        # Whether rtpengine has the call, and why it has ended.
+        self.is_open, self.why = False, None
+        # A phone's: the gateway's tag, where the bridge is to send, whether it is held, and how many packets had come
+        # when it was told where to send: until more come, it gets none.
+        self.tag, self.address, self.is_held, self.waits_at = None, None, False, None
         # How many packets had come when they were last counted, and when a sign of life came last.
         self.packets, self.alive = 0, time.monotonic()
 
@@ -55,18 +70,20 @@ class Calls:
         self.settings, self.bridge = settings["calls"], settings["bridge"]["udp"]
         self.engine, self.desk = Rtpengine(settings["rtpengine"]["control"]), Desk(settings["bridge"]["tcp"])
         # The fleet that the bridge is one of, and the numbers of members that no other program has.
-        self.fleet = Fleet(settings["fleet"]["agent"], settings["bridge"]["udp"]) if "fleet" in settings else None
+        self.fleet = Fleet(settings["fleet"], settings["bridge"]["udp"]) if "fleet" in settings else None
         first = self.settings["first_member"]
         self.numbers = range(LEAST, 2**32) if self.fleet else range(first, first + NUMBERS)
-        # The calls by their ids, and why the last ones ended. One change at a time is made to them and to the desk.
-        self.by_id, self.ended, self.lock = {}, {}, threading.RLock()
+        self.targets = Targets(settings["phones"]["targets"])
+        # The calls of pages by their ids, and why the last ones ended; those of phones by Call-ID and the phone's tag.
+        # One change at a time is made to them and to the desk.
+        self.pages, self.ended, self.phones, self.lock = {}, {}, {}, threading.RLock()
         # The desk as it was last read.
         self.seen = Rows()
         # Members that have to go from the desk, with their cameras, and the rooms that the agent added.
-        self.leaving, self.own_rooms = [], set()
+        self.leaving, self.own_rooms = [], OwnRooms()
 
     def __iter__(self):
-        return iter(list(self.by_id.values()))
+        return iter([*self.pages.values(), *self.phones.values()])
 
     def rows(self):
         """Reads the desk. What an agent before this one left behind has to go, and all calls of an earlier bridge."""
@@ -82,9 +99,10 @@ class Calls:
 
     # Joining
 
-    def offer(self, room, name):
+    def offer(self, room, name, source):
         """The offer for a browser. The agent offers, so that all browsers have one payload type for VP8."""
-        call = self.begin("browser", room, name, 1 + self.settings["pictures"], secrets.token_hex(16))
+        call = Call("browser", room, name, source, 1 + self.settings["pictures"])
+        self.begin(call, self.pages, call.id)
         with self.whole_or_not(call):
             # AVPF: where one side is AVP, rtpengine takes NACK and PLI away.
             own = sdp.plain(self.bridge, "RTP/AVPF")
@@ -103,39 +121,112 @@ class Calls:
             self.join(call, sdp.plain_address(said["sdp"]))
         return {"member": call.member, "voice": call.voice, "camera": call.camera}
 
-    def phone(self, id, room, name, text):
-        """Takes a phone's offer, makes it a member, and answers. A phone offers again to hold the call, or to move."""
-        call = self.by_id.get(id) or self.begin("phone", room, name, 0, id)
+    def phone(self, room, words):
+        """Takes a phone's offer, and answers. It is a member once its sound comes (`heard`)."""
+        call = Call("phone", room, words["name"], words.get("account") or words["source"], 0)
+        call.tag = words["to"]
+        self.begin(call, self.phones, (words["call"], words["from"]))
         with self.whole_or_not(call):
-            found = sdp.demand(text, from_browser=False)
-            ways = {"ICE": "remove", "rtcp_mux": MUX, "direction": ["outside", "bridge"]}
-            ways |= {"transport_protocol": "RTP/AVPF", "codec": {"strip": ["all"], "offer": ["PCMU"]}}
-            said = self.opened(call, from_tag="phone", sdp=text, **ways)
-            own = sdp.refusing_others(sdp.plain(self.bridge, "RTP/AVPF", types=[sdp.PCMU]), found)
-            answer = self.engine.ask("answer", call_id=id, from_tag="phone", to_tag="bridge", sdp=own, flags=KNOWN)
-            if call.member is None:
-                # Most phones don't say their SSRC: the watch learns it.
-                call.voice = found[0].ssrc
-                self.join(call, sdp.plain_address(said["sdp"]))
-        return {"sdp": answer["sdp"], "member": call.member}
+            found = sdp.demand(words["sdp"], from_browser=False)
+            self.demand_room(call, self.desk.rows())
+            # Most phones don't say their SSRC: the watch learns it.
+            call.voice = found[0].ssrc
+            return self.described(call, found, words)
 
-    def begin(self, side, room, name, slots, id):
-        if self.fleet:
-            self.fleet.demand(room)
+    def offers_again(self, call, words):
+        """Takes a phone's further offer, by which it holds the call, takes it up again, or has moved."""
+        with self.whole_or_not(call):
+            return self.described(call, sdp.demand(words["sdp"], from_browser=False), words)
+
+    def described(self, call, found, words):
+        """What a phone is answered to its description. Nothing goes there until something has come from there."""
+        self.targets.demand(words["sdp"], words["source"])
+        direction = sdp.direction_of(found[0])
+        given = {"sdp": without_others(words["sdp"]), "received_from": ["IP4", words["source"]]}
+        ways = {"ICE": "remove", "rtcp_mux": MUX, "direction": ["outside", "bridge"], "flags": [*LEARNT, NEAREST]}
+        ways |= {"transport_protocol": "RTP/AVPF", "codec": {"strip": ["all"], "offer": ["PCMU"]}}
+        own = sdp.plain(self.bridge, "RTP/AVPF", types=[sdp.PCMU], direction=sdp.ANSWERS[direction])
+        own = {"sdp": sdp.refusing_others(own, found), "flags": KNOWN}
         with self.lock:
-            if len(self.by_id) >= self.settings["most"]:
-                raise Refused("The gateway has as many calls as it may have. Try again when somebody has left.")
-            call = self.by_id[id] = Call(side, room, name, slots, id)
+            if call.is_open:
+                call.waits_at = self.engine.received(call.id, "phone").media
+                self.engine.ask("block media", call_id=call.id, from_tag="bridge")
+                learning = LAST if self.targets.is_elsewhere(words["sdp"], words["source"]) else NEAREST
+                # Without a reset an address that was learnt within the last three seconds counts more than the new one.
+                ways |= {"to_tag": "bridge", "flags": [*LEARNT, learning, "reset"]}
+            said = self.opened(call, from_tag="phone", **given, **ways)
+            answer = self.engine.ask("answer", call_id=call.id, from_tag="phone", to_tag="bridge", **own)
+            call.address, call.is_held = sdp.plain_address(said["sdp"]), direction in ("sendonly", "inactive")
+            call.alive, call.waits_at = time.monotonic(), self.engine.received(call.id, "phone").media
+        return {"sdp": answer["sdp"]}
+
+    def heard(self, call, came):
+        """Where a phone's sound has come from an address, sound may go there from now on."""
+        with self.lock:
+            if call.waits_at is None or came.media <= call.waits_at:
+                return
+            if not self.targets.has(came.ip):
+                words = f"Its sound comes from {came.ip}, to which this gateway sends nothing (`targets`)."
+                self.end(call, words)
+                return
+            if not call.is_held:
+                self.engine.ask("unblock media", call_id=call.id, from_tag="bridge")
+            if call.member is None:
+                threading.Thread(target=self.let_in, args=[call], daemon=True).start()
+            call.waits_at = None
+
+    def let_in(self, call):
+        """Makes a phone a member. Where that is refused, the log says why."""
+        with contextlib.suppress(Refused), self.whole_or_not(call):
+            self.join(call, call.address)
+
+    def of_phone(self, words):
+        """The call of a request within it: its Call-ID and both tags have to be right, and who asks has to be."""
+        call = self.phones.get((words["call"], words["from"]))
+        if not call or not secrets.compare_digest(call.tag.encode(), words["to"].encode()):
+            raise Refused("There is no such call.", 410)
+        if "account" in words and words["account"] != call.source:
+            raise Refused("This call is another account's.", 403)
         return call
+
+    def begin(self, call, table, key):
+        """Takes a call in. Neither the gateway nor a source may have more than the settings say."""
+        with self.lock:
+            if key in table:
+                raise Refused("There is such a call already.", 409)
+            if len(self.pages) + len(self.phones) >= self.settings["most"]:
+                raise Refused("The gateway has as many calls as it may have. Try again when somebody has left.")
+            waiting = sum(one.source == call.source and one.member is None for one in self)
+            if waiting >= self.settings["unanswered"]:
+                raise Refused(f"{waiting} calls of yours wait already. Try again in some seconds.", 429)
+            call.table, call.key = table, key
+            table[key] = call
+        if self.fleet:
+            with self.whole_or_not(call):
+                self.fleet.demand(call.room)
+
+    def demand_room(self, call, rows):
+        """Refuses a room that can't be joined, or that may not be opened."""
+        if rows.rooms.get(call.room, SPEECH) != SPEECH:
+            raise Refused(MUSIC)
+        if call.room in rows.rooms or self.fleet:
+            return
+        if not self.settings["open_rooms"]:
+            raise Refused(f"There is no room {call.room}.", 404)
+        if self.own_rooms.of(call.source, rows) >= self.settings["rooms"]:
+            words = f"You have opened {self.settings['rooms']} rooms already. Try again when one of them is empty."
+            raise Refused(words, 429)
+        if len(rows.rooms) >= ROOMS:
+            raise Refused(FULL.format("rooms", ROOMS))
 
     def opened(self, call, **words):
         """What rtpengine says to an offer, by which it has the call."""
         said = self.engine.ask("offer", call_id=call.id, **words)
         call.is_open = True
-        if call.id not in self.by_id:
+        if call.why:
             # It was ended meanwhile, when rtpengine didn't have it.
             self.engine.ask("delete", call_id=call.id, delete_delay=0)
-            raise Refused(self.ended.get(call.id, "The call has ended."), 410)
+            raise Refused(call.why, 410)
         return said
 
     @contextlib.contextmanager
@@ -152,16 +243,15 @@ class Calls:
     def join(self, call, address):
         """Makes a call a member by one group: one `undo` takes all of it back."""
         if self.fleet:
-            self.arrive(call.room)
+            self.arrive(call)
         with self.lock:
             # What a member that has to go has, its number and its SSRCs, is free only then.
             self.rows()
-            if call.id not in self.by_id or call.member is not None:
-                raise Refused(self.ended.get(call.id, "You have joined this call already."), 410)
+            if call.why or call.member is not None:
+                raise Refused(call.why or "You have joined this call already.", 410)
             for _ in range(3):
                 rows = self.desk.rows()
-                if call.room not in rows.rooms and not self.settings["open_rooms"]:
-                    raise Refused(f"There is no room {call.room}.", 404)
+                self.demand_room(call, rows)
                 member = next(one for one in itertools.count(self.settings["first_member"]) if one not in rows.members)
                 # Where no answer comes, the bridge may have taken the group: the member goes once the desk is back.
                 self.leaving.append((member, None))
@@ -169,7 +259,8 @@ class Calls:
                 self.leaving.pop()
                 if refusal is None:
                     call.member, call.alive = member, time.monotonic()
-                    self.own_rooms |= {call.room} - rows.rooms
+                    if call.room not in rows.rooms:
+                        self.own_rooms.add(call.room, call.source)
                     self.seen = self.desk.rows()
                     log(f"{call.side} {call.name!r} has joined room {call.room} as member {member}")
                     return
@@ -178,14 +269,14 @@ class Calls:
                     break
         raise Refused(in_words(refusal))
 
-    def arrive(self, room):
-        """Waits until a room is on the bridge that the fleet has chosen. It may be another one."""
+    def arrive(self, call):
+        """Waits until a call's room is on the bridge that the fleet has chosen. It may be another one."""
         for _ in range(LOOKS):
-            if room in self.desk.rows().rooms:
+            if call.room in self.desk.rows().rooms:
                 return
-            self.fleet.demand(room)
+            self.fleet.place(call.room, call.source)
             time.sleep(0.1)
-        raise Refused(f"Room {room} is on its way to a bridge. Join again in a second.")
+        raise Refused(f"Room {call.room} is on its way to a bridge. Join again in a second.")
 
     def joining(self, call, member, address, rows):
         """The commands by which a call becomes a member, sees the others of its room, and they it."""
@@ -209,9 +300,11 @@ class Calls:
     def end(self, call, why):
         """Ends a call, and takes its member from the desk."""
         with self.lock:
-            if self.by_id.pop(call.id, None) is None:
+            if call.table.pop(call.key, None) is None:
                 return
-            self.ended = dict([*self.ended.items(), (call.id, why)][-1000:])
+            call.why = why
+            if call.side == "browser":
+                self.ended = dict([*self.ended.items(), (call.id, why)][-1000:])
             if call.member is not None:
                 log(f"{call.side} {call.name!r} has left room {call.room}: {why}")
                 self.leaving.append((call.member, call.camera))
@@ -233,6 +326,14 @@ class Calls:
                 if member in rows.members and self.desk.group(self.parting(member, camera, rows)) is not None:
                     self.desk.group([f"remove-member {member}"])
                 self.leaving.pop(0)
+
+    def end_empty_rooms(self, rows):
+        """Ends the rooms that the agent has opened, and that have had no member for some time."""
+        with self.lock:
+            for room in self.own_rooms.over(rows):
+                self.own_rooms.discard(room)
+                if self.desk.group([f"remove-room {room}"]) is None:
+                    log(f"room {room} has had no member for {EMPTY} s, and has ended")
 
     def parting(self, member, camera, rows):
         """The commands by which a member goes, and others are seen in the slots that showed it."""

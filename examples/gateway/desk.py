@@ -9,12 +9,11 @@ from refused import Refused
 GONE = "The bridge doesn't answer. Try again in a minute."
 BUSY = "The bridge is busy: all seats at its desk are taken. Ask its operators to leave one to the gateway."
 SAME_SSRC = "Another member sends under your SSRC, a number that a program draws. Join again: yours draws a new one."
-REFUSALS = {
-    "Exists": SAME_SSRC,
-    "SsrcTaken": SAME_SSRC,
-    "Full": "The bridge is full: it has {1} {0} already. Try again when somebody has left.",
-    "RateMismatch": "This room is for music at 44100 Hz. Browsers and phones can join a room for speech.",
-}
+FULL = "The bridge is full: it has {1} {0} already. Try again when somebody has left."
+MUSIC = "This room is for music at 44100 Hz. Browsers and phones can join a room for speech."
+REFUSALS = {"Exists": SAME_SSRC, "SsrcTaken": SAME_SSRC, "Full": FULL, "RateMismatch": MUSIC}
+# How many rooms a desk has at most (12 Full of docs/FORMATS.md), and the rate of a room for speech.
+ROOMS, SPEECH = 64, 8000
 
 
 def in_words(refusal):
@@ -30,7 +29,8 @@ class Rows:
     def __init__(self, lines=("end -1",)):
         rows = [line.split() for line in lines]
         self.version = int(rows[-1][1])
-        self.rooms = {int(row[1]) for row in rows if row[0] == "room"}
+        # The rate of each room: a row names it where it isn't that of speech.
+        self.rooms = {int(row[1]): int([*row, SPEECH][2]) for row in rows if row[0] == "room"}
         self.members = {int(row[2]): int(row[3]) for row in rows if row[0] == "member"}
         self.subs = {int(row[1]): int(row[2]) for row in rows if row[0] == "sub"}
         self.mutes = {int(row[1]) for row in rows if row[0] == "mute"}

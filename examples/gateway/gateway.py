@@ -27,11 +27,19 @@ from web import ForBrowsers, ForKamailio, served
 
 FOLDER = pathlib.Path(__file__).resolve().parent
 ADDRESSES = [("bridge", "udp"), ("bridge", "tcp"), ("rtpengine", "control"), ("page", "listen"), ("phones", "agent")]
+# The settings that a file may leave out.
+DEFAULTS = {
+    "page": {"proxies": []},
+    "phones": {"accounts": {}, "targets": [], "proxies": []},
+    "calls": {"hold": 600, "unanswered": 8, "rooms": 8},
+}
 
 
 def read(path):
     """The settings of a file, with these addresses as pairs."""
     settings = tomllib.loads(path.read_text())
+    for table, values in DEFAULTS.items():
+        settings[table] = values | settings[table]
     for table, key in ADDRESSES:
         ip, _, port = settings[table][key].rpartition(":")
         settings[table][key] = ip, int(port)
@@ -45,7 +53,7 @@ def agent(settings, _):
     calls = Calls(settings)
     watch, page = Watch(calls), settings["page"]
     servers = [
-        served(ForBrowsers, page["listen"], calls=calls, watch=watch, sites=page["sites"]),
+        served(ForBrowsers, page["listen"], calls=calls, watch=watch, sites=page["sites"], proxies=page["proxies"]),
         served(ForKamailio, settings["phones"]["agent"], calls=calls),
     ]
     log(f"the page is {page['sites'][0]}/?room=1")
@@ -71,11 +79,17 @@ def rtpengine(settings, _):
 
 
 def kamailio(settings, path):
-    """Its command."""
-    # phones.py reads where the agent is from there.
+    """Its command. Where no phone has a password, only those of this machine may call."""
+    # phones.py reads there where the agent is, and the accounts.
     os.environ["GATEWAY_SETTINGS"] = str(path)
+    listen = settings["phones"]["listen"]
+    if not settings["phones"]["accounts"]:
+        if not listen.startswith("127."):
+            listen = f"127.0.0.1:{listen.partition('/')[0].rpartition(':')[2]}"
+        words = "gateway: there are no accounts ([phones.accounts]): Kamailio listens on"
+        print(words, listen, "alone", file=sys.stderr)
     command = ["kamailio", "-DD", "-E", "-f", str(FOLDER / "kamailio.cfg")]
-    return [*command, "-l", f"udp:{settings['phones']['listen']}", "-A", f'SCRIPT="{FOLDER / "phones.py"}"']
+    return [*command, "-l", f"udp:{listen}", "-A", f'SCRIPT="{FOLDER / "phones.py"}"']
 
 
 def main():

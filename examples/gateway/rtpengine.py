@@ -4,12 +4,23 @@ import contextlib
 import json
 import secrets
 import socket
+import typing
 
 from refused import Refused
 
 
 class UnknownCall(Refused):
     """rtpengine doesn't have the call: it has been restarted since, or has given the call up."""
+
+
+class Received(typing.NamedTuple):
+    """How many packets came, the SSRC of the last one where there is one, how many were of the call's sound, and the IP
+    address to which rtpengine sends sound: once such packets came, it is that from which they came."""
+
+    packets: int
+    ssrc: int | None
+    media: int
+    ip: str | None
 
 
 class Rtpengine:
@@ -33,11 +44,14 @@ class Rtpengine:
         raise Refused("The media server (rtpengine) doesn't answer. Try again in a minute.")
 
     def received(self, call, side):
-        """How many packets came from one side of a call, and the SSRC of the last one where there is one."""
+        """What has come from one side of a call."""
         medias = self.ask("query", call_id=call)["tags"].get(side, {}).get("medias", [])
         streams = [stream for media in medias for stream in media["streams"]]
         ssrc = next((stream["SSRC"] for stream in streams if "SSRC" in stream), None)
-        return sum(stream["stats"]["packets"] for stream in streams), ssrc
+        # The first stream of a call is that of its sound, the others have RTCP.
+        first = streams[0] if streams else {"stats": {"packets": 0}}
+        packets = sum(stream["stats"]["packets"] for stream in streams)
+        return Received(packets, ssrc, first["stats"]["packets"], first.get("endpoint", {}).get("address"))
 
 
 def checked(command, answer):

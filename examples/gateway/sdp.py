@@ -49,6 +49,14 @@ def demand(text, from_browser):
     return found
 
 
+# What a phone may say of its sound's direction, and what it is answered (RFC 3264 section 6.1).
+ANSWERS = {"sendrecv": "sendrecv", "sendonly": "recvonly", "recvonly": "sendonly", "inactive": "inactive"}
+
+
+def direction_of(section):
+    return [*(one for one in ["sendrecv", *section.attributes] if one in ANSWERS)][-1]
+
+
 def described(lines):
     return "".join(line + "\r\n" for line in lines)
 
@@ -57,12 +65,12 @@ def session(ip):
     return ["v=0", f"o=- {secrets.randbits(31)} 1 IN IP4 {ip}", "s=-", f"c=IN IP4 {ip}", "t=0 0"]
 
 
-def plain(address, protocol, attributes=(), types=(PCMU, VP8)):
+def plain(address, protocol, attributes=(), types=(PCMU, VP8), direction="sendrecv"):
     """A description of one stream that carries all types, for rtpengine. It passes on what it doesn't transcode."""
     ip, port = address
     lines = [*session(ip), f"m=audio {port} {protocol} " + " ".join(map(str, types))]
     lines += [f"a=rtpmap:{one} {NAMES[one]}" for one in types]
-    return described([*lines, "a=rtcp-mux", "a=sendrecv", *(f"a={one}" for one in attributes)])
+    return described([*lines, "a=rtcp-mux", f"a={direction}", *(f"a={one}" for one in attributes)])
 
 
 def refusing_others(answer, offer):

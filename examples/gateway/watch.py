@@ -11,6 +11,10 @@ from refused import FAILED, Refused, words_of
 from rtpengine import UnknownCall
 
 
+# The seconds within which a phone's sound has to come after its INVITE.
+UNHEARD = 10
+
+
 class Watch:
     def __init__(self, calls):
         self.calls, self.settings = calls, calls.settings
@@ -18,12 +22,12 @@ class Watch:
         self.trouble, self.answered = "", time.monotonic()
 
     def run(self):
-        """Looks at all calls each second, and more often at phones whose SSRC isn't known yet."""
+        """Looks at all calls each second, and more often at phones whose sound hasn't come yet."""
         for turn in itertools.count():
             time.sleep(0.2)
             try:
                 if turn % 5:
-                    self.look_at_new_phones()
+                    self.look_at_phones()
                     continue
                 self.look()
                 trouble = ""
@@ -36,16 +40,18 @@ class Watch:
                 log(trouble or "All is well again.")
             self.trouble = trouble
 
-    def look_at_new_phones(self):
-        """Learns the SSRCs of phones that don't say them. Where rtpengine doesn't answer, the next look says so."""
+    def look_at_phones(self):
+        """Sees whence phones send, and learns the SSRCs that they don't say. Where rtpengine doesn't answer, the next
+        look says so."""
         with contextlib.suppress(Refused):
-            for call in self.calls:
-                if call.side == "phone" and call.member is not None and call.voice is None:
+            for call in list(self.calls.phones.values()):
+                if call.waits_at is not None or call.member is not None and call.voice is None:
                     self.look_at(call)
 
     def look(self):
         """Ends the calls that the bridge, rtpengine or the caller has left."""
         rows = self.calls.rows()
+        self.calls.end_empty_rooms(rows)
         if self.calls.fleet:
             self.follow(rows)
         try:
@@ -71,23 +77,39 @@ class Watch:
         if not call.is_open:
             return
         try:
-            packets, ssrc = self.calls.engine.received(call.id, call.side)
+            came = self.calls.engine.received(call.id, call.side)
         except UnknownCall as why:
             self.calls.end(call, str(why))
             return
-        if packets != call.packets:
-            call.packets, call.alive = packets, time.monotonic()
-        silence = self.settings["phone_silence" if call.side == "phone" else "silence"]
+        if came.packets != call.packets:
+            call.packets = came.packets
+            self.is_alive(call)
+        silence = self.patience(call)
         if time.monotonic() - call.alive > silence:
             self.calls.end(call, f"Nothing has come from your {call.side} for {silence} s. Press Join to come back.")
-        elif call.side == "phone" and ssrc not in (None, call.voice):
-            self.learn(call, ssrc)
+        elif call.waits_at is not None:
+            self.calls.heard(call, came)
+        elif call.side == "phone" and call.member is not None and came.ssrc not in (None, call.voice):
+            self.learn(call, came.ssrc)
+
+    def is_alive(self, call):
+        """A sign of life of who calls. Nothing but a join prolongs a call before it."""
+        if call.member is not None:
+            call.alive = time.monotonic()
+
+    def patience(self, call):
+        """For how many seconds nothing may come."""
+        if call.side == "browser":
+            return self.settings["silence"]
+        if call.member is None:
+            return UNHEARD
+        return self.settings["hold" if call.is_held else "phone_silence"]
 
     def learn(self, call, ssrc):
         """Gives the desk the SSRC under which a phone sends, and a new one where the phone changes it."""
         with self.calls.lock:
             rows = self.calls.desk.rows()
-            if call.id not in self.calls.by_id or call.member not in rows.members:
+            if call.why or call.member not in rows.members:
                 return
             group = [] if call.voice is None else [f"remove-source {call.voice}"]
             group.append(f"add-source {ssrc} {call.member} audio")
@@ -101,11 +123,15 @@ class Watch:
                 log(f"phone {call.name!r} isn't heard: {in_words(refusal)}")
 
     def state(self, call):
-        """What a page shows: whose voices and pictures come, and what operators did to its own."""
-        call.alive, rows = time.monotonic(), self.calls.seen
+        """What a page shows: whose voices and pictures come, and what operators did to its own. Of the callers it names
+        those of its room, and none before it is there."""
+        self.is_alive(call)
+        rows = self.calls.seen
+        room = rows.members.get(call.member)
+        others = [] if room is None else self.calls.in_room(room, rows)
         return {
-            "names": {ssrc: one.name for one in self.calls for ssrc in (one.voice, one.camera) if ssrc is not None},
-            "room": rows.members.get(call.member),
+            "names": {ssrc: one.name for one in others for ssrc in (one.voice, one.camera) if ssrc is not None},
+            "room": room,
             "muted": [ssrc for ssrc in (call.voice, call.camera) if ssrc in rows.mutes],
             "trouble": self.trouble,
         }

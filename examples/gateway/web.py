@@ -4,10 +4,11 @@ import http.server
 import json
 import pathlib
 import re
-import threading
 import traceback
+import urllib.parse
 
 from body import ROOM, fields_of, text
+from bounded import SECONDS, Bounded
 from refused import FAILED, Refused
 
 FOLDER = pathlib.Path(__file__).parent
@@ -23,21 +24,22 @@ ID, NAME, SDP = text(200), text(200), text(50_000)
 
 
 class Handler(http.server.BaseHTTPRequestHandler):
-    """`served` gives it the calls, the watch, and `sites`, the origins that may ask.
+    """`served` gives it the calls, the watch, and `sites`, the origins that may ask, by whose names it may be asked.
 
     Its REQUESTS are by path: the fields that a body must have, and those that it may have.
     """
 
     protocol_version = "HTTP/1.1"
     server_version, sys_version = "confbridge", ""
-    timeout = 30
+    timeout = SECONDS
 
     def do_POST(self):
         size = self.headers.get("Content-Length", "")
         fits = re.fullmatch("[0-9]{1,6}", size) and int(size) <= MOST_OCTETS
         octets = self.rfile.read(int(size)) if fits else None
         try:
-            told = 200, "application/json", json.dumps(self.answered(octets))
+            with self.server.at_work(self.request):
+                told = 200, "application/json", json.dumps(self.answered(octets))
         except Refused as why:
             told = why.status, "text/plain", str(why)
         except Exception:
@@ -58,6 +60,12 @@ class Handler(http.server.BaseHTTPRequestHandler):
             raise Refused(f"There is no request /{path[:40]}.", 404)
         return self.carried_out(path, fields_of(octets, *self.REQUESTS[path]))
 
+    def is_by_its_name(self):
+        """Whether it is asked by a name of its own: that of a site, or its own address. A web site may give a name of
+        its own this address, and would read what is answered."""
+        names = [urllib.parse.urlsplit(site).netloc for site in self.sites if site]
+        return self.headers.get("Host") in [*names, "{}:{}".format(*self.server.server_address)]
+
     def reply(self, status, kind, text):
         self.send_response(status)
         self.send_header("Content-Type", f"{kind}; charset=utf-8")
@@ -72,6 +80,8 @@ class Handler(http.server.BaseHTTPRequestHandler):
 
 
 class ForBrowsers(Handler):
+    # Web servers before this one, whose word counts on who asks.
+    proxies = ()
     REQUESTS = {
         "offer": [{"room": ROOM, "name": NAME}],
         "answer": [{"id": ID, "sdp": SDP}],
@@ -81,15 +91,17 @@ class ForBrowsers(Handler):
 
     def do_GET(self):
         file, kind = FILES.get(self.path.partition("?")[0], (None, None))
-        if file:
+        if not self.is_by_its_name():
+            self.reply(403, "text/plain", f"This page has another name. Open {self.sites[0]}/ itself.")
+        elif file:
             self.reply(200, kind, (FOLDER / file).read_text())
         else:
             self.reply(404, "text/plain", "There is no such page.")
 
     def carried_out(self, path, words):
         if path == "offer":
-            return self.calls.offer(room_of(words), words["name"])
-        call = self.calls.by_id.get(words["id"])
+            return self.calls.offer(room_of(words), words["name"], self.source())
+        call = self.calls.pages.get(words["id"])
         if call is None:
             why = self.calls.ended.get(words["id"], "The gateway has been restarted. Press Join to come back.")
             raise Refused(why, 410)
@@ -97,19 +109,32 @@ class ForBrowsers(Handler):
             return self.calls.answer(call, words["sdp"])
         return self.watch.state(call) if path == "state" else self.calls.end(call, "It pressed Leave.")
 
+    def source(self):
+        """The address of who asks."""
+        ip = self.client_address[0]
+        # A web server appends the address from which it was asked.
+        told = self.headers.get_all("X-Forwarded-For", [])[-1:] if ip in self.proxies else []
+        return told[0].rpartition(",")[2].strip() if told else ip
+
+
+# What a dialog is (RFC 3261 section 12): its Call-ID, the phone's tag and the gateway's.
+DIALOG = {"call": ID, "from": ID, "to": ID}
+
 
 class ForKamailio(Handler):
     # Kamailio has no origin, and each page of a browser has one.
     sites = [None]
-    REQUESTS = {"phone": [{"id": ID, "room": ROOM, "name": NAME, "sdp": SDP}], "hang-up": [{"id": ID}]}
+    REQUESTS = {
+        "phone": [DIALOG | {"room": ROOM, "name": NAME, "source": NAME, "sdp": SDP}, {"account": NAME}],
+        "again": [DIALOG | {"source": NAME, "sdp": SDP}, {"account": NAME}],
+        "hang-up": [DIALOG],
+    }
 
     def carried_out(self, path, words):
-        # A browser's id is a secret that the agent drew. A phone's can't be one.
-        id = f"phone {words['id']}"
         if path == "phone":
-            return self.calls.phone(id, room_of(words), words["name"], words["sdp"])
-        call = self.calls.by_id.get(id)
-        return call and self.calls.end(call, "It has hung up.")
+            return self.calls.phone(room_of(words), words)
+        call = self.calls.of_phone(words)
+        return self.calls.offers_again(call, words) if path == "again" else self.calls.end(call, "It has hung up.")
 
 
 def room_of(words):
@@ -120,6 +145,6 @@ def room_of(words):
 
 def served(handler, address, **parts):
     """A server that runs."""
-    server = http.server.ThreadingHTTPServer(address, type(handler.__name__, (handler,), parts))
-    threading.Thread(target=server.serve_forever, daemon=True).start()
+    server = Bounded(address, type(handler.__name__, (handler,), parts))
+    server.serve()
     return server

@@ -3,6 +3,7 @@
 It starts a bridge, rtpengine, Kamailio and the agent. Then come its parts, each of which `--only` runs by itself:
 
     refusals   what can't be had: it is told in words, and leaves nothing behind
+    strangers  what strangers do by SIP and HTTP, and gain nothing by
     music      a room for music, which browsers and phones can't join
     gone       a bridge and rtpengine that are gone; then, in a call, they are started anew, and a browser is killed
     phones     two baresips in the room: one is muted, and one hangs up
@@ -42,8 +43,16 @@ PARTS = {
         "",
         [],
     ),
+    "strangers": (
+        [
+            *("try_passwords", "try_without_accounts", "try_requests", "try_dialogs", "try_targets", "try_rooms"),
+            *("try_names", "try_http"),
+        ],
+        "",
+        [],
+    ),
     "music": (["try_music"], "", []),
-    "phones": (["try_bad_phones"], "ADE", ["step_phones"]),
+    "phones": (["try_bad_phones", "try_holds"], "ADE", ["step_phones"]),
     "browsers": (
         [],
         "ABC",
@@ -77,7 +86,7 @@ def callers_of(part, args):
 
 def lacks(part, args):
     """What a part lacks here, in words."""
-    if part in ("phones", "linphone") and kamailio_lacks():
+    if part in ("phones", "linphone", "strangers") and kamailio_lacks():
         return f"there is no {kamailio_lacks()}"
     if part == "phones":
         return lacking("baresip")

@@ -8,8 +8,9 @@ import time
 from lib.gateway_call.callers import RATE, PhoneCaller
 from lib.gateway_call.lossy import Lossy
 from lib.gateway_call.others import Others
-from lib.gateway_call.parts import Parts, until
+from lib.gateway_call.parts import ACCOUNTS, Parts, until
 from lib.gateway_call.refusals import Refusals
+from lib.gateway_call.strangers import Strangers
 from lib.gateway_call.trial import BROWSERS
 from lib.serving import free_port
 
@@ -18,7 +19,7 @@ SWITCHES = 12
 MOST_MS, LOST = 1000, 0.02
 
 
-class Call(Refusals, Others):
+class Call(Refusals, Strangers, Others):
     """The call of browsers and phones."""
 
     def gather(self, names):
@@ -39,7 +40,8 @@ class Call(Refusals, Others):
     def rings(self, name, phone):
         """A phone joins."""
         before = self.members()
-        self.callers[name] = phone(name, self.folder, free_port(socket.SOCK_DGRAM), self.parts.sip)
+        port, password = free_port(socket.SOCK_DGRAM), ACCOUNTS[name]
+        self.callers[name] = phone(name, self.folder, port, self.parts.sip, password=password)
         self.comes(lambda: self.members() > before, f"phone {name} is a member", self.rows, 20)
         self.callers[name].member = self.last_member()
 
@@ -70,6 +72,9 @@ class Call(Refusals, Others):
         self.everyone_hears("phone D is muted", silent="D")
         self.undo(number)
         self.everyone_hears("the mute is undone")
+        self.is_held("E")
+        self.callers["E"].offer_again()
+        self.goes_on("E", "has sent a further INVITE")
         before = self.members()
         self.callers.pop("E").close()
         self.comes(lambda: self.members() == before - 1, "a phone that hangs up is no member", self.rows)

@@ -2,9 +2,12 @@
 
 import contextlib
 import glob
+import json
 import math
 import os
 import pathlib
+import re
+import socket
 import struct
 import subprocess
 import time
@@ -200,19 +203,48 @@ class PhoneCaller(Phone):
 
     HEARD = "dump*dec.wav"
 
-    def __init__(self, name, folder, port, sip, ip="127.0.0.1"):
+    def __init__(self, name, folder, port, sip, ip="127.0.0.1", password=""):
         super().__init__(name, folder)
         roots = "/usr/lib", "/usr/lib/*", "/usr/local/lib"
         found = [path for root in roots for path in glob.glob(f"{root}/baresip/modules")]
         config = [f"module_path {found[0]}" if found else ""]
         config += [f"module {one}.so" for one in ("g711", "aufile", "aubridge", "sndfile")]
-        config += ["module_app account.so", "module_app menu.so", f"sip_listen {ip}:{port}"]
+        config += [f"module_app {one}.so" for one in ("account", "menu", "ctrl_tcp")]
+        config += [f"sip_listen {ip}:{port}", f"ctrl_tcp_listen 127.0.0.1:{port + 5}"]
+        self.control = port + 5
         config += [f"audio_source aufile,{self.folder}/tone.wav", "audio_player aubridge,one"]
         config += ["audio_alert aubridge,two", f"snd_path {self.folder}", f"rtp_ports {port + 10}-{port + 30}"]
         (self.folder / "config").write_text("".join(f"{line}\n" for line in config))
-        (self.folder / "accounts").write_text(f"<sip:{name}@127.0.0.1>;regint=0\n")
+        (self.folder / "accounts").write_text(f'<sip:{name}@127.0.0.1>;auth_pass="{password}";regint=0\n')
         (self.folder / "contacts").write_text("")
         self.begin(["baresip", "-f", self.folder, "-e", f"/dial sip:1@{sip}"], stdin=subprocess.DEVNULL)
+
+
+    def told(self, command):
+        """What it says to a command of its menu."""
+        words = json.dumps({"command": command})
+        with socket.create_connection(("127.0.0.1", self.control), 10) as one:
+            one.sendall(f"{len(words)}:{words},".encode())
+            said = one.recv(65536).decode()
+        if '"ok":true' not in said:
+            fail(f"baresip {self.name} doesn't do {command}: {said}")
+        return said
+
+    def gets(self):
+        """Whether sound comes. After a hold it writes none of it."""
+        count = lambda: int(re.search(r"rcvd=(\d+)", self.told("audio_debug"))[1])
+        before = count()
+        time.sleep(1)
+        return count() - before > 5
+
+    def hold(self):
+        self.told("hold")
+
+    def resume(self):
+        self.told("resume")
+
+    def offer_again(self):
+        self.told("reinvite")
 
 
 class LinphoneCaller(Phone):
@@ -220,10 +252,12 @@ class LinphoneCaller(Phone):
 
     HEARD = "heard.wav"
 
-    def __init__(self, name, folder, port, sip):
+    def __init__(self, name, folder, port, sip, password=""):
         super().__init__(name, folder)
         (self.folder / ".local/share/linphone").mkdir(parents=True)
-        settings = f"[sip]\nsip_port={port}\nsip_tcp_port=0\n[rtp]\naudio_rtp_port={port + 10}\n"
+        settings = f"[sip]\nsip_port={port}\nsip_tcp_port=0\ncontact=sip:{name}@127.0.0.1\n"
+        settings += f"[rtp]\naudio_rtp_port={port + 10}\n"
+        settings += f"[auth_info_0]\nusername={name}\npasswd={password}\nrealm=confbridge\n"
         (self.folder / "settings").write_text(settings)
         own = os.environ | {"HOME": str(self.folder)}
         self.begin(["linphonec", "-c", self.folder / "settings"], stdin=subprocess.PIPE, text=True, env=own)
@@ -233,6 +267,19 @@ class LinphoneCaller(Phone):
     def say(self, *lines):
         self.process.stdin.write("".join(f"{line}\n" for line in lines))
         self.process.stdin.flush()
+
+    def gets(self):
+        """Whether sound comes: what it writes grows."""
+        size = lambda: (self.folder / self.HEARD).stat().st_size
+        before = size()
+        time.sleep(1)
+        return size() > before
+
+    def hold(self):
+        self.say("pause")
+
+    def resume(self):
+        self.say("resume")
 
     def close(self):
         with contextlib.suppress(OSError):

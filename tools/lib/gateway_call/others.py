@@ -2,12 +2,13 @@
 
 from lib.gateway_call import natted
 from lib.gateway_call.callers import FirefoxCaller, LinphoneCaller, PhoneCaller
-from lib.gateway_call.parts import Parts
-from lib.gateway_call.trial import Trial, lacking
+from lib.gateway_call.holding import Holding
+from lib.gateway_call.parts import ACCOUNTS, Parts
+from lib.gateway_call.trial import lacking
 from lib.sip import kamailio_lacks
 
 
-class Others(Trial):
+class Others(Holding):
     """The steps of those who join later."""
 
     def step_firefox(self):
@@ -50,6 +51,7 @@ class Others(Trial):
         number = self.do(f"mute {source.split()[1]}")
         self.everyone_hears("Linphone is muted", silent="L")
         self.undo(number)
+        self.is_held("L")
         self.callers.pop("L").close()
         self.comes(lambda: self.members() == before, "Linphone hangs up, and is no member", self.rows)
 
@@ -81,7 +83,8 @@ class Others(Trial):
             before = self.members()
             (self.folder / "behind").mkdir()
             with nat.within():
-                self.callers["D"] = PhoneCaller("D", self.folder / "behind", 5070, parts.sip, natted.BEHIND)
+                own = {"ip": natted.BEHIND, "password": ACCOUNTS["D"]}
+                self.callers["D"] = PhoneCaller("D", self.folder / "behind", 5070, parts.sip, **own)
             self.comes(lambda: self.members() > before, "a phone behind a NAT is a member", self.rows, 20)
         self.everyone_hears("B and D are behind a NAT", show=True)
         self.sees(a, "B is behind a NAT")

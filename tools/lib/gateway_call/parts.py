@@ -12,6 +12,7 @@ import urllib.request
 
 from lib.serving import free_port
 from lib.shared import ROOT, fail
+from lib.gateway_call.dialogs import Dialog
 from lib.sip import asked
 from lib.waits import ended, within
 
@@ -22,6 +23,14 @@ from rtpengine import Rtpengine  # noqa: E402
 GATEWAY = ROOT / "examples/gateway/gateway.py"
 # How many seconds a part may take to answer, once it is started.
 MOST = 60
+# After how many seconds without a packet a phone has gone, where it doesn't hold the call.
+SILENCE = 10
+# A web server before the page, whose word on who asks counts, and a proxy before Kamailio.
+PROXY = "127.0.0.9"
+# Where media may go: a test's callers are on this machine, or behind a NAT of it.
+TARGETS = ["127.0.0.0/8", "10.213.7.0/24", "192.168.213.0/24"]
+# The accounts of phones: baresip's, Linphone's, and two of tests.
+ACCOUNTS = {"D": "drop anchor", "E": "ever after", "L": "long ago", "test": "tell nobody", "other": "or else"}
 
 
 def until(condition, seconds=10):
@@ -55,14 +64,24 @@ class Parts:
                 "outside": outside,
                 "ports": [low, low + 99],
             },
-            "page": {"listen": f"0.0.0.0:{self.page_port}", "sites": [self.page, self.far_page]},
-            "phones": {"listen": self.sip, "agent": f"127.0.0.1:{self.phones_port}"},
+            "page": {
+                "listen": f"0.0.0.0:{self.page_port}",
+                "sites": [self.page, self.far_page],
+                "proxies": [PROXY],
+            },
+            "phones": {
+                "listen": self.sip,
+                "agent": f"127.0.0.1:{self.phones_port}",
+                "targets": TARGETS,
+                "proxies": [PROXY],
+            },
+            "phones.accounts": ACCOUNTS,
             "calls": {
                 "pictures": 3,
                 "open_rooms": fleet is None,
                 "first_member": first_member,
                 "silence": 6,
-                "phone_silence": 30,
+                "phone_silence": SILENCE,
                 "most": 20,
             },
         }
@@ -135,6 +154,13 @@ class Parts:
         except urllib.error.HTTPError as why:
             return why.code, why.read().decode()
 
-    def invite(self, body, id, room="1"):
-        """The first line of the final answer to a phone's INVITE."""
-        return asked("INVITE", room, self.sip, id, body, 20) or "SIP/2.0 408 Kamailio doesn't answer"
+    def dialog(self, room="1", user="test", **more):
+        """A phone's call that hasn't begun."""
+        return Dialog(self.sip, str(room), user, ACCOUNTS.get(user), **more)
+
+    def invite(self, body, room="1"):
+        """The status and words of the final answer to a phone's INVITE."""
+        one = self.dialog(room)
+        answer = one.invite(body)
+        one.close()
+        return answer.status, answer.first

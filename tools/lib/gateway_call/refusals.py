@@ -28,21 +28,40 @@ def answer_of(types="0", port=9, mux=True, ssrc=777, kind="audio", dtls=True):
     return offer_of([f"m={kind} {port} UDP/TLS/RTP/SAVPF {types}", *own])
 
 
+def dialog_of(call):
+    """What a request of a phone's call has."""
+    return {"call": call, "from": "its own tag", "to": "the gateway's tag"}
+
+
+def sends(ssrc, at, one, port, octet=b"\xff"):
+    """Sends 20 ms of a sample, which is silence if none is given, from a socket to a port of rtpengine."""
+    one.sendto(rtp(at, at * 160, ssrc, octet * 160, pt=0), ("127.0.0.1", port))
+
+
+def port_in(text):
+    """The port of audio in a description."""
+    return int(re.search(r"m=audio (\d+)", text)[1])
+
+
 class RawPhone:
     """A phone without SIP: it asks the agent as Kamailio does, and sends silence under an SSRC."""
 
-    def __init__(self, parts, id, offer, ssrc):
-        status, told = parts.ask("phone", for_phones=True, id=id, room="1", name=id, sdp=offer)
+    def __init__(self, parts, name, offer, ssrc):
+        self.parts, self.dialog, self.ssrc, self.socket = parts, dialog_of(name), ssrc, udp_socket()
+        words = {"room": "1", "name": name, "source": "127.0.0.1", "sdp": offer}
+        status, told = parts.ask("phone", for_phones=True, **self.dialog, **words)
         if status != 200:
             fail(f"a phone can't join: {told}")
-        self.parts, self.id, self.ssrc, self.member, self.socket = parts, id, ssrc, told["member"], udp_socket()
-        self.port = int(re.search(r"m=audio (\d+)", told["sdp"])[1])
+        self.port = port_in(told["sdp"])
 
     def send(self, at):
-        self.socket.sendto(rtp(at, at * 160, self.ssrc, b"\xff" * 160, pt=0), ("127.0.0.1", self.port))
+        sends(self.ssrc, at, self.socket, self.port)
+
+    def offers_again(self, offer):
+        return self.parts.ask("again", for_phones=True, **self.dialog, source="127.0.0.1", sdp=offer)
 
     def hang_up(self):
-        self.parts.ask("hang-up", for_phones=True, id=self.id)
+        self.parts.ask("hang-up", for_phones=True, **self.dialog)
 
 
 class Rubbish(Answering):
@@ -72,7 +91,7 @@ class Refusals(Trial):
         """Bodies of requests that aren't what they should be, and an agent that fails by itself."""
         are_refused(self.check, self.parts.post, "offer", {"room": "1", "name": "x"}, "name")
         for_phones = lambda path, octets: self.parts.post(path, octets, for_phones=True)
-        phone = {"id": "x", "room": "1", "name": "x", "sdp": "v=0"}
+        phone = {"room": "1", "name": "x", "source": "127.0.0.1", "sdp": "v=0"} | dialog_of("x")
         are_refused(self.check, for_phones, "phone", phone, "sdp")
         voice = "v=0\nm=audio 9 RTP/AVP 0"
         for sdp in "v=0\nm=audio", f"{voice}\na=ssrc:x", f"{voice}\na=ssrc:4294967296 a":
@@ -178,35 +197,38 @@ class Refusals(Trial):
             ("a phone with PCMA alone", "488 This call's audio is PCMU", ["m=audio 5000 RTP/AVP 8"]),
             ("a phone with video before audio", "488", ["m=video 5002 RTP/AVP 96", voice]),
         ):
-            said = self.parts.invite(offer_of(media), text.replace(" ", ""))
-            self.refused(text, wanted, (int(said.split()[1]), said.partition(" ")[2]))
-        said = self.parts.invite(offer_of([voice]), "room", room="hall")
+            self.refused(text, wanted, self.parts.invite(offer_of(media)))
         self.refused(
-            "a phone that calls no number", "404 A room is a number", (int(said.split()[1]), said.partition(" ")[2])
+            "a phone that calls no number", "404 A room is a number", self.parts.invite(offer_of([voice]), "hall")
         )
-        said = self.parts.invite(offer_of([voice]), "good")
-        self.check(said.startswith("SIP/2.0 200") and self.members() == 1, "a phone without rtcp-mux joins", said)
-        self.parts.ask("hang-up", for_phones=True, id="good")
-        self.check(not self.rows() and self.parts.calls() == 0, "and hangs up", self.rows())
+        self.do("add-room 44 44100")
+        status, words = self.parts.invite(offer_of([voice]), 44)
+        self.check(status == 503 and "music" in words and self.parts.calls() == 0, "a room for music is told", words)
+        self.do("remove-room 44")
 
     def try_phones_with_one_ssrc(self):
         """Phones whose offers name no SSRC: each is learnt from the packets that come."""
         offer = offer_of(["m=audio 5000 RTP/AVP 0"])
-        phones = [RawPhone(self.parts, id, offer, 4242) for id in ("first", "second")]
+        phones = [RawPhone(self.parts, name, offer, 4242) for name in ("first", "second")]
+        self.check(not self.rows(), "a phone that has sent nothing is no member", self.rows())
         sources = lambda: [row.split()[2] for row in self.rows() if row.startswith("source 4242 ")]
-        for at in range(100):
-            for one in phones[: 1 + (at > 40)]:
+        members = []
+        for at in range(150):
+            if at == 75:
+                members.append(self.last_member())
+            for one in phones[: 1 + (at > 75)]:
                 one.send(at)
             time.sleep(0.02)
-        self.check(sources() == [str(phones[0].member)], "a phone's SSRC is learnt from its packets", self.rows())
+        members.append(self.last_member())
+        self.check(sources() == members[:1], "a phone's SSRC is learnt from its packets", self.rows())
         self.check(self.members() == 2, "a second phone under this SSRC is a member, and isn't heard", self.rows())
-        told = self.parts.ask("phone", for_phones=True, id="first", room="1", name="x", sdp=offer)
+        told = phones[0].offers_again(offer)
         self.check(told[0] == 200 and self.members() == 2, "a phone that offers again stays the member that it is")
         phones[0].hang_up()
-        for at in range(100, 250):
+        for at in range(150, 300):
             phones[1].send(at)
             time.sleep(0.02)
-        self.check(sources() == [str(phones[1].member)], "once the first one leaves, it is heard", self.rows())
+        self.check(sources() == members[1:], "once the first one leaves, it is heard", self.rows())
         phones[1].hang_up()
         self.check(not self.rows() and self.parts.calls() == 0, "both leave nothing behind", self.rows())
 
