@@ -12,6 +12,7 @@ from desk import BUSY
 from etcd import ANY
 from kept import commands_of, groups_of
 from known import DESKS, FLEET, NEW, Store
+from printable import printable
 from refused import FAILED, Refused, words_of
 
 # The seconds between two looks, and those after which a refused room is tried again. How long a bridge of another agent
@@ -20,17 +21,20 @@ from refused import FAILED, Refused, words_of
 PAUSE, AGAIN, GRACE, PATIENCE = 0.25, 5, 0.5, 5
 # How many rooms are changed at once: etcd takes 128 changes.
 AT_ONCE = 100
+# How many seconds a room stays without a member, unless an operator has added it.
+EMPTY = 10
 
 
 def log(text):
-    print(f"fleet: {text}", flush=True)
+    print(f"fleet: {printable(text)}", flush=True)
 
 
 class Agent:
-    def __init__(self, settings, bridges):
+    def __init__(self, settings, bridges, user=None):
         self.url, self.lasts = settings["agent"]["url"], settings["agent"]["lease"]
-        self.store, self.bridges = Store(settings["etcd"]["servers"]), {one.name: one for one in bridges}
+        self.store, self.bridges = Store(settings["etcd"]["servers"], user), {one.name: one for one in bridges}
         self.lease, self.renewed, self.patient, self.missing, self.troubles = None, 0.0, 0.0, {}, {}
+        self.spoiled = set()
         # `lost`: a bridge has just ended, whose rooms want another one.
         self.closed, self.lost = threading.Event(), threading.Event()
 
@@ -66,13 +70,24 @@ class Agent:
                 self.patient, self.lease = time.monotonic() + PATIENCE, self.store.lease(self.lasts)
             self.renewed = time.monotonic()
         known, changed = self.store.known(), {}
+        self.tell_of(known.spoiled)
         gone = self.gone(known)
         for room, (record, revision) in known.rooms.items():
+            is_nowhere = record["on"] is None and record["members"] == 0 and record["placed"]
+            if is_nowhere and time.time() - record["placed"] > EMPTY:
+                self.store.end_room(room, revision)
+                continue
             later = self.settled(room, record, known, gone)
             if later != record and len(changed) < AT_ONCE:
                 known.rooms[room], changed[room] = (later, revision), later
         if changed:
             self.store.put_rooms(changed, known)
+
+    def tell_of(self, spoiled):
+        """Says of keys that they hold what no agent has put there."""
+        for key in list(spoiled.keys() - self.spoiled)[:10]:
+            log(f"etcd has something strange at {FLEET}{key[:100]}: it is passed over")
+        self.spoiled = {*spoiled}
 
     def renews(self):
         """Whether etcd still has the lease. Where etcd is gone, other agents may be late as well once it is back."""
@@ -132,18 +147,28 @@ class Agent:
             for room, (record, revision) in known.rooms.items():
                 if record["on"] == bridge.name:
                     self.keep(bridge, room, record, revision)
+                    self.end_empty(bridge, room, record, revision)
             for room in list(bridge.rooms):
                 record, _ = known.rooms.get(room, (None, 0))
                 if record is None:
                     # An operator has added it. If the number is taken by now, the next look removes it.
-                    self.store.put_room(room, NEW | {"on": bridge.name}, 0)
+                    self.store.put_room(room, NEW | {"on": bridge.name}, known.revision(room))
                 elif bridge.name not in (record["on"], record["to"]):
                     log(f"room {room} leaves {bridge.name}: it is on {record['on']}")
                     bridge.remove(room)
-            if bridge.name in known.draining and not bridge.rooms and not known.rooms_of(bridge.name):
+            is_drained = bridge.name in known.draining and not bridge.rooms and not known.rooms_of(bridge.name)
+            # What etcd says of a drain stops no bridge: somebody has to ask this agent.
+            if is_drained and bridge.may_stop:
                 log(f"{bridge.name} has no room any more, and is stopped")
                 bridge.stop()
                 self.store.swap([(f"{FLEET}{kind}/{bridge.name}", None, ANY) for kind in ("draining", "bridges")])
+
+    def end_empty(self, bridge, room, record, revision):
+        """Ends a room that nobody has joined, or that nobody is in any more."""
+        is_over = bridge.seconds_empty(room) > EMPTY and record["placed"] and record["to"] is None
+        if is_over and self.store.end_room(room, revision):
+            log(f"room {room} has had no member for {EMPTY} s, and ends")
+            bridge.remove(room)
 
     def announce(self, bridge, known):
         """Says that a bridge runs."""
@@ -175,7 +200,9 @@ class Agent:
 
     def bring(self, bridge, rooms):
         """Makes rooms on a bridge by their records and revisions, and then says which of them are there."""
-        refusals, later = bridge.bring(self.store.groups(rooms)), {}
+        groups, later = self.store.groups(rooms), {}
+        refusals = dict.fromkeys(rooms, "etcd keeps lines of it that make anything but its rows")
+        refusals |= bridge.bring({room: one for room, one in groups.items() if one is not None})
         for room, (record, _) in rooms.items():
             later[room] = record | {"to": None, "ready": False}
             if refusals[room] is None:

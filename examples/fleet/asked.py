@@ -1,8 +1,12 @@
 """What signalling asks of an agent, by JSON over HTTP. Any agent answers, and passes on what is another one's.
 
-    GET  /        all bridges and rooms
-    POST /where   {"room": 12}: its bridge, which is chosen now where there is none
+    GET  /                all bridges and rooms
+    GET  /where?room=12   its bridge, or the one that it would get now. It is a question: nothing changes. `at` says by
+                          its `udp` which one is best for a room without a bridge
     POST /join    {"room": 12, "address": "10.0.0.9:6000", "voice": SSRC, "camera": SSRC, "slots": 3, "codec": "pcmu"}
+                  A room gets its bridge now. Without `address` it gets no member: a gateway adds its own, and the room
+                  goes where there is none after 10 s. `source` says for whom a room is opened (left out: the host of
+                  `address`), and `at` is as that of a question
     POST /leave   {"room": 12, "member": 12001}
     POST /move    {"room": 12, "to": "b"}
     POST /drain   {"bridge": "a", "move": true}: no new rooms, and `stop` once it has none. `move` sends them elsewhere,
@@ -20,49 +24,73 @@ from bridge import MEMBERS
 from desk import in_words
 from etcd import ANY
 from fleet_rooms import LEAST
+from fleet_secret import signed
 from known import FLEET, NEW
 from refused import Refused
-from web import Handler, room_of
+from server import Handler
 
 # How often a change is tried that others come before. How many seconds a request waits for a room that moves.
 TURNS, PATIENCE = 50, 5
-MOVING = 409
+MOVING, TOO_MANY = 409, 429
 U32 = 2**32 - 1
+# How many octets of another agent's answer are read.
+MOST_OCTETS = 100_000
+
+
+def room_of(words):
+    if not re.fullmatch("[0-9]{1,9}", str(words["room"])):
+        raise Refused("A room is a number of at most nine digits.", 404)
+    return int(words["room"])
 
 
 class Asked:
-    def __init__(self, agent):
-        self.agent, self.store = agent, agent.store
+    def __init__(self, agent, secret, most):
+        """`most`: how many rooms that one source has opened there may be."""
+        self.agent, self.store, self.secret, self.most = agent, agent.store, secret, most
 
-    def place(self, room):
+    def place(self, words):
         """What is known, once a room has a bridge or goes to one."""
+        room = room_of(words)
+        source = words.get("source", words.get("address", "").partition(":")[0])
         for _ in range(TURNS):
             known = self.store.known()
             if room in known.rooms:
                 return known
-            self.store.put_rooms({room: NEW | {"to": known.chosen()}}, known)
+            opened = sum(one["source"] == source for one, _ in known.rooms.values())
+            if source and opened >= self.most:
+                words = f"{source} has opened {opened} rooms of this fleet, as many as one may."
+                raise Refused(f"{words} Try again when one of them has ended.", TOO_MANY)
+            to = known.chosen(at=words.get("at"))
+            record = NEW | {"to": to, "source": source, "placed": int(time.time())}
+            self.store.put_rooms({room: record}, known)
         raise Refused("Too many rooms open at once. Try again in a second.")
 
-    def where(self, words):
-        room = room_of(words)
-        known = self.place(room)
-        record = known.rooms[room][0]
-        bridge = record["on"] or record["to"]
-        if bridge not in known.bridges:
-            raise Refused(record["why"] or f"Room {room} is on its way. Try again in a second.", MOVING)
-        return {"bridge": bridge, **known.bridges[bridge]}
+    def found(self, words):
+        """What is known, where a room is there."""
+        known = self.store.known()
+        if room_of(words) not in known.rooms:
+            raise Refused(f"There is no room {words['room']}.", 404)
+        return known
 
-    def at_bridge(self, path, words, work):
-        """Does a work where a room is. It waits for a room that moves."""
+    def where(self, words):
+        """The bridge of a room, and whether it has that already."""
+        room, known = room_of(words), self.store.known()
+        if room in known.rooms:
+            return bridge_of(room, known) | {"placed": True}
+        bridge = known.chosen(at=words.get("at"))
+        return {"bridge": bridge, **known.bridges[bridge], "placed": False}
+
+    def at_bridge(self, path, words, find, work):
+        """Does a work where a room is, once `find` says what is known of it. It waits for a room that moves."""
         end = time.monotonic() + PATIENCE
         while True:
             try:
-                told = self.where(words)
+                told = bridge_of(room_of(words), find(words))
                 if told["bridge"] in self.agent.bridges:
                     return work(self.agent.bridges[told["bridge"]], room_of(words), words) | {"udp": told["udp"]}
                 if "passed" in words:
                     raise Refused("Two agents don't know the same. Try again in a second.", MOVING)
-                return passed_on(f"{told['agent']}/{path}", words | {"passed": True})
+                return self.passed_on(f"{told['agent']}/{path}", words)
             except Refused as why:
                 if why.status != MOVING or "passed" in words or time.monotonic() > end:
                     raise
@@ -80,12 +108,21 @@ class Asked:
         return record, revision
 
     def join(self, words):
+        if "address" not in words:
+            return self.at_bridge("join", words, self.place, self.open_here)
         address, codec = words["address"], words.get("codec", "pcmu")
         if not re.fullmatch(r"[0-9.]+:[0-9]+", address) or codec not in ("pcmu", "l16"):
             raise Refused("A member has an address such as 10.0.0.9:6000, and the codec pcmu or l16.", 400)
         if not 0 < room_of(words) < LEAST // MEMBERS:
             raise Refused(f"A room is a number from 1 to {LEAST // MEMBERS - 1}.", 404)
-        return self.at_bridge("join", words, self.join_here)
+        return self.at_bridge("join", words, self.place, self.join_here)
+
+    def open_here(self, bridge, room, _):
+        """Opens a room, or lets one stay for as long as a newcomer takes."""
+        with bridge.lock:
+            self.stands(bridge, room)
+            bridge.empty.pop(room, None)
+        return {"bridge": bridge.name, "page": bridge.settings["page"], "sip": bridge.settings["sip"]}
 
     def join_here(self, bridge, room, words):
         with bridge.lock:
@@ -100,13 +137,13 @@ class Asked:
         return joined | {"bridge": bridge.name}
 
     def leave(self, words):
-        if room_of(words) not in self.store.known().rooms:
-            raise Refused(f"There is no room {words['room']}.", 404)
-        return self.at_bridge("leave", words, self.leave_here)
+        return self.at_bridge("leave", words, self.found, self.leave_here)
 
     def leave_here(self, bridge, room, words):
         with bridge.lock:
             record, revision = self.stands(bridge, room)
+            if words["member"] not in bridge.members(room):
+                raise Refused(f"Room {room} has no member {words['member']}.", 404)
             refusal = bridge.leave(room, words["member"])
             if refusal:
                 raise Refused(f"The bridge refuses: {refusal}", 404)
@@ -141,49 +178,67 @@ class Asked:
         raise Refused(f"Room {room} is still on its way to {to}.", MOVING)
 
     def drain(self, words):
-        if words["bridge"] not in self.store.known().bridges:
-            raise Refused(f"There is no bridge {words['bridge']}.", 404)
+        name, bridges = words["bridge"], self.store.known().bridges
+        if name not in bridges:
+            raise Refused(f"There is no bridge {name}.", 404)
+        if name not in self.agent.bridges:
+            if "passed" in words:
+                raise Refused("Two agents don't know the same. Try again in a second.", MOVING)
+            return self.passed_on(f"{bridges[name]['agent']}/drain", words)
         drain = None if words.get("off") else {"move": bool(words.get("move"))}
-        self.store.swap([(f"{FLEET}draining/{words['bridge']}", drain, ANY)])
-        return {"bridge": words["bridge"]}
+        self.store.swap([(f"{FLEET}draining/{name}", drain, ANY)])
+        # Once it has no room, the bridge is stopped, since this agent was asked for it.
+        self.agent.bridges[name].may_stop = drain is not None
+        return {"bridge": name}
+
+    def passed_on(self, url, words):
+        """What another agent answers."""
+        try:
+            request = signed(self.secret, url, json.dumps(words | {"passed": True}).encode())
+            with urllib.request.urlopen(request, timeout=10) as said:
+                return json.loads(said.read(MOST_OCTETS))
+        except urllib.error.HTTPError as why:
+            raise Refused(why.read(MOST_OCTETS).decode("ascii", "backslashreplace"), why.code) from None
+        except (OSError, ValueError):
+            raise Refused("The agent of this bridge doesn't answer.", MOVING) from None
 
 
-def passed_on(url, words):
-    """What another agent answers."""
-    try:
-        request = urllib.request.Request(url, json.dumps(words).encode(), method="POST")
-        with urllib.request.urlopen(request, timeout=10) as said:
-            return json.load(said)
-    except urllib.error.HTTPError as why:
-        raise Refused(why.read().decode(), why.code) from None
-    except (OSError, ValueError):
-        raise Refused("The agent of this room's bridge doesn't answer.", MOVING) from None
+def bridge_of(room, known):
+    """A room's bridge and what is known of that."""
+    record = known.rooms[room][0]
+    bridge = record["on"] or record["to"]
+    if bridge not in known.bridges:
+        raise Refused(record["why"] or f"Room {room} is on its way. Try again in a second.", MOVING)
+    return {"bridge": bridge, **known.bridges[bridge]}
 
 
 class ForFleet(Handler):
     """The requests of signalling and of other agents. They come from no page."""
 
-    asked, sites = None, [None]
+    asked = None
     # `passed`: another agent has passed the request on.
     REQUESTS = {
-        "where": [{"room": ROOM}],
+        "where": [{"room": ROOM}, {"at": text(200)}],
         "join": [
-            {"room": ROOM, "address": text(200)},
-            {"voice": whole(U32), "camera": whole(U32), "slots": whole(16), "codec": text(4), "passed": FLAG},
+            {"room": ROOM},
+            {
+                "address": text(200), "voice": whole(U32), "camera": whole(U32), "slots": whole(16), "codec": text(4),
+                "source": text(200), "at": text(200), "passed": FLAG,
+            },
         ],
         "leave": [{"room": ROOM, "member": whole(U32)}, {"passed": FLAG}],
         "move": [{"room": ROOM, "to": text(200)}],
-        "drain": [{"bridge": text(200)}, {"move": FLAG, "off": FLAG}],
-    }
+        "drain": [{"bridge": text(200)}, {"move": FLAG, "off": FLAG, "passed": FLAG}],
+    }  # fmt: skip
 
     def carried_out(self, path, words):
         return getattr(self.asked, path)(words)
 
-    def do_GET(self):
-        try:
-            known = self.asked.store.known()
-            told = {"bridges": known.bridges, "draining": known.draining}
-            told["rooms"] = {room: record for room, (record, _) in known.rooms.items()}
-            self.reply(200, "application/json", json.dumps(told, indent=1) + "\n")
-        except Refused as why:
-            self.reply(why.status, "text/plain", str(why))
+    def questioned(self, path, query):
+        if path == "where":
+            return self.asked.where({"room": ""} | query)
+        if path:
+            raise Refused(f"There is no question /{path[:40]}.", 404)
+        known = self.asked.store.known()
+        rooms = {room: record for room, (record, _) in known.rooms.items()}
+        return {"bridges": known.bridges, "draining": known.draining, "rooms": rooms}

@@ -4,9 +4,11 @@ import contextlib
 import itertools
 import secrets
 import threading
+import time
 
 from desk import GONE, Desk
-from kept import by_room
+from kept import ROW, by_room
+from printable import printable
 from refused import Refused
 
 # A member's number is its room's times this, and more: no two rooms of a fleet have a member of one number.
@@ -34,6 +36,8 @@ class Bridge:
         self.version, self.rooms, self.kept = 0, {}, {}
         # Members that may have joined although no answer came, with their rooms.
         self.doubtful = set()
+        # Since when rooms have no member; and whether somebody who may has asked this agent for a drain.
+        self.empty, self.may_stop = {}, False
 
     def look(self):
         """Sees the desk as it is."""
@@ -45,6 +49,9 @@ class Bridge:
                 raise
             # The connection has ended. The bridge may have been started anew.
             lines = self.desk.ask("show", ends)
+        strange = next((line for line in lines[:-1] if not ROW.fullmatch(line)), None)
+        if strange is not None:
+            raise Refused(f"Bridge {self.name} says what is no row: {printable(strange[:80])}")
         self.version, self.rooms = int(lines[-1][4:]), by_room(lines[:-1])
         for room, member in list(self.doubtful):
             self.doubtful.discard((room, member))
@@ -59,12 +66,15 @@ class Bridge:
         return [int(row[2]) for row in self.rows(room, "member")]
 
     def bring(self, rooms):
-        """Makes rooms by their groups. The refusal of each, which leaves nothing behind, or None."""
+        """Makes rooms by their groups, which make nothing else. The refusal of each, which leaves nothing behind, or
+        None."""
         for room in rooms.keys() & self.rooms.keys():
             # Half of a move that was cut.
             self.remove(room)
         # All at once: a bridge that has little of its processor would make each answer a wait.
         groups = [group for one in rooms.values() for group in one]
+        if not groups:
+            return {}
         said = iter(self.desk.ask("\n".join(groups), count=len(groups)))
         refusals = {}
         for room, one in rooms.items():
@@ -77,8 +87,15 @@ class Bridge:
 
     def remove(self, room):
         self.desk.group([f"remove-room {room}"])
-        self.rooms.pop(room, None)
-        self.kept.pop(room, None)
+        for one in self.rooms, self.kept, self.empty:
+            one.pop(room, None)
+
+    def seconds_empty(self, room):
+        """For how long a room has had no member."""
+        if room not in self.rooms or self.members(room):
+            self.empty.pop(room, None)
+            return 0
+        return time.monotonic() - self.empty.setdefault(room, time.monotonic())
 
     def join(self, room, words):
         """Makes a member by one group, which sees others and is seen where slots are free. A refusal, or the member."""

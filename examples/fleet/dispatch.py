@@ -1,27 +1,41 @@
 #!/usr/bin/env python3
 """Where a phone's call goes: to the gateway of its room's bridge, which an agent of the fleet names.
 
-Kamailio runs this. As a program it prints the list of all gateways for Kamailio's dispatcher.
+Kamailio runs this. As a program it prints the list of all gateways for Kamailio's dispatcher. FLEET_AGENT is the agent,
+and FLEET_SECRET the file of the fleet's secret.
 """
 
 import json
 import os
+import pathlib
+import re
 import sys
 import urllib.error
-import urllib.request
+import urllib.parse
 import zlib
 
+sys.path.append(str(pathlib.Path(__file__).resolve().parent.parent / "gateway"))
+
+from fleet_secret import secret_in, signed  # noqa: E402
+from printable import printable  # noqa: E402
+
 AGENT = os.environ.get("FLEET_AGENT", "http://127.0.0.1:8095")
+SIP = re.compile(r"[0-9]{1,3}(?:[.][0-9]{1,3}){3}:[0-9]{1,5}")
+# What Kamailio's modules look at: all of sanity_check's tests of a request, and how many hops one may have taken.
+TESTS, URIS, HOPS = 17895, 7, 10
+# An address of the dispatcher's list is looked for by its host and its port: it is asked by UDP.
+ANY_PROTOCOL = 2
 
 
 def ask(path, **words):
     """What the agent answers, and a status with words where it refuses."""
     try:
-        body = json.dumps(words).encode() if words else None
-        with urllib.request.urlopen(f"{AGENT}/{path}", body, timeout=5) as said:
+        query = f"{path}?{urllib.parse.urlencode(words)}" if words else path
+        request = signed(secret_in("fleet.secret"), f"{AGENT}/{query}")
+        with urllib.request.urlopen(request, timeout=5) as said:
             return json.load(said), 200, "OK"
     except urllib.error.HTTPError as why:
-        return None, why.code, why.read().decode()
+        return None, why.code, printable(why.read(1000).decode("ascii", "backslashreplace"))
     except (OSError, ValueError):
         return None, 503, "The fleet doesn't answer. Try again in a minute."
 
@@ -36,7 +50,8 @@ def listed():
     said, _, words = ask("")
     if said is None:
         sys.exit(f"dispatch: {words}")
-    return [f"{set_of(name)} sip:{one['sip']} # {name}" for name, one in sorted(said["bridges"].items()) if one["sip"]]
+    bridges = sorted(said["bridges"].items())
+    return [f"{set_of(name)} sip:{one['sip']} # {name}" for name, one in bridges if SIP.fullmatch(one["sip"])]
 
 
 def mod_init():
@@ -44,6 +59,8 @@ def mod_init():
 
 
 class Script:
+    """Requests go to the dispatcher's gateways and nowhere else, whatever they ask for."""
+
     def child_init(self, rank):
         return 0
 
@@ -57,13 +74,42 @@ class Script:
         # Kamailio has this module, and the program hasn't.
         import KSR
 
-        if KSR.pv.get("$rm") != "INVITE" or KSR.siputils.has_totag() > 0:
-            # Within a call requests go the way of its INVITE.
-            if KSR.pv.get("$rm") == "CANCEL" and KSR.tm.t_check_trans() > 0 or KSR.rr.loose_route() > 0:
-                KSR.tm.t_relay()
-            elif KSR.pv.get("$rm") != "ACK":
-                KSR.sl.send_reply(200 if KSR.pv.get("$rm") == "OPTIONS" else 404, "Kamailio of a fleet")
+        method, is_within = KSR.pv.get("$rm"), KSR.siputils.has_totag() > 0
+        is_routed = KSR.hdr.is_present("Route") > 0
+        if KSR.pike.pike_check_req() < 0 or KSR.sanity.sanity_check(TESTS, URIS) < 0:
             return 1
+        if KSR.maxfwd.process_maxfwd(HOPS) < 0:
+            KSR.sl.send_reply(483, "Too Many Hops")
+        elif is_within and is_routed:
+            self.within(KSR, method)
+        elif method == "CANCEL" and not is_routed and KSR.tm.t_check_trans() > 0:
+            # It goes where its INVITE went.
+            KSR.tm.t_relay()
+        elif method == "ACK":
+            # That of a refusal ends here.
+            KSR.tm.t_check_trans()
+        elif is_routed:
+            KSR.sl.send_reply(403, "Another Route Than This Fleet's")
+        elif method == "INVITE" and not is_within:
+            self.invite(KSR)
+        elif method == "OPTIONS":
+            KSR.sl.send_reply(200, "Kamailio of a fleet")
+        else:
+            KSR.sl.send_reply(404 if is_within else 405, "Kamailio of a fleet")
+        return 1
+
+    def within(self, KSR, method):
+        """A request within a call goes to the gateway that it names, if that is one."""
+        is_own = KSR.rr.loose_route() > 0
+        gateway = f"{KSR.pv.get('$rd')}:{KSR.pv.get('$rp')}"
+        is_known = SIP.fullmatch(gateway) and KSR.dispatcher.ds_is_from_list_uri(-1, ANY_PROTOCOL, f"sip:{gateway}") > 0
+        if is_own and is_known and not KSR.pv.get("$du"):
+            KSR.pv.sets("$du", f"sip:{gateway}")
+            KSR.tm.t_relay()
+        elif method != "ACK":
+            KSR.sl.send_reply(404, "No Call Of This Fleet")
+
+    def invite(self, KSR):
         said, status, words = ask("where", room=KSR.pv.get("$rU") or "")
         if said is None:
             KSR.sl.send_reply(status, words)
@@ -72,7 +118,6 @@ class Script:
         else:
             KSR.rr.record_route()
             KSR.tm.t_relay()
-        return 1
 
 
 if __name__ == "__main__":

@@ -6,6 +6,7 @@
 FILE is fleet.toml beside this program if it isn't given.
 """
 
+import os
 import pathlib
 import signal
 import sys
@@ -19,10 +20,36 @@ sys.path.append(str(FOLDER.parent / "gateway"))
 from agent import Agent, log  # noqa: E402
 from asked import Asked, ForFleet  # noqa: E402
 from bridge import Bridge  # noqa: E402
-from web import served  # noqa: E402
+from fleet_secret import secret_in  # noqa: E402
+from known import BRIDGE  # noqa: E402
+from server import Signatures, served  # noqa: E402
 
 # What a bridge's settings may leave out: its gateway's SIP address and page, and how many rooms and members it takes.
 LEFT_OUT = {"sip": "", "page": "", "rooms": 64, "members": 1024}
+# What the agent's may leave out: how many rooms one source may have opened, and further names of the agent.
+LEFT_OUT_OF_AGENT = {"rooms_of_source": 8, "hosts": []}
+
+
+def bridges_of(settings):
+    strange = next((name for name in settings if not BRIDGE.fullmatch(name)), None)
+    if strange is not None:
+        raise ValueError(f"bridge {strange!r}: a name has letters, digits, `_`, `.` and `-` alone")
+    return [Bridge(name, LEFT_OUT | one) for name, one in settings.items()]
+
+
+def user_of(etcd, folder):
+    """The name and password by which etcd knows the agent, None where etcd has no users."""
+    if not etcd.get("user"):
+        return None
+    path = os.environ.get("ETCD_PASSWORD", folder / etcd["password"])
+    return etcd["user"], pathlib.Path(path).read_text().strip()
+
+
+def hosts_of(own):
+    """How a request may name the agent: as the settings do. A browser names it as the page that it shows does."""
+    address, _, port = own["listen"].rpartition(":")
+    names = {own["url"].partition("://")[2], own["listen"], *own["hosts"]}
+    return names | {f"{one}:{port}" for one in ("127.0.0.1", "localhost") if address in ("127.0.0.1", "0.0.0.0")}
 
 
 def main():
@@ -31,10 +58,12 @@ def main():
     path = pathlib.Path(sys.argv[1] if sys.argv[1:] else FOLDER / "fleet.toml")
     try:
         settings = tomllib.loads(path.read_text())
-        bridges = [Bridge(name, LEFT_OUT | one) for name, one in settings["bridges"].items()]
-        agent = Agent(settings, bridges)
-        host, _, port = settings["agent"]["listen"].rpartition(":")
-        server = served(ForFleet, (host, int(port)), asked=Asked(agent))
+        own, etcd = LEFT_OUT_OF_AGENT | settings["agent"], settings["etcd"]
+        secret = secret_in(path.parent / own["secret"])
+        agent = Agent(settings, bridges_of(settings["bridges"]), user_of(etcd, path.parent))
+        asked, signatures = Asked(agent, secret, own["rooms_of_source"]), Signatures(secret)
+        host, _, port = own["listen"].rpartition(":")
+        server = served(ForFleet, (host, int(port)), asked=asked, signatures=signatures, hosts=hosts_of(own))
     except (OSError, KeyError, ValueError) as why:
         sys.exit(f"fleet: {path}: {why!r}")
     stopped = threading.Event()

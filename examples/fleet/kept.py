@@ -1,4 +1,9 @@
-"""The rows of a desk as groups that make them again: `tools/bridge keep` prints them, and a fleet keeps a room's."""
+"""The rows of a desk as groups that make them again: `tools/bridge keep` prints them, and a fleet keeps a room's.
+
+What `tools/bridge restore` reads of a file, and an agent of etcd, is checked before a bridge gets a line of it.
+"""
+
+import re
 
 # A group has at most so many commands, and its line so many octets.
 MOST_COMMANDS, MOST_OCTETS = 64, 4096
@@ -15,12 +20,70 @@ MAKING = {
 THROUGH = {
     "source": ("member", 2), "slot": ("member", 2), "sub": ("slot", 1), "mute": ("source", 1), "gain": ("member", 1),
 }  # fmt: skip
+# The words behind a making command; and those of a row before them, behind its kind.
+NUMBER, SEQ, ADDRESS = "(?:0|[1-9][0-9]{0,9})", "(?:0|[1-9][0-9]{0,4})", r"(?:[0-9]{1,3}[.]){3}[0-9]{1,3}:[0-9]{1,5}"
+WORDS = {
+    "add-room": f"{NUMBER}(?: {NUMBER})?",
+    "add-member": f"{NUMBER} {NUMBER} {ADDRESS} (?:pcmu|l16) {NUMBER} {SEQ} {NUMBER}",
+    "add-source": f"{NUMBER} {NUMBER} (?:audio|video)",
+    "add-slot": f"{NUMBER} {NUMBER} {NUMBER} {SEQ} {NUMBER}",
+    "subscribe": f"{NUMBER} {NUMBER}",
+    "mute": NUMBER,
+    "set-gain": f"{NUMBER} {NUMBER} {NUMBER}",
+    "pin": f"{NUMBER} {NUMBER}",
+    "give-floor": f"{NUMBER} {NUMBER}",
+}
+MAKES = re.compile("|".join(f"{command} {words}" for command, words in WORDS.items()))
+ROW = re.compile("|".join(
+    f"{kind} {f'{NUMBER} ' * (first - 1)}{WORDS[command]}" for kind, (command, first) in MAKING.items()
+))  # fmt: skip
+
+
+class Unmade(Exception):
+    """A line that makes no rows, and so isn't given to a bridge."""
+
+
+def makings(group):
+    """The commands of a group, each as its words. Raises Unmade where a command of it does anything but make a row."""
+    if not isinstance(group, str) or len(group) > MOST_OCTETS or not group.startswith("group "):
+        raise Unmade
+    commands = group.removeprefix("group ").split(" / ")
+    if len(commands) > MOST_COMMANDS or not all(map(MAKES.fullmatch, commands)):
+        raise Unmade
+    return [command.split(" ") for command in commands]
+
+
+# What each making command makes, and what it names, as kinds of row and the places of their words.
+MADE = {"add-room": "room", "add-member": "member", "add-source": "source", "add-slot": "slot"}
+NAMED = {
+    "add-room": [("room", 1)], "add-member": [("room", 2)], "add-source": [("member", 2)], "add-slot": [("member", 2)],
+    "subscribe": [("slot", 1), ("source", 2)], "mute": [("source", 1)], "set-gain": [("member", 1), ("source", 2)],
+    "pin": [("room", 1), ("source", 2)], "give-floor": [("room", 1), ("member", 2)],
+}  # fmt: skip
+
+
+def room_made(room, groups):
+    """The groups that make a room, if they do. Raises Unmade where one touches anything but the room and its rows."""
+    if not isinstance(groups, list) or not groups:
+        raise Unmade
+    known = {("room", str(room))}
+    for command, *words in [one for group in groups for one in makings(group)]:
+        if not known.issuperset((kind, words[place - 1]) for kind, place in NAMED[command]):
+            raise Unmade
+        if command in MADE:
+            known.add((MADE[command], words[0]))
+    return groups
 
 
 def commands_of(rows):
-    """The commands that make the rows of a `show`. Its order is one in which each names only what is there."""
+    """The commands that make the rows of a `show`. Its order is one in which each names only what is there.
+
+    Raises Unmade where one is no row.
+    """
     found = []
     for row in rows:
+        if not ROW.fullmatch(row):
+            raise Unmade(row)
         words = row.split(" ")
         if words[0] in ("member", "slot"):
             words[-2] = str((int(words[-2]) + FURTHER) % 2**16)

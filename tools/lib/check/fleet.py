@@ -4,8 +4,13 @@ First a desk is kept and restored, and each thing that hinders it is told in wor
 once. A bridge is killed: its rooms have to stand on another one within 5 s, with all their members, while no other
 room changes and none stands on two. A machine is gone, with its agent: the same within 5 s. Rooms move; agents die in
 the middle of a move; etcd is gone and comes back; a bridge is full, and busy; one is drained. Bad requests are told so.
-Manifests are read by kubectl and compared with the settings, images and units that they name. Kamailio's dispatcher
-finds a room's bridge.
+Manifests are read by kubectl and compared with the settings, images and units that they name, and with a list of what
+closes pods, tasks and units. The units' programs run with what the units take from them. Kamailio's dispatcher finds a
+room's bridge.
+
+Strangers send requests without the fleet's secret, by other names, twice, and by halves; ask for rooms and never join;
+name members of other rooms; send SIP with routes of their own; and write to etcd what no agent would. Nothing of it may
+reach a bridge, a record or an address outside.
 
 What isn't installed is named, and its steps are skipped. On Debian the packages are etcd-server, kamailio and
 kamailio-python3-modules. Each check prints a line, `ok` or `FAILED`. Each wait is bounded, and a step that is late says
@@ -25,7 +30,7 @@ from lib.fleet_call.manifests import Manifests
 from lib.shared import add_program, release_program
 from lib.waits import carried_out, within
 
-NEEDS = "the program or nothing (--model), etcd, and what it names where it skips; a minute"
+NEEDS = "the program or nothing (--model), etcd, and what it names where it skips; three minutes"
 
 # How many seconds a step may take.
 STEP = 120
@@ -38,13 +43,14 @@ def options(parser):
 
 
 PARTS = [
-    (Keeping, [], ["step_round_trip", "step_refusals", "step_large"]),
+    (Keeping, [], ["step_round_trip", "step_refusals", "step_lines", "step_large"]),
     (Manifests, [], [
         "step_kubernetes", "step_pods", "step_compose", "step_podman", "step_nomad", "step_ports_of_job", "step_units",
-        "step_ports_of_units",
+        "step_ports_of_units", "step_confined",
     ]),
     (Fleet, ["etcd"], [
-        "step_opens", "step_bodies", "step_kill", "step_move", "step_cut_moves", "step_gateways", "step_etcd",
+        "step_opens", "step_bodies", "step_secret", "step_questions", "step_leave", "step_halves", "step_kill",
+        "step_etcd_lines", "step_empty", "step_move", "step_cut_moves", "step_gateways", "step_etcd",
         "step_full_and_busy", "step_machine", "step_dispatcher", "step_drain",
     ]),
 ]  # fmt: skip

@@ -1,5 +1,6 @@
 """Whether what examples/ gives to schedulers agrees with itself: images, paths, ports, volumes and settings."""
 
+import itertools
 import re
 import tomllib
 
@@ -10,11 +11,50 @@ EXAMPLES = ROOT / "examples"
 # Programs of Debian's packages, by the package that an image has to install.
 PACKAGED = {"etcd": "etcd-server", "sh": None}
 # What a scheduler fills in.
-FILLED = {"@IP@": "10.0.0.1", "@NAME@": "confbridge-0", "@FIRST@": "1000000000"}
+FILLED = {"@IP@": "10.0.0.1", "@POD@": "10.0.0.1", "@NAME@": "confbridge-0", "@FIRST@": "1000000000"}
+# What closes a pod and a container of it, by the way to a field.
+OF_POD = {
+    "automountServiceAccountToken": False, "securityContext.runAsNonRoot": True, "securityContext.runAsUser": 10001,
+    "securityContext.seccompProfile.type": "RuntimeDefault",
+}  # fmt: skip
+OF_CONTAINER = {
+    "securityContext.allowPrivilegeEscalation": False, "securityContext.readOnlyRootFilesystem": True,
+    "securityContext.capabilities.drop": ["ALL"],
+}  # fmt: skip
+# What closes a task of the Nomad job.
+OF_TASK = (
+    'user = "10001:10001"', "readonly_rootfs = true", 'cap_drop = ["all"]', 'security_opt = ["no-new-privileges"]',
+    "pids_limit =", "memory_max =",
+)  # fmt: skip
+# And a unit, beside `systemd-analyze security`, whose number is at most this one.
+OF_UNIT = (
+    "DynamicUser=yes", "NoNewPrivileges=yes", "CapabilityBoundingSet=", "SystemCallFilter=@system-service",
+    "SystemCallArchitectures=native", "RestrictNamespaces=yes", "LockPersonality=yes", "MemoryDenyWriteExecute=yes",
+    "ProtectSystem=strict", "ProtectHome=yes", "ProtectClock=yes", "ProtectHostname=yes", "ProtectKernelTunables=yes",
+    "ProtectKernelModules=yes", "ProtectKernelLogs=yes", "ProtectControlGroups=yes", "ProtectProc=invisible",
+    "PrivateDevices=yes", "PrivateUsers=yes", "UMask=0077", "LimitNOFILE=", "TasksMax=", "RestartSec=",
+    "StartLimitIntervalSec=0",
+)  # fmt: skip
+VALUED = ("LimitNOFILE=", "TasksMax=", "RestartSec=")
+MOST_EXPOSED = 2.0
+# What the heads of the manifests have to say: the ports that stay closed to others.
+CLOSED = {"kubernetes.yaml": (7000, 7080, 8090, 8091, 2223, 8095, 5060, 5004), "confbridge.nomad": (7000, 8095, 5004)}
 
 
 def port_of(address):
     return int(address.rpartition(":")[2])
+
+
+def field(value, way):
+    """The field at the end of a way such as `securityContext.runAsUser`, None where there is none."""
+    for key in way.split("."):
+        value = value.get(key) if isinstance(value, dict) else None
+    return value
+
+
+def unclosed(value, wanted):
+    """The fields that aren't as they have to be."""
+    return [f"{way}: {field(value, way)}" for way, good in wanted.items() if field(value, way) != good]
 
 
 def filled(text):
@@ -26,6 +66,7 @@ class Image:
 
     def __init__(self, path):
         text = path.read_text().replace("\\\n", " ")
+        self.last = text.splitlines()[-1]
         self.packages = re.search(r"install -y --no-install-recommends ([^&]*)", text)[1].split()
         self.copies = [line.split()[1:] for line in text.splitlines() if line.startswith("COPY ")]
 
@@ -59,6 +100,7 @@ class Agreeing:
         if not compose:
             return
         (compose,), image = compose, Image(EXAMPLES / "gateway/Containerfile")
+        self.check(image.last == "USER 10001:10001", "its image has a user that isn't root", image.last)
         services = compose["services"]
         built = {one["build"]["dockerfile"] for one in services.values()}
         self.check(built == {"examples/gateway/Containerfile"}, "each service of compose.yaml has the image", built)
@@ -102,18 +144,53 @@ class Agreeing:
             named = [each["command"][0] for each in containers]
             named += re.findall(r"/usr/local/lib/\S+\.py", str([each.get("lifecycle") for each in containers]))
             self.check(all(map(image.has, named)), f"the image has {', '.join(sorted(set(named)))}", named)
+            self.closed_pod(name, spec, containers)
+        self.check(image.last == "USER 10001:10001", "the image has a user that isn't root", image.last)
         self.check(all(one.exists() for one in image.sources()), "what the image copies is there", image.sources())
         self.ports_of_pods(maps["confbridge"]["data"], services, sets)
+        self.closed_etcd(by_kind("NetworkPolicy"), sets["confbridge-etcd"]["spec"]["template"])
+        self.closed_head("kubernetes.yaml")
+
+    def closed_pod(self, name, spec, containers):
+        """What a pod and its containers may not do, and what they may take."""
+        self.check(not unclosed(spec, OF_POD), f"the pods of {name} are closed", unclosed(spec, OF_POD))
+        for one in containers:
+            lacks = unclosed(one, OF_CONTAINER)
+            lacks += [way for way in ("resources.limits.memory", "resources.requests.cpu") if not field(one, way)]
+            lacks += ["a probe"] if one in spec["containers"] and "livenessProbe" not in one else []
+            self.check(not lacks, f"{name}, {one['name']} is closed and bounded, and is probed", lacks)
+
+    def closed_etcd(self, policies, template):
+        """Who reaches etcd, by what user."""
+        spec = policies.get("confbridge-etcd", {}).get("spec", {})
+        lets = [one.get("from") for one in spec.get("ingress", [])]
+        good = field(spec, "podSelector.matchLabels") == template["metadata"]["labels"] and all(lets) and lets
+        self.check(good and "Ingress" in spec["policyTypes"], "a NetworkPolicy says who reaches etcd", spec)
+        first = [one["command"][0].rpartition("/")[2] for one in template["spec"]["initContainers"]]
+        self.check(first == ["etcd_users.py"], "etcd has users before anybody reaches it", first)
+
+    def closed_head(self, name):
+        """What has to stay closed stands in a manifest's head."""
+        lines = (EXAMPLES / "fleet" / name).read_text().splitlines()
+        head = " ".join(itertools.takewhile(lambda line: line.startswith("#"), lines))
+        unsaid = [port for port in CLOSED[name] if str(port) not in head]
+        self.check(not unsaid, f"the head of {name} says which ports stay closed", unsaid)
 
     def ports_of_pods(self, texts, services, sets):
         serve, fleet, gateway = (tomllib.loads(filled(texts[f"{one}.toml"])) for one in ("serve", "fleet", "gateway"))
         (bridge,) = fleet["bridges"].values()
         pods = [one["spec"]["template"]["spec"] for one in sets.values()]
         containers = {one["name"]: one for pod in pods for one in pod["containers"]}
-        drains = re.findall(r"drained\.py \$IP:(\d+) \$NAME (\S+)'", str(containers))
+        drains = re.findall(r"drained\.py /secrets/fleet\.secret \$POD:(\d+) \$NAME ([0-9.:]+)", str(containers))
         page, etcd = containers["page"]["command"], port_of(fleet["etcd"]["servers"][0])
         listens = [one for one in containers["etcd"]["command"] if "listen-client" in one]
+        asked = str([containers[name]["livenessProbe"] for name in ("kamailio", "rtpengine")])
         self.agree("pods agree", {
+            "probes": (
+                {port_of(gateway["phones"]["listen"]), port_of(gateway["rtpengine"]["control"])},
+                {int(port) for port in re.findall(r":(\d+)\b", asked)},
+            ),
+            "secrets": (fleet["agent"]["secret"], gateway["fleet"]["secret"]),
             "udp": ({serve["udp"]}, {bridge["udp"], gateway["bridge"]["udp"]}),
             "tcp": ({serve["tcp"]}, {bridge["tcp"], gateway["bridge"]["tcp"], page[2], *(tcp for _, tcp in drains)}),
             "agent": ({port_of(fleet["agent"]["listen"])}, {
@@ -130,10 +207,15 @@ class Agreeing:
         """The units' arguments, and those of the settings that README has installed."""
         units = {one.name: one.read_text() for one in EXAMPLES.rglob("*.service")}
         serve = tomllib.loads((EXAMPLES / "serve.toml").read_text())
-        port = re.search(r"/dev/tcp/127\.0\.0\.1/(\d+)", units["confbridge.service"])[1]
         page = re.search(r"--bridge (\S+)", units["confbridge-page.service"])[1]
-        pairs = {"`stop`": (port_of(serve["tcp"]), int(port)), "page": (serve["tcp"], page)}
-        self.agree("units agree with serve.toml", pairs)
+        self.agree("units agree with serve.toml", {"page": (serve["tcp"], page)})
+        for name, text in units.items():
+            lines = text.splitlines()
+            lacks = [one for one in OF_UNIT if one not in lines and not (one in VALUED and f"\n{one}" in text)]
+            self.check(not lacks, f"{name} is closed and bounded, and starts again for ever", lacks)
+            serves = "confbridge serve" in text
+            good = not serves or "KillMode=mixed" in lines and not any(one.startswith("ExecStop") for one in lines)
+            self.check(good, f"{name} is told to end by SIGTERM")
         for folder in "gateway", "fleet":
             text = (EXAMPLES / folder / "README.md").read_text()
             units = [one.read_text() for one in (EXAMPLES / folder / "systemd").iterdir()]
@@ -154,3 +236,8 @@ class Agreeing:
         forms = {"udp": r"udp = .*:(\d+)", "desk": r"tcp = .*:(\d+)", "agent": r"(?:listen|url) = .*:(\d+)"}
         said = {name: {int(one) for one in re.findall(form, text)} for name, form in forms.items()}
         self.agree("the job's ports agree", {name: ({port[name]}, said[name]) for name in port})
+        for task in re.split(r"\n    task ", text)[1:]:
+            plain = re.sub(" +", " ", task)
+            lacks = [one for one in OF_TASK if one not in plain] + re.findall("raw_exec|privileged", plain)
+            self.check(not lacks, f"the job's task {task.split()[0]} is closed and bounded", lacks)
+        self.closed_head("confbridge.nomad")

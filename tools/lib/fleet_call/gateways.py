@@ -2,6 +2,7 @@
 
 import itertools
 import json
+import time
 
 from lib.fleet_call.parts import PAGES, until
 from lib.gateway_call.parts import Parts
@@ -10,6 +11,8 @@ from lib.serving import Answering
 
 # The rooms that this uses, and the SSRC of a browser that keeps it: real ones draw another one for each call.
 HERE, THERE, SSRC = 60, 61, 600_000
+# How many strangers only ask, and the first of their rooms.
+STRANGERS, NOBODY = 32, 6001
 
 
 class Engine(Answering):
@@ -75,6 +78,7 @@ class Gatewayed:
         own = self.join("a", HERE)[1]["member"]
         ids = [b.joined(HERE), c.joined(THERE, SSRC + 1)]
         self.check([one[1][0] for one in ids] == [200, 200], "browsers join at the gateways of two bridges", ids)
+        self.only_asks(b)
         words = f"Room {HERE} is on bridge b of the fleet now. Join it at {PAGES}/b/?room={HERE}"
         self.told(c.joined(HERE)[1], 421, words, "at the gateway of another bridge one is told where the room is")
         self.goes(HERE, "c", "the room of a call moves there")
@@ -95,6 +99,16 @@ class Gatewayed:
         for one in self.gateways.values():
             one.close()
 
+    def only_asks(self, gateway):
+        """Strangers ask for offers, and never join."""
+        rooms = lambda: (self.places().keys(), self.records().keys())
+        before, ids = rooms(), [gateway.offered(room) for room in range(NOBODY, NOBODY + STRANGERS)]
+        time.sleep(0.6)
+        text = f"{STRANGERS} offers, {len(ids) - ids.count(None)} of them made, which nobody answers, open no room"
+        self.check(rooms() == before, text, (before, rooms()))
+        for id in filter(None, ids):
+            gateway.ask("leave", id=id)
+
     def members(self, room):
         return sorted(int(row.split(" ")[2]) for row in self.rows(room) if row.startswith("member "))
 
@@ -111,8 +125,8 @@ class Gatewayed:
         self.check(said[0] in (410, 421) and words in str(said[1]), f"the browser is told so: `{words}`", said)
 
     def opened(self, room, name):
-        """Opens a room on a bridge."""
-        self.agents["a"].ask("where", room=room)
+        """Opens a room on a bridge. It ends before long if nobody joins."""
+        self.agents["a"].ask("join", room=room)
         self.comes(lambda: self.places().get(room), f"room {room} is opened")
         self.goes(room, name, f"it goes to {name}")
 

@@ -102,6 +102,34 @@ class Keeping:
                 said = one.stderr.read()
             self.refused((said, one.returncode), 2, "is gone", "a bridge that ends meanwhile")
 
+    def step_lines(self):
+        """Lines that make anything but rows, in a file; and a hostile program in a bridge's place."""
+        target = self.addresses()[1]
+        bad = [
+            "stop", "undo 1", "add-room 5", "group stop", "group add-room 5 / stop", "group add-room 5 / remove-room 1",
+            "group add-room 5 / undo 1", "group add-room 05", "group add-room 5 ", "group  add-room 5", "group",
+            "group add-room 4294967295999", "group add-room 5\x0bstop", "group mute 1 2",
+            "group " + " / ".join(f"add-room {room}" for room in range(65)),
+        ]  # fmt: skip
+        for line in bad:
+            said = self.restore(target, f"{line}\n# end: 1 groups of 1 commands\n")
+            self.refused(said, 3, "line 1 of", f"a file with {line[:40]!r}")
+        for text, rows in ("an escape sequence", b"room 1 8000\x1b]0;x\x07"), ("no row", b"room"), ("C1", b"\x9b2J"):
+            said, status = self.kept_of(rows + b"\nend 1\n")
+            good = status == 2 and " is no row" in said and all(" " <= one <= "~" for one in said.strip())
+            self.check(good, f"a bridge that says {text} as a row: status 2, in printable octets", (status, said))
+
+    def kept_of(self, octets):
+        """What `keep` says of a program that answers so in a bridge's place, and its status."""
+        with socket.create_server(("127.0.0.1", 0)) as one:
+            address = f"127.0.0.1:{one.getsockname()[1]}"
+            with subprocess.Popen([*TOOL, "keep", address], stdout=-1, stderr=-1, encoding="latin-1") as keeping:
+                connection, _ = one.accept()
+                connection.sendall(octets)
+                out, said = keeping.communicate()
+                connection.close()
+        return out + said, keeping.returncode
+
     def step_large(self):
         """As many members as a desk has, each with a source, in 16 rooms. The model takes its time, and has fewer."""
         count = 1024 if self.program else 160

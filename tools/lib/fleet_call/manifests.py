@@ -7,8 +7,9 @@ import shutil
 import subprocess
 import tomllib
 
-from lib.fleet_call.agreeing import Agreeing, filled
+from lib.fleet_call.agreeing import MOST_EXPOSED, Agreeing, filled
 from lib.fleet_call.parts import FLEET
+from lib.fleet_call.units import Confined
 from lib.models.lines import settings_of
 
 KUBERNETES, NOMAD = FLEET.with_name("kubernetes.yaml"), FLEET.with_name("confbridge.nomad")
@@ -25,7 +26,7 @@ def missing(wanted, found, at=""):
     return [] if str(wanted) == str(found) or wanted == {} else [at]
 
 
-class Manifests(Agreeing):
+class Manifests(Agreeing, Confined):
     """The manifests of a fleet and of a gateway."""
 
     def __init__(self, check, folder, program):
@@ -113,6 +114,11 @@ class Manifests(Agreeing):
             copy.write_text(re.sub(r"ExecStart=\S+", "ExecStart=/bin/true", path.read_text()))
             done = subprocess.run(["systemd-analyze", "verify", copy], capture_output=True, text=True, check=False)
             self.check(done.returncode == 0 and not done.stderr, f"systemd reads {path.name}", done.stderr)
+            words = ["systemd-analyze", "security", "--offline=true", copy]
+            done = subprocess.run(words, capture_output=True, text=True, check=False)
+            said = re.search(r"Overall exposure level for \S+: ([0-9.]+)", done.stdout)
+            good = said and float(said[1]) <= MOST_EXPOSED
+            self.check(good, f"{path.name} is exposed by {said and said[1]} of 10", done.stderr or done.stdout[-500:])
 
     def close(self):
         pass

@@ -3,6 +3,7 @@
 import atexit
 import contextlib
 import json
+import os
 import signal
 import socket
 import subprocess
@@ -17,22 +18,34 @@ from lib.shared import ROOT, fail
 for one in "fleet", "gateway":
     sys.path.append(str(ROOT / "examples" / one))
 
+from fleet_secret import signature, signed  # noqa: E402, F401
 from kept import by_room, commands_of, groups_of  # noqa: E402, F401
 from known import Store  # noqa: E402
+from refused import Refused  # noqa: E402
 
 FLEET, MODEL = ROOT / "examples/fleet/fleet.py", ROOT / "tools/lib/models/served.py"
 # Seats of a bridge: its agent, this test, and one more.
 SEATS = 3
-# How many rooms and members a bridge takes by its agent's settings, and the time of a lease in seconds.
-ROOMS, MEMBERS, LEASE = 20, 256, 3
+# How many rooms and members a bridge takes by its agent's settings, and the time of a lease in seconds. How many rooms
+# one source may open: this test opens each for a source of its own, but where it tries that.
+ROOMS, MEMBERS, LEASE, ROOMS_OF_SOURCE = 20, 256, 3, 4
+# The secret of the fleet, and the name and the password by which etcd knows agents.
+SECRET, USER = b"the secret of a fleet that is tried", ("fleet", "a password that nobody has drawn")
 # Where browsers are told to join the rooms of a bridge.
 PAGES = "https://call.example"
+
+
+def holds(condition):
+    """Whether something holds. What an etcd that is late refuses to tell doesn't, yet."""
+    with contextlib.suppress(Refused):
+        return condition()
+    return False
 
 
 def until(condition, seconds=20):
     """How many seconds it takes until something holds, None where it doesn't."""
     begun = time.monotonic()
-    while not condition():
+    while not holds(condition):
         if time.monotonic() - begun > seconds:
             return None
         time.sleep(0.02)
@@ -105,20 +118,25 @@ class BridgePart:
 class AgentPart:
     """An agent with one bridge."""
 
-    def __init__(self, bridge, folder, etcd, sip=""):
+    def __init__(self, bridge, folder, etcd, sip="", start=None):
         self.bridge, self.log = bridge, folder / f"agent_{bridge.name}.log"
         self.port, self.path = free_port(socket.SOCK_STREAM), folder / f"agent_{bridge.name}.toml"
-        url = f"http://127.0.0.1:{self.port}"
+        self.url = f"http://127.0.0.1:{self.port}"
         self.path.write_text(
-            f'[agent]\nlisten = "127.0.0.1:{self.port}"\nurl = "{url}"\nlease = {LEASE}\n'
-            f'[etcd]\nservers = ["{etcd.url}"]\n[bridges.{bridge.name}]\nudp = "127.0.0.1:{bridge.udp}"\n'
+            f'[agent]\nlisten = "127.0.0.1:{self.port}"\nurl = "{self.url}"\nlease = {LEASE}\n'
+            f'secret = "{secret_file(folder)}"\nrooms_of_source = {ROOMS_OF_SOURCE}\n'
+            f'[etcd]\nservers = ["{etcd.url}"]\nuser = "{USER[0]}"\npassword = "{etcd.password}"\n'
+            f'[bridges.{bridge.name}]\nudp = "127.0.0.1:{bridge.udp}"\n'
             f'tcp = "127.0.0.1:{bridge.tcp}"\nsip = "{sip}"\npage = "{PAGES}/{bridge.name}"\nrooms = {ROOMS}\n'
             f"members = {MEMBERS}\n"
         )
+        # How it is started, if not as any program.
+        self.starts = start or begun
         self.start()
 
     def start(self):
-        self.process = begun([sys.executable, "-B", FLEET, self.path], self.log)
+        python = sys.executable if self.starts == begun else "/usr/bin/python3"
+        self.process = self.starts([python, "-B", FLEET, self.path], self.log)
 
     def ask(self, path, **words):
         """The status of a request, and what it is answered."""
@@ -126,8 +144,12 @@ class AgentPart:
 
     def post(self, path, body):
         """The same of a request with this body."""
+        return self.sent(signed(SECRET, f"{self.url}/{path}", body))
+
+    def sent(self, request):
+        """The same of a request, however it is signed."""
         try:
-            with urllib.request.urlopen(f"http://127.0.0.1:{self.port}/{path}", body, timeout=30) as said:
+            with urllib.request.urlopen(request, timeout=30) as said:
                 return said.status, json.load(said)
         except urllib.error.HTTPError as why:
             return why.code, why.read().decode()
@@ -143,17 +165,36 @@ class AgentPart:
         return ended(self.process, signal.SIGTERM)
 
 
+def secret_file(folder):
+    """The file of the secret. Who has none is told of it by the environment."""
+    path = folder / "fleet.secret"
+    path.touch(0o600)
+    path.write_bytes(SECRET + b"\n")
+    os.environ["FLEET_SECRET"] = str(path)
+    return path
+
+
 class EtcdPart:
-    """etcd on this machine, with data of its own."""
+    """etcd on this machine, with data and users of its own."""
 
     def __init__(self, folder):
+        self.password = folder / "etcd.password"
+        self.password.write_text(USER[1] + "\n")
         self.folder, self.ports = folder, [free_port(socket.SOCK_STREAM) for _ in range(2)]
         self.url, peers = (f"http://127.0.0.1:{port}" for port in self.ports)
         self.command = ["etcd", f"--data-dir={folder / 'etcd'}", f"--initial-cluster=default={peers}"]
         self.command += [f"--listen-client-urls={self.url}", f"--advertise-client-urls={self.url}"]
         self.command += [f"--listen-peer-urls={peers}", f"--initial-advertise-peer-urls={peers}"]
-        self.store = Store([self.url])
+        self.store = Store([self.url], USER)
+        self.make_users()
         self.start()
+
+    def make_users(self):
+        """The users of a new etcd, by the program that the manifests have."""
+        words = [sys.executable, "-B", FLEET.with_name("etcd_users.py"), self.folder / "etcd", self.password]
+        done = subprocess.run(words, capture_output=True, text=True, timeout=60, check=False)
+        if done.returncode:
+            fail(f"etcd gets no users: {done.stderr[-500:]}")
 
     def start(self):
         self.process = begun(self.command, self.folder / "etcd.log")
