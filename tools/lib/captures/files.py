@@ -7,6 +7,7 @@ The file is read from its beginning to its end and nothing is looked for twice, 
 import dataclasses
 import gzip
 import struct
+import zlib
 
 from lib.captures.notes import BadCapture
 
@@ -16,7 +17,13 @@ SECTION, ORDER = 0x0A0D0D0A, 0x1A2B3C4D
 INTERFACE, OLD_PACKET, SIMPLE_PACKET, STATISTICS, PACKET = 1, 2, 3, 5, 6
 # No frame and no block of a capture is longer, in octets.
 MOST = 1 << 26
+# Moments of packets, in nanoseconds since 1970: up to the year 2262.
+MOMENTS = range(1 << 63)
+# A moment counts units of no less than 1 ps, and what is added to it is 200 years at most, in seconds.
+MOST_UNITS, MOST_OFFSET = 10**12, 200 * 366 * 86400
 ENDS = "the capture ends in the middle of a packet"
+# What Python calls the orders of octets.
+ENDS_OF = {"<": "little", ">": "big"}
 
 
 @dataclasses.dataclass(frozen=True)
@@ -55,7 +62,7 @@ class Reader:
         while len(octets) < size:
             try:
                 more = self.stream.read(size - len(octets))
-            except (EOFError, OSError):
+            except (EOFError, OSError, zlib.error):
                 more = b""
             if not more:
                 if octets or not may_end:
@@ -65,7 +72,15 @@ class Reader:
         return octets
 
     def frames(self):
-        """All frames, as they come."""
+        """All frames, as they come. A moment that can't be is noted, and its frame left out."""
+        for frame in self.forms():
+            if frame.moment in MOMENTS:
+                yield frame
+            else:
+                self.notes.add("a packet whose moment is before 1970 or after 2262 is left out")
+
+    def forms(self):
+        """The frames of a capture in its form."""
         magic = self.read(4, may_end=True)
         if magic is None:
             raise BadCapture("the capture is empty")
@@ -123,17 +138,36 @@ class Reader:
     def block(self, order, kind, body, interfaces):
         """The frame of a block, if it has one. An interface is put to the others."""
         if kind == INTERFACE and len(body) >= 8:
-            interfaces.append(interface_of(order, body))
+            interfaces.append(self.interface(order, body))
         elif kind == STATISTICS:
             lost = options_of(order, body[12:]).get(5)
-            if lost and int.from_bytes(lost, "little" if order == "<" else "big"):
-                count = int.from_bytes(lost, "little" if order == "<" else "big")
+            if lost is not None and len(lost) != 8:
+                self.notes.add(f"an option of {len(lost)} octets is no count of lost packets (isb_ifdrop): not read")
+            elif lost and any(lost):
+                count = int.from_bytes(lost, ENDS_OF[order])
                 self.notes.add(f"the capture itself lost {count} packets: what they held can't be known")
         elif kind in (PACKET, OLD_PACKET) and len(body) >= 20:
             return packet_of(order, kind, body, interfaces)
         elif kind == SIMPLE_PACKET and interfaces and len(body) >= 4:
             self.notes.add("a packet without its moment (a simple packet block) is left out")
         return None
+
+    def interface(self, order, body):
+        """An interface, by an interface description block. What an option can't say is noted."""
+        options, units, offset = options_of(order, body[8:]), 10**6, 0
+        resolution = options.get(9, b"\x06")
+        if len(resolution) == 1:
+            units = 2 ** (resolution[0] & 127) if resolution[0] & 128 else 10 ** resolution[0]
+        if len(resolution) != 1 or units > MOST_UNITS:
+            self.notes.add(f"an interface has the resolution {told(resolution)} (if_tsresol): microseconds are taken")
+            units = 10**6
+        added = options.get(14, bytes(8))
+        if len(added) == 8:
+            offset = int.from_bytes(added, ENDS_OF[order], signed=True)
+        if len(added) != 8 or abs(offset) > MOST_OFFSET:
+            self.notes.add(f"an interface has the offset {told(added)} (if_tsoffset): none is taken")
+            offset = 0
+        return Interface(struct.unpack(order + "H", body[:2])[0], units, offset)
 
 
 class Joined:
@@ -162,13 +196,9 @@ def options_of(order, octets):
     return found
 
 
-def interface_of(order, body):
-    """An interface, by an interface description block."""
-    options = options_of(order, body[8:])
-    resolution = options.get(9, b"\x06")[0]
-    units = 2 ** (resolution & 127) if resolution & 128 else 10**resolution
-    offset = int.from_bytes(options.get(14, b""), "little" if order == "<" else "big", signed=True)
-    return Interface(struct.unpack(order + "H", body[:2])[0], units, offset)
+def told(octets):
+    """An option in words."""
+    return octets[:16].hex() or "of no octet"
 
 
 def packet_of(order, kind, body, interfaces):

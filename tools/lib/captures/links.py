@@ -15,8 +15,9 @@ OTHERS = {
 }
 IP, VLANS = 0x0800, (0x8100, 0x88A8)
 UDP, TCP = 17, 6
-# So many packets may wait for the rest of their fragments.
-MOST_WAITING = 256
+CUT = "packets are cut short, by `-s` of tcpdump: they count by their headers"
+# So many packets may wait for the rest of their fragments, with so many octets in all. A packet has no more than that.
+MOST_WAITING, MOST_OCTETS, LONGEST = 256, 1 << 22, 65535
 
 
 def behind_vlans(octets, at):
@@ -51,8 +52,8 @@ def link_name(link):
 
 @dataclasses.dataclass(frozen=True)
 class Packet:
-    """A UDP datagram or a TCP segment: its moment, its protocol, its two addresses, its octets, and for TCP its
-    header."""
+    """A UDP datagram or a TCP segment: its moment, its protocol, its two addresses, its octets, for TCP its header, and
+    how many octets are missing at its end, since the capture was cut short."""
 
     moment: int
     protocol: int
@@ -61,6 +62,7 @@ class Packet:
     octets: bytes
     seq: int = 0
     flags: int = 0
+    missing: int = 0
 
 
 @functools.lru_cache(maxsize=65536)
@@ -92,44 +94,68 @@ class Packets:
         """The packet in an IPv4 packet, once all of its fragments are there."""
         head, size, part = (ip[0] & 15) * 4, *struct.unpack("!H2xH", ip[2:8])
         protocol = ip[9]
-        if protocol not in (UDP, TCP):
+        if protocol not in (UDP, TCP) or head < 20:
             return None
-        body = ip[head : size or None]
-        if size and len(ip) < size:
-            is_cut = frame.length > len(frame.octets)
-            self.notes.add(
-                "packets are cut short, by `-s` of tcpdump: they are left out" if is_cut else "broken IP packets",
-                frame.moment,
-            )
+        body, missing = ip[head : size or None], max(0, (size or len(ip)) - len(ip))
+        if not size and frame.length > len(frame.octets):
+            missing = frame.length - len(frame.octets)
+        if missing and frame.length <= len(frame.octets):
+            self.notes.add("broken IP packets", frame.moment)
             return None
+        if missing:
+            self.notes.add(CUT, frame.moment)
         if part & 0x3FFF:
-            body = self.joined((ip[12:20], protocol, ip[4:6]), part, body, frame.moment)
-        return packet_of(frame.moment, protocol, ip[12:16], ip[16:20], body) if body else None
+            body = self.joined((ip[12:20], protocol, ip[4:6]), part, body, frame.moment) if not missing else None
+        return packet_of(frame.moment, protocol, ip[12:20], body, missing) if body else None
 
     def joined(self, key, part, body, moment):
         """All octets of a packet whose fragments have come (RFC 791), or None."""
-        self.waiting.setdefault(key, {})[(part & 0x1FFF) * 8] = body, not part & 0x2000
-        whole, parts = b"", self.waiting[key]
-        while len(whole) in parts:
-            more, is_last = parts[len(whole)]
-            whole += more
-            if is_last:
-                del self.waiting[key]
-                return whole
-            if not more:
-                break
-        if len(self.waiting) > MOST_WAITING:
+        first, is_last = (part & 0x1FFF) * 8, not part & 0x2000
+        parts = self.waiting.setdefault(key, Fragments())
+        parts.take(first, body, is_last)
+        whole = parts.joined()
+        if whole or parts.octets > LONGEST:
+            del self.waiting[key]
+        while len(self.waiting) > MOST_WAITING or sum(one.octets for one in self.waiting.values()) > MOST_OCTETS:
             del self.waiting[next(iter(self.waiting))]
             self.notes.add("a packet lacks a fragment, and is left out", moment)
-        return None
+        return whole
 
 
-def packet_of(moment, protocol, source, target, body):
-    """The datagram or segment in the body of an IPv4 packet, if it is whole."""
+class Fragments:
+    """What has come of a packet."""
+
+    def __init__(self):
+        self.parts, self.octets, self.end = {}, 0, None
+
+    def take(self, first, body, is_last):
+        self.octets += len(body) - len(self.parts.get(first, b""))
+        self.parts[first] = body
+        if is_last:
+            self.end = first + len(body)
+
+    def joined(self):
+        """All octets, once none is missing."""
+        if self.end is None or self.octets < self.end:
+            return None
+        whole = b""
+        while len(whole) < self.end:
+            more = self.parts.get(len(whole))
+            if not more:
+                return None
+            whole += more
+        return whole
+
+
+def packet_of(moment, protocol, hosts, body, missing=0):
+    """The datagram or segment in the body of an IPv4 packet, of which octets may be missing at the end."""
     if len(body) < (8 if protocol == UDP else 20):
         return None
     ports = struct.unpack("!HH", body[:4])
-    source, target = address_text(source, ports[0]), address_text(target, ports[1])
+    source, target = address_text(hosts[:4], ports[0]), address_text(hosts[4:], ports[1])
     if protocol == UDP:
-        return Packet(moment, UDP, source, target, body[8 : int.from_bytes(body[4:6], "big") or None])
-    return Packet(moment, TCP, source, target, body[(body[12] >> 4) * 4 :], int.from_bytes(body[4:8], "big"), body[13])
+        size = int.from_bytes(body[4:6], "big")
+        octets = body[8:size]
+        return Packet(moment, UDP, source, target, octets, missing=max(0, size - 8 - len(octets)) if missing else 0)
+    octets, seq = body[(body[12] >> 4) * 4 :], int.from_bytes(body[4:8], "big")
+    return Packet(moment, TCP, source, target, octets, seq, body[13], missing)

@@ -5,6 +5,10 @@ class BadCapture(Exception):
     """Why nothing can be read of a capture."""
 
 
+# So many faults are told by name. A capture of strangers could have one for each of their addresses.
+MOST = 100
+
+
 class Notes:
     """The faults of a capture, in the order in which they came first."""
 
@@ -13,6 +17,8 @@ class Notes:
 
     def add(self, text, moment=None):
         """Notes a fault, which came at a moment in nanoseconds since 1970."""
+        if text not in self.found and len(self.found) >= MOST:
+            text = "faults of further kinds"
         count, first = self.found.get(text, (0, moment))
         self.found[text] = count + 1, first
 
@@ -24,7 +30,7 @@ class Notes:
         for text, (count, first) in self.found.items():
             times = f"{count} times, " if count > 1 else ""
             where = (
-                f" ({times}{'first ' if count > 1 else ''}at {(first - begin) / 1e9:.3f} s)"
+                f" ({times}{'first ' if count > 1 else ''}at {max(0, first - begin) / 1e9:.3f} s)"
                 if first is not None
                 else ""
             )

@@ -3,23 +3,29 @@
 A model of the bridge holds a call, whose packets are written in each form that `explain` reads: pcap of microseconds
 and of nanoseconds, pcapng, both orders of octets, each link type, in fragments, behind a VLAN's tag, packed by gzip.
 All have to be read alike, and explained without a difference. Then it writes captures that are cut, short, out of
-order, incomplete, of two bridges or of another link type. Each fault has to be named, and the rest be explained.
+order, incomplete, of two bridges or of another link type. Each fault has to be named, and the rest be explained. In
+further calls faults are planted, such as a slow clock or a muted source: each has to be told, and nothing else.
 """
 
 import gzip
 import io
+import random
 
 from lib.captures.files import frames_of
+from lib.captures.lines import ACK, SYN
 from lib.captures.links import COOKED, COOKED_2, ETHERNET, IPV4, LOOP, NULL, RAW, Packets
 from lib.captures.notes import BadCapture, Notes
 from lib.captures.writing import VLAN, pcap, pcapng, tcp_packet, udp_packets
-from lib.explain.explaining import explained, rows_in
-from lib.explain.made import BRIDGE, DESK, ONE, OPERATOR, OTHER, Made
-from lib.explain.telling import telling
+from lib.explain.explaining import explained
+from lib.explain.given import given_by
+from lib.explain.made import BEGIN, BRIDGE, DESK, GAP, ONE, OPERATOR, OTHER, Made
+from lib.explain.planted import FAULTS, FOLLOWS, SAID, Call
+from lib.explain.telling import Telling, telling
+from lib.explain.varied import variations, written, wrong
 from lib.packets import number
 from lib.shared import fail
 
-NEEDS = "nothing, some seconds"
+NEEDS = "nothing, half a minute"
 
 LINKS = [NULL, ETHERNET, RAW, COOKED, LOOP, IPV4, COOKED_2, 12]
 ALL = (0, float("inf"))
@@ -167,10 +173,129 @@ def check_middle():
         it.run is None and "the desk isn't in it" in said and f"{OTHER}" in said,
         f"without the desk it is told:\n{said}",
     )
-    rows = rows_in("\n".join(Made(1).bridge.desk.shown(8)))
-    said, found, it = told(datagrams, rows=rows)
+    given = given_by("\n".join(Made(1).bridge.desk.shown(8)))
+    said, found, it = told(datagrams, given=given)
     check(it.run and it.run.cursor.equal > 20, f"with the desk's rows it is told:\n{said}")
     print("a capture that begins in mid-call is explained from `show` on")
+
+
+# What is planted
+
+
+def found_in(octets, **named):
+    """What stands out of a capture."""
+    it = explained(io.BytesIO(octets), **named)
+    return (Telling(it, None, ALL).found() if it.run else []), it
+
+
+def check_planted():
+    """Each planted fault is told, and nothing else but what follows from it."""
+    for name, (how, fault, words) in (FAULTS | SAID).items():
+        call = Call(says=how) if name in SAID else Call(how)
+        found, _ = found_in(written(call.packets))
+        differ = wrong(found, {fault, *FOLLOWS.get(fault, ())}, {fault})
+        if not any(words in one.text for one in found):
+            differ.append(f"no sentence has: {words}")
+        check(not differ, f"a call with {name}:\n" + "\n".join(differ + [one.text for one in found]))
+    print(f"{len(FAULTS | SAID)} planted faults are told, and nothing else")
+
+
+# Connections of operators
+
+# Rows of each kind, in answers of `show`, `history` and `watch`.
+ROWS = [
+    "room 1", "member 0 10 1 127.0.0.1:6000 pcmu 9001 0 0", "member 1 11 1 127.0.0.1:6002 pcmu 9002 0 0",
+    "source 101 10 video", "source 201 10 audio", "source 202 11 audio", "slot 501 11 0 0 0", "sub 501 101", "mute 202",
+    "gain 10 202 128", "pin 1 101", "floor 1 10",
+]  # fmt: skip
+HISTORY = [
+    "1 0 add-room 1 8000", "2 0 add-member 10 1 127.0.0.1:6000 pcmu 9001 0 0", "3 1 add-source 201 10 audio",
+    "4 0 mute 201", "undone", "5 0 pin 1 201",
+]  # fmt: skip
+WATCHED = ["call 13 0 mute 201", "call 14 1 unmute 201", "call 15 0 group mute 201 / unpin 1"]
+
+
+def talk(pairs, has_syn):
+    """The packets of an operator's connection: questions, each with what the bridge says to it."""
+    packets, asked, said, moment = [], 1000, 5000, BEGIN
+    if has_syn:
+        packets = [(BEGIN, tcp_packet(OPERATOR, DESK, 999, SYN)), (BEGIN, tcp_packet(DESK, OPERATOR, 4999, SYN | ACK))]
+    for question, answer in pairs:
+        moment += 1_000_000
+        for ends, seq, text in ((OPERATOR, DESK), asked, question), ((DESK, OPERATOR), said, answer):
+            octets = "".join(f"{line}\n" for line in text).encode()
+            packets.append((moment, tcp_packet(*ends, seq, 24, octets)))
+            moment += 100_000
+        asked, said = asked + sum(len(line) + 1 for line in question), said + sum(len(line) + 1 for line in answer)
+    return packets
+
+
+def check_rows():
+    """A row in an answer is never an operator's line, also where the connection's beginning isn't there."""
+    count = 0
+    for has_syn in True, False:
+        for row in ROWS:
+            rows = [one for one in ROWS if one.split(" ")[0] != row.split(" ")[0]] + [row]
+            for pairs in (
+                [(["show"], [*rows, "end 12"])], [(["mute 202", "show"], ["ok 12", *rows, "end 12"])],
+                [(["history"], [*HISTORY, "end 6"])],
+                [(["watch"], ["end 12"]), ([], WATCHED), (["show"], [*rows, "end 15"])],
+                [([], rows[3:]), ([], ["end 12"]), (["show"], [*rows, "end 12"])],
+            ):  # fmt: skip
+                it = explained(io.BytesIO(written(talk(pairs, has_syn))))
+                told = (it.wire.tcp, {call.client for call in it.calls if call.text in ROWS} & {DESK})
+                check(told == (DESK, set()), f"of {pairs} the desk is {told[0]}, and a row is an operator's line")
+                count += 1
+    print(f"in {count} conversations no row of an answer is an operator's line")
+
+
+def check_desks():
+    """The desk of a capture in mid-call comes from `show`, also in one segment with a call, from `history`, and from
+    files."""
+    call = Call(says={20: ["mute 202"], 60: ["unmute 202"]})
+    rest = [one for one in call.packets if one[0] >= BEGIN + 30 * GAP]
+    rows, calls = call.bridge.desk.shown(9)[:-1] + ["mute 202", "end 9"], [*call.bridge.log.history(99)][:9]
+    log = call.bridge.log
+    made = [f"desk 0 {' '.join(words)}" for (_, _, words), _ in log.done]
+    kept = ["# the desk of version 9", "group " + " / ".join(" ".join(words) for (_, _, words), _ in log.done[:9])]
+    trace = ["bridge 1 bridge renew", *made[:9], f"rx {BEGIN + 59 * GAP} 1.2.3.4:5 00", *made[9:]]
+    for name, lines in ("show", rows), ("history", [*calls, "end 9"]), ("keep", kept), ("a trace", trace):
+        found, it = found_in(written(rest), given=given_by("\n".join(lines)))
+        differ = wrong(found, {("muted", 202)}, {("muted", 202)})
+        check(not differ and not it.run.lost, f"by {name}: {differ} {it.run.odd}")
+    # What is said in one segment.
+    for question, answer in (
+        (["mute 202", "show"], ["ok 9", *rows]), (["show", "mute 202"], [*rows[:-2], "end 8", "ok 9"]),
+    ):  # fmt: skip
+        said = [(BEGIN + 40 * GAP, octets) for _, octets in talk([(question, answer)], False)]
+        found, it = found_in(written(Call().packets[20:] + said))
+        is_told = ("muted", 202) in {(one.kind, one.about) for one in found}
+        check(is_told and not it.run.odd, f"{question}: {it.run.odd}")
+    # Speech comes first, and `show` at the end.
+    last = Call(says={120: ["show"]}).packets
+    found, it = found_in(written([one for one in last if one[0] >= BEGIN + 30 * GAP]))
+    told = [one.text for one in found]
+    check(not told and it.begin > BEGIN + 119 * GAP, f"where `show` comes last, it is told: {told}")
+    print("the desk comes from `show`, `history`, `keep` and a trace, and a `show` stands where its answer ends")
+
+
+# Captures that are worse
+
+
+def check_varied():
+    """A capture that is cut, out of order, of a clock that is set, or with another bridge is told as the whole one."""
+    draw, count = random.Random(1), 0
+    call = Call(says={at: ["show"] for at in range(8, 150, 20)})
+    rows = given_by("\n".join(Call(ticks=0).bridge.desk.shown(8)))
+    others = Call(bridge=("127.0.0.1:5104", "127.0.0.1:7100"), members=("127.0.0.1:6100", "127.0.0.1:6102")).packets
+    for one in variations(draw, call.packets, 3, (rows, BEGIN + GAP), others, {"udp": "5004"}):
+        found, _ = found_in(one.octets, **one.named)
+        check(not found, f"{one.how}, it is told: {[one.text for one in found]}")
+        count += 1
+    hours = [(400 * 24 * 3600 * 10**9 if n == 300 else 0) + moment for n, (moment, _) in enumerate(call.packets)]
+    found, it = found_in(pcap([(at, octets) for at, (_, octets) in zip(hours, call.packets)], units=10**9))
+    check(not found and not it.run.cursor.found, "a packet with a moment of its own changes what is told")
+    print(f"{count + 1} worse captures are told as the whole one is")
 
 
 def run(_args):
@@ -180,4 +305,8 @@ def run(_args):
     check_bad(packets)
     check_two(packets)
     check_middle()
+    check_rows()
+    check_desks()
+    check_varied()
+    check_planted()
     return 0

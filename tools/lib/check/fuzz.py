@@ -6,10 +6,11 @@ INPUT is one of
   written as lines       operators' lines, over a connection to a served bridge
   scripts     lines of scripts, besides frames, each by a `replay` of its own: some hundred a second
   settings    TOML texts, by the program of crates/x_cases_front
+  captures    captures for `explain` and `watch`, by themselves: none ends in a traceback, and none never ends
 
 Each input is a case of the repository that is changed at one to four places, or joined with another. The readers are
 plain: those of tools/lib/models, and Python's `tomllib`. The first differences are printed. The status is 0 where there
-is none.
+is none. Of captures there are as many as a minute allows, where no --count says how many.
 """
 
 import concurrent.futures
@@ -18,27 +19,31 @@ import re
 import socket
 import subprocess
 import tempfile
+import time
 
+from lib.explain.mutants import Captures, said_of
 from lib.models.codec import Dropped, read_rtcp, read_rtp
 from lib.models.lines import ALONE, fault_of_line, fault_of_script_line, settings_of
 from lib.models.told import told_of
 from lib.serving import settings, started
 from lib.shared import CRATES, add_program, fail, release_program
 
-NEEDS = "the program, of x_cases_codecs for fields and of x_cases_front for settings; 25 s a million"
+NEEDS = "the program, of x_cases_codecs for fields, of x_cases_front for settings, none for captures; 25 s a million"
 
 # The programs that answer, where it isn't the bridge's.
 PROGRAMS = {"fields": "x_cases_codecs", "settings": "x_cases_front"}
 BATCH = 20_000
 MOST_SHOWN = 20
+# How long captures are tried, in seconds.
+MOST_SECONDS = 60
 TELLING = [0, 1, 2, 3, 7, 8, 31, 32, 127, 128, 129, 192, 200, 201, 202, 203, 204, 205, 206, 207, 223, 224, 254, 255]
 PRINTED = b" /.:-0123456789abcdefghijklmnopqrstuvwxyz\t\r\x00\x7f\xc3"
 TOML = b' \t\n\r"\'=.[]{},#_+-:\\0123456789abcdefxounitrlsTZ\xc3\xa9'
 
 
 def options(parser):
-    parser.add_argument("input", choices=["datagrams", "fields", "lines", "scripts", "settings"], metavar="INPUT")
-    parser.add_argument("--count", type=int, default=1_000_000, help="how many inputs (%(default)s)")
+    parser.add_argument("input", choices=list(KINDS), metavar="INPUT")
+    parser.add_argument("--count", type=int, help="how many inputs (1000000, but of captures as a minute allows)")
     parser.add_argument("--seed", type=int, default=1)
     parser.add_argument("--jobs", type=int, default=1, help="on how many processors at once (%(default)s)")
     add_program(parser)
@@ -257,6 +262,18 @@ def texts(draw, count, program):
         yield asked, wanted, ["another" if it in differ else says for it, says in data]
 
 
+# Captures
+
+
+def captures(draw, count, _program):
+    """So many captures, or as many as there is time for."""
+    drawn, end = Captures(draw), time.monotonic() + MOST_SECONDS
+    for data in batches(count or 10**9, drawn.one, 1 if not count else 20):
+        yield [it.hex() for it in data], ["told"] * len(data), [said_of(it) for it in data]
+        if not count and time.monotonic() > end:
+            return
+
+
 # All
 
 
@@ -266,29 +283,34 @@ def batches(count, made, size=BATCH):
         yield [made() for _ in range(min(size, count - at))]
 
 
+KINDS = {
+    "datagrams": datagrams, "fields": fields, "lines": lines, "scripts": scripts, "settings": texts,
+    "captures": captures,
+}  # fmt: skip
+
+
 def tried(kind, seed, count, program):
-    """Tries so many inputs. The first differences, and how many there are."""
-    kinds = {"datagrams": datagrams, "fields": fields, "lines": lines, "scripts": scripts, "settings": texts}
-    told, differ = [], 0
-    for data, wanted, got in kinds[kind](random.Random(seed), count, program):
+    """Tries so many inputs. The first differences, how many there are, and how many inputs."""
+    told, differ, tries = [], 0, 0
+    for data, wanted, got in KINDS[kind](random.Random(seed), count, program):
         if len(got) != len(data):
             fail(f"{len(data)} inputs have {len(got)} answers")
         found = [f"{one}: wanted {says}, got {said}" for one, says, said in zip(data, wanted, got) if says != said]
-        differ += len(found)
+        differ, tries = differ + len(found), tries + len(data)
         told += found[: MOST_SHOWN - len(told)]
-    return told, differ
+    return told, differ, tries
 
 
 def run(args):
-    program = release_program(args.binary, PROGRAMS.get(args.input, "confbridge"))
-    counts = [args.count // args.jobs + (job < args.count % args.jobs) for job in range(args.jobs)]
+    is_of_tools = args.input == "captures"
+    program = None if is_of_tools else release_program(args.binary, PROGRAMS.get(args.input, "confbridge"))
+    count = args.count or (0 if is_of_tools else 1_000_000)
+    counts = [count // args.jobs + (job < count % args.jobs) for job in range(args.jobs)]
     with concurrent.futures.ProcessPoolExecutor(args.jobs) as pool:
         parts = [
             pool.submit(tried, args.input, f"{args.seed} {job}", count, program) for job, count in enumerate(counts)
         ]
         results = [part.result() for part in parts]
-    differ = sum(found for _, found in results)
-    print(
-        *[line for told, _ in results for line in told][:MOST_SHOWN], f"{args.count} inputs, {differ} differ", sep="\n"
-    )
+    differ, tries = sum(found for _, found, _ in results), sum(tries for _, _, tries in results)
+    print(*[line for told, _, _ in results for line in told][:MOST_SHOWN], f"{tries} inputs, {differ} differ", sep="\n")
     return 1 if differ else 0

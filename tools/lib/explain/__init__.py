@@ -16,8 +16,10 @@ import sys
 import textwrap
 
 from lib.captures.notes import BadCapture
-from lib.explain.explaining import explained, rows_in
+from lib.explain.explaining import explained
+from lib.explain.given import given_by
 from lib.explain.telling import telling
+from lib.printing import printable
 from lib.shared import first_difference, replay
 
 NEEDS = "nothing"
@@ -42,7 +44,11 @@ def options(parser):
         "--udp", metavar="ADDRESS", help="the bridge's `udp`, as an address or a port, where there are several"
     )
     parser.add_argument("--tcp", metavar="ADDRESS", help="the bridge's `tcp`, as an address or a port")
-    parser.add_argument("--desk", metavar="FILE", help="the lines that `show` printed when the capture began")
+    parser.add_argument(
+        "--desk",
+        metavar="FILE",
+        help="the desk when the capture began: the lines of `show` or `history`, of `tools/bridge keep`, or a trace",
+    )
     parser.add_argument("--program", metavar="PROGRAM", help="compare the models' answers with those of this program")
 
 
@@ -58,7 +64,10 @@ def opened(name):
 
 def compared(run, program):
     """Whether the program answers the script as the models do."""
-    script = [(line, list(done.said)) for line, done in zip(run.script(), run.done)]
+    if not run.is_script:
+        print("the capture has a time of which nothing is known: its script isn't compared with the program")
+        return True
+    script = [(line, [] if line.startswith("#") else list(done.said)) for line, done in zip(run.script(), run.done)]
     count = first_difference(script, replay([line for line, _ in script], program))
     if count is not None:
         print(f"the program answers the script as the models do: {count:,} lines")
@@ -92,9 +101,9 @@ def write_script(run, name):
 
 def run(args):
     try:
-        rows = rows_in(pathlib.Path(args.desk).read_text()) if args.desk else None
+        given = given_by(pathlib.Path(args.desk).read_text(errors="replace")) if args.desk else None
         with opened(args.capture) as stream:
-            it = explained(stream, args.udp, args.tcp, rows)
+            it = explained(stream, args.udp, args.tcp, given)
     except (BadCapture, OSError) as why:
         print(f"tools/bridge explain: {args.capture}: {why}", file=sys.stderr)
         return 2
@@ -105,6 +114,6 @@ def run(args):
         write_script(it.run, args.script)
         return 0
     for line in telling(it, args.capture, args.of, moments(it.wire, args.between)):
-        print(folded(line))
+        print(folded(printable(line)))
     is_same = not (args.program and it.run) or compared(it.run, args.program)
     return 0 if is_same and it.run and not it.run.cursor.found else 1

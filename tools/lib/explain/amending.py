@@ -6,7 +6,7 @@ model sends differs from the wire, a tick or a call nearby may have been taken b
 
 import dataclasses
 
-from lib.explain.events import CALL, RX, TICK, Event
+from lib.explain.events import CALL, PAUSE, RX, TICK, Event
 from lib.explain.ticks import ANSWERED
 from lib.packets import is_rtcp
 
@@ -35,20 +35,29 @@ class Search:
         at = 0
         while at < len(self.events):
             end = self.behind_tick(at)
+            if self.events[at].kind == PAUSE:
+                # Nothing behind it explains what was before.
+                self.states = []
             self.states = [*self.states[-BACK:], (at, self.run.state())]
             found = len(self.run.cursor.found)
             self.run.go(self.events[at:end])
             if (
                 len(self.run.cursor.found) > found
                 and self.vain < VAIN
+                and self.events[end - 1].kind != PAUSE
                 and self.events[end - 1].place > self.run.settled
             ):
                 end = self.mend(end, found)
             at = end
 
     def behind_tick(self, at):
-        """The place behind the next tick, or the end."""
-        return next((n + 1 for n in range(at, len(self.events)) if self.events[n].kind == TICK), len(self.events))
+        """The place behind the next tick, or before the next time without packets, or behind that, or the end."""
+        for n in range(at, len(self.events)):
+            if self.events[n].kind == PAUSE:
+                return n if n > at else n + 1
+            if self.events[n].kind == TICK:
+                return n + 1
+        return len(self.events)
 
     def mend(self, end, goal):
         """Tries other orders until no more than so many differences are left, and keeps the best. The place behind the
@@ -101,7 +110,7 @@ class Search:
             if self.events[at].kind in (TICK, CALL):
                 moves += self.moves(at, first)
         for at in range(end, len(self.events)):
-            if self.events[at].place > last.latest + BEHIND:
+            if self.events[at].place > last.latest + BEHIND or self.events[at].kind == PAUSE:
                 break
             if self.events[at].kind == CALL:
                 # A lane follows the desk of the time at which it comes to a tick.
@@ -115,7 +124,7 @@ class Search:
         for step, stop in ((-1, first - 1), (1, len(self.events))):
             for to in range(at + step, stop, step):
                 other = self.events[to]
-                if event.kind == other.kind and step < 0 or not self.may_pass(event, other):
+                if event.kind == other.kind and step < 0 or not self.may_pass(event, other) or other.kind == PAUSE:
                     break
                 if event.kind != other.kind and counts(event, other):
                     far = abs(other.place - event.place)

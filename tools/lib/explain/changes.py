@@ -3,7 +3,7 @@
 import collections
 import dataclasses
 
-from lib.explain.operators import Call
+from lib.explain.operators import Call, Shown
 from lib.models.mix import MixBridge
 
 
@@ -53,34 +53,38 @@ def marks_of(desk):
 class Desks:
     """What the desk was in the course of a run."""
 
-    def __init__(self, run):
+    def __init__(self, run, begin):
         self.changes, self.marked, self.done = [], [], {}
         # Every row that was there at some time.
-        self.members, self.sources, self.outs, self.first_at = {}, {}, {}, {}
+        self.members, self.sources, self.outs, self.first_at, self.rates = {}, {}, {}, {}, {}
         self.bridge, open_marks, before = MixBridge(), {}, {}
         for done in run.done:
             if not done.line.startswith("desk "):
                 continue
             said = self.bridge.answer(done.line)[0]
             call = done.event.what if done.event and hasattr(done.event, "kind") else None
-            moment = call.at if isinstance(call, Call) else run.wire.begin
+            # What made the desk again is no call, and stands where it was told.
+            told = done.event if isinstance(done.event, Shown) else None
+            moment = call.at if isinstance(call, Call) else told.until if told and told is not run.shown else begin
+            call = call if isinstance(call, Call) else None
             if said.startswith("ok"):
-                self.keep(moment)
+                self.keep(moment, call is not None)
                 now = shown_by(self.bridge)
                 self.compare(moment, call, before, now)
                 self.mark(moment, call, open_marks)
                 before = now
         self.marked += [Marked(what, *begun) for what, begun in open_marks.items()]
 
-    def keep(self, moment):
-        """Remembers the rows of the desk."""
+    def keep(self, moment, by_call):
+        """Remembers the rows of the desk, and when a call added a source."""
         desk = self.bridge.desk
+        self.rates |= {room["room"]: room["rate"] for room in desk.rooms}
         self.members |= {member["member"]: member for member in desk.members}
         self.sources |= {source["ssrc"]: source for source in desk.sources}
         self.outs |= {member["out_audio"]: ("mix", member["member"]) for member in desk.members}
         self.outs |= {slot["out"]: (f"slot {slot['index']}", slot["member"]) for slot in desk.slots}
         for source in desk.sources:
-            self.first_at.setdefault(source["ssrc"], moment)
+            self.first_at.setdefault(source["ssrc"], moment if by_call else None)
 
     def compare(self, moment, call, before, now):
         """Notes what a call changed."""

@@ -5,24 +5,28 @@ import dataclasses
 
 from lib.packets import is_rtcp, number, payload_of, seq_of, ssrc_of
 
+# A capture may have packets of a stream out of order by so much, in nanoseconds. What comes later is sent again.
+DISORDER = 20_000_000
 # A packet that the model sends is looked for among so many of its stream on the wire.
 AHEAD = 64
 
 
 @dataclasses.dataclass(frozen=True)
 class Sent:
-    """A media packet on the wire: its moment, its receiver, its octets, and for a mix its tick."""
+    """A media packet on the wire: its moment, its receiver, its octets, for a mix its tick, and how many octets the
+    capture kept of one that it cut."""
 
     moment: int
     to: str
     octets: bytes
     tick: int = None
+    kept: int = None
 
 
 @dataclasses.dataclass(frozen=True)
 class Difference:
-    """What differs at a moment in a stream, by its kind, and how: the event of which the packet came, and by how much
-    the wire's timestamp is ahead."""
+    """What differs at a moment in a stream, by its kind, and how: the event of which the packet came, by how much the
+    wire's timestamp is ahead, and the sources that the model has in the packet and the wire hasn't."""
 
     moment: int
     stream: int
@@ -30,6 +34,7 @@ class Difference:
     text: str
     cause: object = None
     ahead: int = 0
+    lacking: tuple = ()
 
 
 class Streams:
@@ -37,7 +42,8 @@ class Streams:
 
     def __init__(self, wire, places):
         self.firsts, self.again, self.control = collections.defaultdict(list), [], []
-        greatest = {}
+        # Whether the capture lacks octets of what comes.
+        self.is_cut, greatest = any(one.kept is not None for one in wire.into), {}
         for datagram in wire.out:
             octets = datagram.octets
             if len(octets) < 12 or is_rtcp(octets):
@@ -45,12 +51,32 @@ class Streams:
                 continue
             out, seq = ssrc_of(octets), seq_of(octets)
             ahead = (seq - greatest.get(out, seq - 1)) % 65536
+            tick = places.get((out, seq, datagram.moment))
+            sent = Sent(datagram.moment, datagram.peer, octets, tick, datagram.kept)
             if 0 < ahead < 32768:
                 greatest[out] = seq
-                tick = places.get((out, seq, datagram.moment))
-                self.firsts[out].append(Sent(datagram.moment, datagram.peer, octets, tick))
-            else:
+                self.firsts[out].append(sent)
+            elif not self.put(self.firsts[out], sent):
                 self.again.append(datagram)
+
+    @staticmethod
+    def put(packets, sent):
+        """Puts a packet that the capture has out of order to its place in a stream, if its number isn't there. Whether
+        it did."""
+        seq, at = seq_of(sent.octets), len(packets)
+        while at and 0 < (seq_of(packets[at - 1].octets) - seq) % 65536 < 32768:
+            at -= 1
+            if sent.moment - packets[at].moment > DISORDER:
+                return False
+        if at and seq_of(packets[at - 1].octets) == seq:
+            return False
+        packets.insert(at, sent)
+        return True
+
+
+def is_like(sent, octets, count):
+    """Whether a packet on the wire has these octets, as far as so many of them say it."""
+    return len(sent.octets) == len(octets) and sent.octets[:count] == octets[:count]
 
 
 def header_differences(wire, model):
@@ -97,8 +123,8 @@ class Cursor:
         packets = self.streams.firsts.get(out, ())
         return packets[self.at[out]] if self.at[out] < len(packets) else None
 
-    def note(self, moment, out, kind, text, cause=None, ahead=0):
-        self.found.append(Difference(moment, out, kind, text, cause, ahead))
+    def note(self, moment, out, kind, text, cause=None, ahead=0, lacking=()):
+        self.found.append(Difference(moment, out, kind, text, cause, ahead, tuple(lacking)))
 
     def take(self, event, out, to, octets, tick=None):
         """Compares a packet that the model sends, as an event has it do, with the wire. The kind of their difference,
@@ -110,12 +136,14 @@ class Cursor:
         if ahead is None or not due:
             return self.missing(event, out, octets, due), None
         self.at[out] += 1
-        if due.octets == octets and due.to == to:
+        count = self.comparable(due, tick)
+        if is_like(due, octets, count) and due.to == to:
             self.equal += 1
             return None, due
-        told = header_differences(due.octets, octets) or [f"sent to {due.to}, not to {to}"]
+        wire, model = due.octets[:count], octets[:count]
+        told = header_differences(wire, model) or [f"sent to {due.to}, not to {to}"]
         is_marker = told[0].startswith("marker") and len(told) == 1
-        kind = "numbers" if is_but_numbers(due.octets, octets) else "marker" if is_marker else "octets"
+        kind = "numbers" if is_but_numbers(wire, model) else "marker" if is_marker else "octets"
         self.note(
             due.moment,
             out,
@@ -123,15 +151,28 @@ class Cursor:
             f"number {seq_of(due.octets)}: {'; '.join(told)}",
             event,
             ahead_of(due.octets, octets),
+            set(sources_of(octets)) - set(sources_of(due.octets)),
         )
         return kind, due
+
+    def comparable(self, sent, tick):
+        """How many octets of a packet on the wire can be compared: its header, where the capture lacks sound that is in
+        a mix."""
+        if tick is not None and self.streams.is_cut:
+            return 12 + 4 * (sent.octets[0] & 15)
+        return sent.kept if sent.kept is not None else len(sent.octets)
 
     def places_ahead(self, out, octets, tick):
         """How many packets of the wire stand before the one that a packet of the model became, or None if it isn't
         there: that of its tick, or one with its sources and payload."""
         packets, at = self.streams.firsts.get(out, ()), self.at[out]
         for n, sent in enumerate(packets[at : at + AHEAD]):
-            if (sent.tick == tick) if tick is not None and sent.tick is not None else sent.octets[12:] == octets[12:]:
+            last = self.comparable(sent, tick)
+            if (
+                sent.tick == tick
+                if tick is not None and sent.tick is not None
+                else sent.octets[12:last] == octets[12:last]
+            ):
                 return n
         return None
 
@@ -140,7 +181,8 @@ class Cursor:
         it."""
         seq = seq_of(octets)
         if due and (seq - seq_of(due.octets)) % 65536 < AHEAD:
-            self.note(event.place, out, "unsent", f"number {seq}: the bridge didn't send what the model sends", event)
+            text = f"number {seq}: the bridge didn't send what the model sends"
+            self.note(event.place, out, "unsent", text, event, lacking=sources_of(octets))
             return "unsent"
         self.note(event.place, out, "uncaptured", f"number {seq} isn't in the capture", event)
         return "uncaptured"
@@ -164,6 +206,16 @@ class Cursor:
                 self.extra(out)
                 behind.append(out)
         return behind
+
+
+    def pass_by(self, moment, tick):
+        """Passes all packets by that were on the wire before a moment, and all mixes up to a tick."""
+        for out, packets in self.streams.firsts.items():
+            while self.at[out] < len(packets):
+                due = packets[self.at[out]]
+                if due.tick > tick if due.tick is not None else due.moment > moment:
+                    break
+                self.at[out] += 1
 
 
 def ahead_of(wire, octets):

@@ -1,6 +1,9 @@
 """A desk by the rows that `show` told: the calls that make it, and the first numbers of its streams."""
 
-from lib.models.desk import MOST_PARTS
+import re
+
+from lib.explain.operators import is_good
+from lib.models.desk import MOST_PARTS, Log
 
 # The commands that put the rows of a kind, in the order in which rows may name each other, and the first word of a row
 # that counts.
@@ -12,9 +15,10 @@ PUTTING = [
 
 
 def commands_for(rows):
-    """The commands that make a desk with these rows."""
+    """The commands that make a desk with these rows. A row that no bridge tells makes none."""
     words = [row.split(" ") for row in rows]
-    return [" ".join([command, *one[first:]]) for kind, command, first in PUTTING for one in words if one[0] == kind]
+    found = [" ".join([command, *one[first:]]) for kind, command, first in PUTTING for one in words if one[0] == kind]
+    return [command for command in found if is_good(command)]
 
 
 def with_firsts(command, firsts):
@@ -35,6 +39,16 @@ def calls_for(desk, rows, firsts):
     return ["group " + " / ".join(commands[at : at + MOST_PARTS]) for at in range(0, len(commands), MOST_PARTS)]
 
 
+def rows_of(shown):
+    """The rows of a desk that was told, also where a history told the calls that made it. None where they make none."""
+    if not shown.calls:
+        return shown.rows
+    log = Log()
+    if all(log.call(text.split(" "), seat).startswith("ok ") for seat, text in shown.calls):
+        return tuple(log.desk.shown(0)[:-1])
+    return None
+
+
 def without_firsts(rows):
     """Rows without the first numbers of streams."""
     return [" ".join(row.split(" ")[:-2]) if row.split(" ")[0] in ("member", "slot") else row for row in rows]
@@ -46,7 +60,6 @@ def streams_of(texts):
     for text in texts:
         words = text.split(" ")
         outs = [words[at + 5] for at, word in enumerate(words[:-5]) if word == "add-member"]
-        found |= {int(out) for out in outs if out.isdigit()}
-        if words[0] == "member" and len(words) == 9:
-            found.add(int(words[6]))
+        outs += words[6:7] if words[0] == "member" and len(words) == 9 else []
+        found |= {int(out) for out in outs if re.fullmatch("[0-9]{1,10}", out)}
     return found

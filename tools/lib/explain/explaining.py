@@ -2,19 +2,15 @@
 
 import dataclasses
 
-from lib.captures.notes import BadCapture
 from lib.explain.amending import Search
 from lib.explain.comparing import Streams
 from lib.explain.desks import streams_of
-from lib.explain.events import events_of, who_speaks
-from lib.explain.operators import Shown, calls_of
-from lib.explain.running import Run, ticks_late
+from lib.explain.events import events_of, pauses_of, who_speaks
+from lib.explain.operators import calls_of
+from lib.explain.running import Run, running_sources, ticks_late
 from lib.explain.ticks import GAP, grid_of
 from lib.explain.wire import wire_of
 
-# A source whose first packet comes so soon after the beginning of a capture in mid-call was heard before, in
-# nanoseconds.
-SOON = 200_000_000
 # What would be sent so shortly before the end may come behind it, in nanoseconds.
 TAIL = 40_000_000
 # By so many ticks a bridge may have been late from the beginning.
@@ -23,7 +19,8 @@ LATE, MOST_LATE = 2, 250
 
 @dataclasses.dataclass
 class Explained:
-    """A capture, the calls of its operators, and the run of the model over it, or None where the desk is unknown."""
+    """A capture, the calls of its operators, and the run of the model over it, or None where the desk is unknown. From
+    the moment `begin` on the desk is known."""
 
     wire: object
     calls: list
@@ -32,61 +29,66 @@ class Explained:
     run: object
     begin: int
 
+    def is_known(self, moment):
+        """Whether the desk was known at a moment."""
+        run = self.run
+        if not run or moment < self.begin or run.lost and moment >= run.lost:
+            return False
+        return not any(a < moment < b for a, b in run.unknown)
 
-def beginning(wire, calls, shown, rows):
+
+def beginning(wire, calls, told, given):
     """The desk with which a capture begins: None for an empty one. The moment from which on it is known, or None if it
     isn't."""
-    if rows is not None:
-        return Shown(wire.begin, wire.begin, tuple(rows[:-1]), int(rows[-1].split(" ")[1])), wire.begin
-    first = min((call.number for call in calls if call.number), default=0)
-    if first == 1:
+    if given:
+        return given, wire.begin
+    versions = [version for _, version in told.versions] + [call.number - 1 for call in calls if call.number]
+    if versions and min(versions) == 0:
         return None, wire.begin
-    if shown:
-        return shown[0], shown[0].until
+    for shown in told.shown:
+        # An earlier answer may tell that there was this version already.
+        return shown, min([shown.until, *(moment for moment, version in told.versions if version == shown.version)])
     return None, None
 
 
-def running_sources(wire, begin):
-    """The sources that seem to have been heard before a moment, as they are named by their packets."""
-    near = [
-        d
-        for d in wire.into if begin <= d.moment < begin + SOON and len(d.octets) >= 12 and not 192 <= d.octets[1] <= 223
-    ]
-    return {(d.peer, d.octets[8:12]): 1 for d in near}
+def explained(stream, udp=None, tcp=None, given=None):
+    """Explains what a stream of octets holds. `given` is a file's desk."""
+    return explain_wire(wire_of(stream, udp, tcp), given)
 
 
-def rows_in(text):
-    """The rows of a desk in a text that holds the lines of `show`."""
-    lines = [line.strip() for line in text.splitlines() if line.strip()]
-    ends = [at for at, line in enumerate(lines) if line.startswith("end ")]
-    if not ends:
-        raise BadCapture("the desk's text has no line `end VERSION`, with which the lines of `show` end")
-    return [line for line in lines[: ends[0] + 1] if not line.startswith(("ok ", "no "))]
-
-
-def explained(stream, udp=None, tcp=None, rows=None):
-    """Explains what a stream of octets holds."""
-    wire = wire_of(stream, udp, tcp)
-    calls, shown = calls_of(wire)
-    base, begin = beginning(wire, calls, shown, rows)
-    texts = [call.text for call in calls] + [row for one in shown for row in one.rows] + list(base.rows if base else ())
+def explain_wire(wire, given=None):
+    """Explains what there is of a bridge."""
+    given, later = given.at(wire.begin) if given else (None, ())
+    calls, told = calls_of(wire, later)
+    wire.pauses = pauses_of(wire)
+    for begin, end in wire.pauses:
+        long = f"{(end - begin) / 1e9:,.1f} s"
+        text = f"nothing is captured for {long}, or the clock was set: what was before is forgotten"
+        wire.notes.add(text, begin)
+    base, begin = beginning(wire, calls, told, given)
+    texts = [call.text for call in calls]
+    for one in [*told.shown, *([base] if base else [])]:
+        texts += [*one.rows, *(text for _, text in (*one.calls, *one.undone))]
     grid, places = grid_of(wire, streams_of(texts))
     streams = Streams(wire, places)
     if begin is None:
         return Explained(wire, calls, streams, grid, None, wire.begin)
     run = Run(wire, streams, who_speaks(streams.control), base)
+    run.numbers = sorted(call.number for call in calls if call.number)
     run.tail = wire.end - TAIL - grid.lateness()
     if base:
-        wire.notes.add(
-            "the capture begins in mid-call: the desk is that of a `show`, and what waited in buffers is unknown", begin
-        )
+        text = f"the capture begins in mid-call: the desk is that of {base.by}, and what waited in buffers is unknown"
+        wire.notes.add(text, begin)
+        run.settled = max(run.settled, begin + run.settled - base.until)
         run.running.update(running_sources(wire, begin))
         for packets in streams.firsts.values():
             packets[:] = [sent for sent in packets if sent.moment >= begin]
-    later = [one for one in shown if one is not base]
+    # Calls up to this version are in the desk's rows already.
+    known = begin, base.version or 0 if base else 0
+    later = [one for one in told.shown if one is not base]
     if not base:
         late = ticks_late(
-            Run(wire, streams, who_speaks(streams.control)), events_of(wire, calls, later, grid, streams.control, begin)
+            Run(wire, streams, who_speaks(streams.control)), events_of(wire, calls, later, grid, streams.control, known)
         )
         if LATE <= late <= MOST_LATE:
             grid.base -= late * GAP
@@ -95,7 +97,7 @@ def explained(stream, udp=None, tcp=None, rows=None):
                 f"the bridge was late from the beginning, by {late * GAP // 10**6} ms or more: its machine is busy",
                 begin,
             )
-    Search(run, events_of(wire, calls, later, grid, streams.control, begin)).go()
+    Search(run, events_of(wire, calls, later, grid, streams.control, known)).go()
     for text, moment in run.odd:
         wire.notes.add(text, moment)
     return Explained(wire, calls, streams, grid, run, begin)

@@ -1,6 +1,6 @@
 """A call that nobody held: what a bridge would have on the wire, by the model, as IPv4 packets with their moments."""
 
-from lib.captures.lines import FIN, SYN
+from lib.captures.lines import ACK, FIN, SYN
 from lib.captures.writing import tcp_packet, udp_packets
 from lib.models.mix import compressed
 from lib.models.reports import ReportBridge
@@ -41,7 +41,7 @@ class Made:
         self.video, self.again = {}, []
         self.bridge.answer("bridge 1 bridge renew")
         self.put(tcp_packet(OPERATOR, tcp, 999, SYN))
-        self.put(tcp_packet(tcp, OPERATOR, 4999, SYN))
+        self.put(tcp_packet(tcp, OPERATOR, 4999, SYN | ACK))
         for line in self.setup:
             self.call(line.replace("ONE", self.one).replace("OTHER", self.other))
         for tick in range(ticks):

@@ -2,10 +2,28 @@
 
 import collections
 import dataclasses
+import re
 
 from lib.models.lines import ALONE, fault_of_line
 
 SEATS = 16
+# A capture that is out of order may have an answer so long before its question, in nanoseconds.
+EARLY = 10_000_000
+# The longest line of an operator, in octets.
+LONGEST = 4096
+# So many lines may wait for their answers, and so many rows for their end: a `history` has 4,194,304 octets at most.
+MOST_WAITING, MOST_ROWS = 4096, 1 << 19
+
+
+def is_good(text):
+    """Whether an operator's line is one that a bridge takes for a call, or for a word such as `show`."""
+    return len(text) <= LONGEST and fault_of_line(text.encode("latin-1")) is None
+
+
+def version_in(text, word):
+    """The number behind a word, as in `ok 12`, or None."""
+    found = re.fullmatch(word + " ([0-9]{1,20})", text)
+    return int(found[1]) if found else None
 
 
 @dataclasses.dataclass
@@ -24,10 +42,7 @@ class Call:
 
     def is_call(self):
         """Whether it is a call of the desk, which a script can say."""
-        return (
-            self.text.split(" ")[0] not in (*ALONE, "")
-            and fault_of_line(self.text.encode("latin-1")) is None
-        )
+        return self.text.split(" ")[0] not in ALONE and is_good(self.text)
 
     def is_told_lines(self):
         """Whether its answer is some lines, of which the last is `end VERSION` or `end`."""
@@ -36,19 +51,53 @@ class Call:
 
 @dataclasses.dataclass(frozen=True)
 class Shown:
-    """The rows of a desk as `show` told them, the version, and the moments of the question and of the last line."""
+    """A desk as it was told: its rows, its version (None where it isn't known), the moments of the question and of the
+    last line; or, by a history, the calls that made it, those in force and those undone, each with its operator. `by`
+    is what told it."""
 
     moment: int
     until: int
     rows: tuple
     version: int
+    calls: tuple = ()
+    undone: tuple = ()
+    by: str = "a `show`"
+
+
+# A call as a history tells it: its number, its operator, its words.
+TOLD = re.compile(r"([0-9]{1,20}) ([0-9]{1,2}) (.+)", re.ASCII)
+
+
+def history_of(lines):
+    """The calls of a history, those in force and those undone, as pairs of operator and words; None where a line is
+    none of a history."""
+    parts, at = ([], []), 0
+    for line in lines:
+        found = TOLD.fullmatch(line)
+        if line == "undone":
+            at = 1
+        elif found and int(found[2]) < SEATS and is_good(found[3]):
+            parts[at].append((int(found[2]), found[3]))
+        else:
+            return None
+    return tuple(map(tuple, parts))
+
+
+class Told:
+    """What answers tell of the desk: the desks of `show` and `history`, the calls of a `watch` by their numbers, and
+    which version there was at a moment."""
+
+    def __init__(self):
+        self.shown, self.calls, self.versions = [], {}, []
 
 
 class Answers:
     """Gives the lines of a bridge to a client to the lines that they answer."""
 
-    def __init__(self, asked, shown):
-        self.waiting, self.shown, self.rows = collections.deque(asked), shown, []
+    def __init__(self, asked, told, is_whole=False):
+        # Where the connection's beginning was captured, or an answer found its question, an answer that stands before
+        # the next question may be that one's.
+        self.waiting, self.told, self.rows, self.has_answered = collections.deque(asked), told, [], is_whole
 
     def take(self, line):
         """Takes an answer."""
@@ -60,28 +109,51 @@ class Answers:
             return
         while self.waiting and self.waiting[0].text in ("quit", "stop"):
             self.waiting.popleft()
-        # A line of a watch answers nothing.
-        if not self.waiting or self.waiting[0].moment > line.moment or line.text.startswith("call "):
+        if line.text.startswith("call "):
+            # A line of a watch answers nothing.
+            self.take_told(line)
+            return
+        early = EARLY if self.has_answered else 0
+        if not self.waiting or self.waiting[0].moment > line.moment + early:
             return
         if self.waiting[0].is_told_lines() and not line.text.startswith(("busy", "fault", "no ")):
             self.take_row(line)
             return
         call = self.waiting.popleft()
-        call.answer, call.until = line.text, line.moment
-        if line.text.startswith("ok "):
-            call.number = int(line.text[3:])
+        call.answer, call.until, self.has_answered = line.text, max(line.moment, call.moment), True
+        call.number = version_in(line.text, "ok") or 0
+        refused = re.fullmatch("no ([0-9]{1,20}) .*", line.text, re.ASCII)
+        if call.number or refused:
+            self.told.versions.append((line.moment, call.number or int(refused[1])))
+
+    def take_told(self, line):
+        """Takes a call that a watch tells."""
+        found = TOLD.fullmatch(line.text.removeprefix("call "))
+        if found and int(found[2]) < SEATS and is_good(found[3]):
+            self.told.calls.setdefault(int(found[1]), (line.moment, int(found[2]), found[3]))
 
     def take_row(self, line):
         """Takes a line that answers `show`, `history`, `stats` or `watch`."""
-        is_last = line.text.split(" ")[0] == "end"
+        is_last, version = line.text.split(" ")[0] == "end", version_in(line.text, "end")
         if self.rows is not None and not is_last:
             self.rows.append(line.text)
+            self.rows = None if len(self.rows) > MOST_ROWS else self.rows
         elif is_last:
             call = self.waiting.popleft()
-            call.answer, call.until = line.text, line.moment
-            if self.rows is not None and call.text == "show":
-                self.shown.append(Shown(call.moment, line.moment, tuple(self.rows), int(line.text[4:])))
+            call.answer, call.until, self.has_answered = line.text, max(line.moment, call.moment), True
+            if version is not None:
+                self.told.versions.append((line.moment, version))
+                self.take_desk(call, line.moment, version)
             self.rows = []
+
+    def take_desk(self, call, until, version):
+        """Takes a desk that was told in whole."""
+        if call.text == "show" and self.rows is not None:
+            self.told.shown.append(Shown(call.moment, until, tuple(self.rows), version))
+        if call.text == "history" and self.rows is not None:
+            calls = history_of(self.rows)
+            if calls:
+                self.told.shown.append(Shown(call.moment, until, (), version, *calls, by="a `history`"))
 
 
 def take_seats(calls, ends):
@@ -106,17 +178,28 @@ def give_moments(calls):
         call.at = call.at or call.until or call.moment
 
 
-def calls_of(wire):
-    """All lines of operators, the calls among them in the order in which the bridge took them, and what `show` told."""
-    shown, by_client = [], collections.defaultdict(list)
+def calls_of(wire, more=()):
+    """All lines of operators, the calls among them in the order in which the bridge took them, and what answers told of
+    the desk. `more` are calls that another source tells, as (number, moment, seat, words)."""
+    told, by_client = Told(), collections.defaultdict(list)
     calls = [Call(line.moment, line.source, line.text) for line in wire.asked if line.is_whole]
     for call in calls:
         by_client[call.client].append(call)
-    answers = {client: Answers(asked, shown) for client, asked in by_client.items()}
+    answers = {client: Answers(asked, told, client in wire.begun) for client, asked in by_client.items()}
     for line in wire.answered:
-        if line.target in answers:
-            answers[line.target].take(line)
+        if line.target not in answers:
+            # A connection of which the capture has what the bridge says alone.
+            answers[line.target] = Answers([], told)
+        answers[line.target].take(line)
+    take_seats(sorted(calls, key=lambda call: call.moment), wire.ends)
+    told.calls = {number: (moment, seat, text) for number, moment, seat, text in more} | told.calls
+    known = {call.number: call for call in calls if call.number}
+    for number, (moment, seat, text) in told.calls.items():
+        if number in known:
+            known[number].seat = seat
+        else:
+            calls.append(Call(moment, "", text, seat, f"ok {number}", moment, number))
     give_moments(calls)
     calls.sort(key=lambda call: (call.at, call.number))
-    take_seats(sorted(calls, key=lambda call: call.moment), wire.ends)
-    return calls, sorted(shown, key=lambda one: one.until)
+    told.shown.sort(key=lambda one: one.until)
+    return calls, told

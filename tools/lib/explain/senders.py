@@ -4,6 +4,7 @@ import collections
 import functools
 import math
 
+from lib.explain.tracks import EVENTS, came_of, kind_of
 from lib.models.bridge import VIDEO_RATE
 from lib.models.mix import expanded, samples_of
 from lib.packets import number
@@ -25,12 +26,23 @@ AUDIO = {0: 8000, 97: 8000, 11: 44100}
 SPEECH = (32768 / 100) ** 2
 
 
-def type_name(pt):
-    return f"type {pt} ({TYPES[pt]})" if pt in TYPES else f"type {pt}"
+# What becomes of a datagram where the desk isn't known.
+UNKNOWN = "desk not known"
+
+
+def type_name(pt, kind=None):
+    """A type with what it is, where its number or its packets say it."""
+    kind = kind or TYPES.get(pt)
+    return f"type {pt} ({kind})" if kind else f"type {pt}"
 
 
 def is_rtp(octets):
     return len(octets) >= 12 and octets[0] >> 6 == 2 and not 192 <= octets[1] <= 223
+
+
+def source_key(address, octets):
+    """What packets of one source have alike: their sender, their SSRC and their type."""
+    return address, number(octets[8:12]), octets[1] & 127
 
 
 @functools.cache
@@ -64,9 +76,19 @@ class Source:
         # What became of the packets; how far ahead of the next sample they came, in units of 8000 Hz; the longest time
         # without one. How often its jitter buffer began anew.
         self.outcomes, self.far, self.pause, self.renewed = collections.Counter(), [], 0, 0
+        # The packets themselves, where they are kept, and what they seem to be.
+        self.track, self.kind = [], None
+        # How many packets of other types from there have numbers between its own.
+        self.shared = 0
 
-    def take(self, moment, octets):
-        """Counts a packet (RFC 3550 sections A.3 and A.8)."""
+    def name(self):
+        return type_name(self.pt, self.kind)
+
+    def is_events(self):
+        return self.kind == EVENTS
+
+    def take(self, moment, octets, kept=None):
+        """Counts a packet (RFC 3550 sections A.3 and A.8). Of one that the capture cut, `kept` octets are known."""
         seq, ts = number(octets[2:4]), number(octets[4:8])
         if self.greatest is None:
             self.first, self.least, self.greatest = moment, seq, seq
@@ -86,7 +108,7 @@ class Source:
             self.jitter += (far - self.jitter) / 16
         self.transit = transit
         if self.pt in AUDIO:
-            power, samples = power_of(self.pt, octets[12 + 4 * (octets[0] & 15) :])
+            power, samples = power_of(self.pt, octets[12 + 4 * (octets[0] & 15) : kept])
             self.power, self.samples = self.power + power, self.samples + samples
             self.speaking += bool(samples) and power / samples > SPEECH
 
@@ -94,7 +116,7 @@ class Source:
         return self.greatest - self.least + 1
 
     def lost(self):
-        return self.expected() - self.packets
+        return self.expected() - self.packets - self.shared
 
     def jitter_ms(self):
         return self.jitter / self.rate * 1000
@@ -117,17 +139,17 @@ class Senders:
     def __init__(self):
         self.sources, self.others = {}, collections.Counter()
 
-    def take(self, moment, address, octets, outcome=None, far=None):
+    def take(self, moment, address, octets, outcome=None, far=None, kept=None):
         """Counts a datagram and what became of it. The source that it is of, if it is of one."""
         if not is_rtp(octets):
             kind = "RTCP" if len(octets) > 1 and 192 <= octets[1] <= 223 else "neither RTP nor RTCP"
             self.others[address, kind, outcome] += 1
             return None
-        key = address, number(octets[8:12]), octets[1] & 127
+        key = source_key(address, octets)
         if key not in self.sources:
             self.sources[key] = Source(*key)
         source = self.sources[key]
-        source.take(moment, octets)
+        source.take(moment, octets, kept)
         if outcome:
             source.outcomes[outcome] += 1
         if far is not None:
@@ -140,19 +162,32 @@ class Senders:
 def outcome_of(said):
     """The name of a datagram's outcome, without the number of its packet."""
     words = said[0].split(" ")[1:]
+    if words[0] == "unknown":
+        return UNKNOWN
     return words[0] if words[0] not in ("dropped",) else " ".join(words)
 
 
 def senders_of(explained, between):
-    """The senders of a capture in a time."""
-    senders = Senders()
-    if not explained.run:
-        for datagram in explained.wire.into:
-            if between[0] <= datagram.moment <= between[1]:
-                senders.take(datagram.moment, datagram.peer, datagram.octets)
-        return senders
-    for done in explained.run.done:
-        if done.line.startswith("rx ") and done.event and between[0] <= done.event.what.moment <= between[1]:
-            it = done.event.what
-            senders.take(it.moment, it.peer, it.octets, outcome_of(done.said), done.far)
+    """The senders of a capture in a time, with their packets."""
+    senders, run = Senders(), explained.run
+    told = [(datagram, UNKNOWN if run else None, None) for datagram in explained.wire.into]
+    if run:
+        told = [one for one in told if one[0].moment < explained.begin]
+        told += [
+            (done.event.what, outcome_of(done.said), done.far)
+            for done in run.done if done.said and done.event and done.line.startswith(("rx ", "# rx"))
+        ]
+    for it, outcome, far in told:
+        if between[0] <= it.moment <= between[1]:
+            source = senders.take(it.moment, it.peer, it.octets, outcome, far, it.kept)
+            if source:
+                source.track.append(came_of(it))
+    for source in senders.sources.values():
+        source.kind = kind_of(source.track)
+        source.shared = sum(
+            (one.seq - source.least) % 65536 <= source.greatest - source.least
+            for other in senders.sources.values()
+            if (other.address, other.ssrc) == (source.address, source.ssrc) and other is not source
+            for one in other.track
+        )
     return senders

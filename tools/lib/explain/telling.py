@@ -4,12 +4,12 @@ import datetime
 
 from lib.explain import compounds
 from lib.explain.changes import Desks, grouped
-from lib.explain.findings import Findings, counted
+from lib.explain.findings import Findings, counted, own_share
 from lib.explain.receivers import MIX_GAP, VIDEO_GAP, Causes, outgoing_of
-from lib.explain.senders import AUDIO, senders_of, type_name
+from lib.explain.senders import AUDIO, senders_of
 
-# So many differences are told one by one.
-MOST_TOLD = 20
+# So many differences are told one by one, and so many senders that are no member's.
+MOST_TOLD, MOST_STRANGERS = 20, 256
 REASONS = {
     "unsent": "a lane that was late followed a later call, or a full ring dropped its item",
     "uncaptured": "the capture lost it",
@@ -32,7 +32,7 @@ class Telling:
     def __init__(self, explained, wanted, between):
         self.it, self.wire, self.between = explained, explained.wire, between
         self.senders = senders_of(explained, between)
-        self.desks = Desks(explained.run) if explained.run else None
+        self.desks = Desks(explained.run, explained.begin) if explained.run else None
         self.outgoing = outgoing_of(explained.streams, self.is_mix, between)
         self.members = self.members_of(wanted)
 
@@ -72,7 +72,7 @@ class Telling:
         counts = f"{len(self.wire.into):,} datagrams in, {len(self.wire.out):,} out"
         yield f"{name}: {seconds:.1f} s from {begin:%Y-%m-%d %H:%M:%S}.{begin.microsecond // 1000:03} UTC, {counts}"
         yield f"bridge: udp {self.wire.udp or 'not in it'}, tcp {self.wire.tcp or 'not in it'}"
-        for line in self.wire.notes.lines(self.wire.begin):
+        for line in [*self.wire.notes.lines(self.wire.begin), *self.notes()]:
             yield f"note: {line}"
         if not self.it.run:
             yield (
@@ -81,30 +81,55 @@ class Telling:
             )
             yield "      on, give `show` while you capture, or name a file with the lines of `show` by --desk"
 
+    def notes(self):
+        """What is to be known of the capture as a whole."""
+        unknown = sum(not self.it.is_known(one.moment) for one in self.wire.into) if self.it.run else 0
+        if unknown:
+            yield (
+                f"for {unknown:,} of {len(self.wire.into):,} datagrams in, the desk isn't known: nobody knows what the "
+                "bridge did with them"
+            )
+        own = own_share(self.outgoing)
+        if own:
+            share = f"some {100 * own:.1f} % of the packets"
+            yield f"the capture itself lost {share}: numbers of the bridge's own streams are missing"
+        if self.wire.cut:
+            text = "are reports that are cut, or cut before the end of their RTP headers: nothing is said of them"
+            yield f"{counted(self.wire.cut, 'datagram')} {text}"
+        if self.wire.others:
+            yield f"another bridge is in it, too: tcp {', '.join(self.wire.others)}. What is told is of one alone"
+
     # Parts
 
-    def findings(self):
+    def found(self):
+        """What stands out."""
         found = Findings(self.it, self.desks, self.senders, self.outgoing, self.seconds).all()
-        texts = [text for text, members in found if self.concerns(*members) or (self.members is None)]
+        return [one for one in found if not one.members or self.concerns(*one.members)]
+
+    def findings(self):
         yield "\nwhat stands out"
-        for text in texts or ["nothing"]:
+        for text in [one.text for one in self.found()] or ["nothing"]:
             yield f"  {text}"
 
     def of_senders(self):
         yield "\nsenders"
         last = None
+        strangers = 0
         for source in sorted(self.senders.sources.values(), key=lambda one: (one.address, one.ssrc, one.pt)):
             member = self.desks.member_at(source.address) if self.desks else None
-            if not self.concerns(member):
+            strangers += member is None
+            if not self.concerns(member) or member is None and strangers > MOST_STRANGERS:
                 continue
             if source.address != last:
                 last = source.address
                 who = f"member {member}" if member is not None else "no member's address" if self.desks else ""
                 yield f"  {source.address}  {who}".rstrip()
-            yield f"    {source.ssrc}, {type_name(source.pt)}: {self.counts(source)}"
+            yield f"    {source.ssrc}, {source.name()}: {self.counts(source)}"
             if source.outcomes:
                 yield "      " + ", ".join(f"{count:,} {outcome}" for outcome, count in source.outcomes.most_common())
-        for (address, kind, outcome), count in sorted(self.senders.others.items(), key=str):
+        if strangers > MOST_STRANGERS and self.members is None:
+            yield f"  and {strangers - MOST_STRANGERS:,} further senders of no known member"
+        for (address, kind, outcome), count in sorted(self.senders.others.items(), key=str)[:MOST_STRANGERS]:
             if self.concerns(self.desks.member_at(address) if self.desks else None):
                 yield f"  {address}  {counted(count, 'datagram')} of {kind}{f': {outcome}' if outcome else ''}"
 
@@ -186,11 +211,17 @@ class Telling:
             if self.is_within(one.moment) and self.concerns(self.desks.outs.get(one.stream, (0, None))[1])
         ]
         yield "\nthe wire against the model"
-        yield f"  media: {cursor.equal:,} of {total:,} packets are the model's, octet by octet"
+        how = "by their headers, since they are cut" if self.wire.is_cut() else "octet by octet"
+        yield f"  media: {cursor.equal:,} of {total:,} packets are the model's, {how}"
         for one in found[:MOST_TOLD]:
             yield f"    {self.seconds(one.moment):8.3f} s  stream {one.stream}, {one.text} ({self.reason(one)})"
         if len(found) > MOST_TOLD:
             yield f"    and {len(found) - MOST_TOLD:,} more"
+        if found:
+            yield "    each of these may also come of another version of the program than this tool knows"
+        if self.wire.is_cut():
+            yield "  control: not compared, since packets are cut"
+            return
         count = len([d for d in self.it.streams.control if d.moment >= self.it.begin]) - len(compared.pictures)
         but = (
             "what was counted before the capture"

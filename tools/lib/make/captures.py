@@ -9,6 +9,14 @@ In each call member 10 sends the sound 201 and the video 101, and Bob, who is me
   still.pcap    a packet of the video is lost, and its sender answers nobody
   late.pcap     Bob's packets begin to come 120 ms later than before
   lacking.pcap  as the first one, but a datagram of Bob's isn't in it
+  opus.pcap     Bob sends Opus
+  keys.pcap     Bob presses two keys
+  silence.pcap  Bob's microphone is off
+  slow.pcap     Bob's clock is slow
+  half.pcap     Bob's packets hold half of the sound that they should
+  nat.pcap      Bob's address changes
+  full.pcap     the bridge's receive buffer runs over
+  two.pcap      another bridge is in it
 """
 
 import pathlib
@@ -16,6 +24,8 @@ import pathlib
 from lib.captures.writing import pcap
 from lib.demo import picture, tone
 from lib.explain.made import BEGIN, GAP, ONE, OTHER, STRANGER, Made
+from lib.explain.planted import FAULTS, Call
+from lib.explain.varied import beside
 from lib.packets import number, rtp
 
 NEEDS = "nothing, some seconds"
@@ -30,6 +40,13 @@ SETUP = [
     "add-slot 501 11 0 0 0",
     "give-floor 1 10",
 ]
+# Captures of planted faults.
+PLANTED = {
+    "opus": "Opus", "keys": "keys", "silence": "silence", "slow": "a slow clock", "half": "half packets",
+    "nat": "another address", "full": "a full receive buffer",
+}  # fmt: skip
+# The addresses of the second bridge, and of its members.
+OTHERS = ("127.0.0.1:5104", "127.0.0.1:7100"), ("127.0.0.1:6100", "127.0.0.1:6102")
 # Bob's packets are late from this tick on, by so many ticks.
 LATE, LATER = 100, 6
 # A tick whose frame lacks its first packet, one whose sound the capture lacks, and one before which Bob is muted.
@@ -95,7 +112,10 @@ def made():
     """The packets of each capture, by its name."""
     ticks = {"call": 150, "pcma": 150, "port": 150, "muted": 150, "still": 250, "late": 250}
     found = {wrong: Shown(wrong, count).packets for wrong, count in ticks.items()}
-    return found | {"lacking": [(moment, packet) for moment, packet in found["call"] if not is_lacking(packet)]}
+    found["lacking"] = [(moment, packet) for moment, packet in found["call"] if not is_lacking(packet)]
+    found |= {name: Call(FAULTS[fault][0]).packets for name, fault in PLANTED.items()}
+    found["two"] = beside(found["call"], Call(bridge=OTHERS[0], members=OTHERS[1]).packets)
+    return found
 
 
 def write(folder):

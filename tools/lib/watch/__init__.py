@@ -20,6 +20,7 @@ from lib.captures.files import frames_of
 from lib.captures.links import Packets
 from lib.captures.live import Live
 from lib.captures.notes import BadCapture, Notes
+from lib.printing import printable
 from lib.serving import Operator
 from lib.watch.metrics import serve
 from lib.watch.seen import Seen
@@ -106,7 +107,9 @@ def tell(table, lock):
     """Prints the table."""
     with lock:
         lines = list(table.lines()) if table.seen.now else ["nothing has passed yet"]
-    print((CLEAR if sys.stdout.isatty() else "") + "\n".join(lines), flush=True)
+    if sys.stdout.isatty():
+        sys.__stdout__.write(CLEAR)
+    print("\n".join(map(printable, lines)), flush=True)
 
 
 def run(args):

@@ -14,6 +14,7 @@ HELP = {
     "confbridge_source_level_dbfs": ("gauge", "Mean level of a source's sound"),
     "confbridge_source_last_seconds": ("gauge", "When the last packet of a source came, since 1970"),
     "confbridge_datagrams_total": ("counter", "Datagrams of a source by what became of them"),
+    "confbridge_unknown_left_out_total": ("counter", "Datagrams of further unknown senders, of which so many are kept"),
     "confbridge_bridge_reports_lost_ratio": ("gauge", "Share of a source that the bridge's last report calls lost"),
     "confbridge_stream_packets_total": ("counter", "RTP packets that went to a receiver"),
     "confbridge_receiver_reports_lost_ratio": ("gauge", "Share of a stream that its receiver's last report calls lost"),
@@ -33,6 +34,7 @@ def samples(seen):
     yield "confbridge_desk_known", "", int(seen.is_known)
     if seen.is_known:
         yield "confbridge_desk_version", "", seen.judge.log.version
+    yield "confbridge_unknown_left_out_total", "", seen.left_out
     for source in seen.senders.sources.values():
         member = seen.member_at(source.address)
         names = dict(member="" if member is None else member, address=source.address, ssrc=source.ssrc, type=source.pt)

@@ -3,7 +3,7 @@
 import time
 
 from lib.explain.senders import AUDIO, decibels, type_name
-from lib.watch.seen import Intervals
+from lib.watch.seen import UNKNOWN, Intervals
 
 # `reports` is what the bridge's last report says: the share that was lost since the one before, and how many packets in
 # all.
@@ -21,6 +21,7 @@ class Table:
     def rows(self):
         """A row for each source, by member and address."""
         seen = self.seen
+        self.intervals.forget(seen.senders.sources)
         for key, source in sorted(seen.senders.sources.items(), key=lambda one: (one[0][0], one[0][1], one[0][2])):
             packets, speaking, power, samples = self.intervals.since(key, source)
             member, said = seen.member_at(source.address), seen.by_bridge.get((source.address, source.ssrc))
@@ -61,6 +62,8 @@ class Table:
         for source, advice in seen.unknown():
             yield f"unknown: {source.address} sends SSRC {source.ssrc} as {type_name(source.pt)}:"
             yield f"    {advice}"
+        if seen.left_out:
+            yield f"left out: {seen.left_out} datagrams of further unknown senders; {UNKNOWN} of these are kept"
         for line in seen.notes.lines(seen.begin):
             yield f"note: {line}"
 

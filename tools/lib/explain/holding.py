@@ -1,0 +1,112 @@
+"""Holds a call over sockets in which some members have planted faults, and captures it."""
+
+import pathlib
+import socket
+import time
+
+from lib.captures.recorder import Recorder
+from lib.demo import picture, tone
+from lib.explain.made import OTHER, STRANGER
+from lib.explain.planted import FAULTS, FOLLOWS, NEW, SAID, TICKS, whole
+from lib.packets import number, rtp
+from lib.serving import Operator, port_of, settings, started, udp_socket
+from lib.shared import fail
+
+EACH = 0.02
+# `show` is asked for at each of so many ticks.
+SHOWN = 20
+# A call whose packets leave later than this, in seconds, says nothing: the machine is busy.
+LATEST = 0.02
+
+
+class Member:
+    """A member with a fault: its number, its sound, and a socket for each address that it sends from."""
+
+    def __init__(self, place, name):
+        self.place, self.name, self.number, self.ssrc = place, name, 11 + place, 202 + place
+        self.sockets = {address: udp_socket() for address in (OTHER, STRANGER, NEW)}
+        self.fault = FAULTS[name][0] if name in FAULTS else whole
+        # What stands in the made calls for what is this member's.
+        self.others = {202: self.ssrc, 777: 777 + place, 77: 3000 + place, 11: self.number}
+
+    def address(self):
+        return f"127.0.0.1:{port_of(self.sockets[OTHER])}"
+
+    def packets(self, tick):
+        """What it sends in a tick: how much later, by which socket, and the octets."""
+        for after, address, octets in self.fault(tick):
+            ssrc = self.others[number(octets[8:12])].to_bytes(4, "big")
+            yield after / 1e9, self.sockets[address], octets[:8] + ssrc + octets[12:]
+
+    def says(self, tick):
+        """What an operator says about it."""
+        lines = SAID[self.name][0].get(tick, ()) if self.name in SAID else ()
+        for line in lines:
+            words = line.split(" ")
+            yield " ".join(str(self.others.get(int(word), word)) if word.isdigit() else word for word in words)
+
+    def told(self, found):
+        """What has to be told of it, or may be."""
+        return {(kind, self.others.get(about, about)) for kind, about in found}
+
+    def wanted(self):
+        """The kind of its fault and what that is about, and what else may follow from it."""
+        fault = (FAULTS | SAID)[self.name][1]
+        return self.told([fault]), self.told(FOLLOWS.get(fault, ()))
+
+
+class Held:
+    """A call that was held: its capture, the rows of its desk before the faults with their moment, and by how much
+    packets left too late."""
+
+    def __init__(self, program, lanes, names, folder):
+        self.members = [Member(place, name) for place, name in enumerate(names)]
+        self.one, self.late, self.rows, self.known = udp_socket(), 0, None, None
+        bridge, udp, tcp = started(program, settings(folder, lanes=lanes))
+        self.udp, self.tcp = f"127.0.0.1:{udp}", f"127.0.0.1:{tcp}"
+        recorder = Recorder([udp, tcp], pathlib.Path(folder) / "call.pcap")
+        recorder.begin()
+        with socket.create_connection(("127.0.0.1", tcp), timeout=60) as connection:
+            self.operator = Operator(connection)
+            for line in self.setup():
+                self.say(line)
+            self.rows, self.known = "\n".join(self.operator.shown()), time.time_ns()
+            self.hold(("127.0.0.1", udp))
+            time.sleep(0.2)
+            self.operator.tell("stop")
+            bridge.wait(60)
+        self.is_whole = recorder.end()
+        self.octets = recorder.path.read_bytes()
+
+    def setup(self):
+        yield from ("add-room 1", f"add-member 10 1 127.0.0.1:{port_of(self.one)} pcmu 9001 0 0")
+        yield from ("add-source 201 10 audio", "add-source 101 10 video")
+        for member in self.members:
+            yield f"add-member {member.number} 1 {member.address()} pcmu {9002 + member.place} 0 0"
+            yield f"add-source {member.ssrc} {member.number} audio"
+        yield from ("add-slot 501 11 0 0 0", "give-floor 1 10")
+
+    def say(self, line):
+        said = self.operator.ask(line)
+        if not said.startswith("ok "):
+            fail(f"`{line}` is answered `{said}`")
+
+    def hold(self, to):
+        begun = time.monotonic() + EACH
+        for tick in range(TICKS):
+            due = []
+            payloads = [rtp(tick, tick * 160, 201, tone(440, tick), pt=0)]
+            payloads += [rtp(2 * tick + n, tick * 1800, 101, part, marker=n) for n, part in enumerate(picture(tick))]
+            due += [(0, self.one, octets) for octets in payloads]
+            for member in self.members:
+                due += member.packets(tick)
+                for line in member.says(tick):
+                    self.say(line)
+            if tick % SHOWN == SHOWN // 2:
+                self.operator.shown()
+            for after, sender, octets in sorted(due, key=lambda one: one[0]):
+                wait = begun + tick * EACH + after - time.monotonic()
+                if wait > 0:
+                    time.sleep(wait)
+                self.late = max(self.late, -wait)
+                sender.sendto(octets, to)
