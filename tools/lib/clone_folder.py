@@ -19,12 +19,12 @@ from lib.substitutes import write_all
 # What differs each time: the moment at which a bridge that listens began, and the SSRC of a mix that an agent chose.
 ANY = re.compile(r'(?<=, ticks from )[0-9]+$|(?<="mix": )[0-9]+', re.M)
 # Blocks that end with another status than 0.
-STATUSES = {"tools/bridge explain lacking.pcap\n": 1}
+STATUSES = {f"tools/bridge explain {name}.pcap\n": 1 for name in ("lacking", "full")}
 # How many seconds a command may take: a build without proofs on a busy machine.
 PATIENCE = 1800
 # What a block says once it serves, by a part of its commands, and whether it runs on for the blocks after it.
 SERVES = {
-    "fleet/fleet.py &": ("fleet: the agent", True),
+    "fleet/fleet.py ": ("fleet: the agent", True),
     " serve ": ("confbridge: listening", True),
     "crates/desk_page": ("desk_page: http://", False),
 }
@@ -129,11 +129,12 @@ class Folder:
 
     def wait_for_bridges(self, where):
         """Waits until the agent of a fleet knows its two bridges."""
+        asks = [ROOT / "examples/fleet/ask.py", "/tmp/fleet.secret", "http://127.0.0.1:8095/"]
         end = time.monotonic() + 60
         while time.monotonic() < end:
-            with urllib.request.urlopen("http://127.0.0.1:8095/", timeout=60) as fleet:
-                if len(json.load(fleet)["bridges"]) == 2:
-                    return
+            said = subprocess.run(asks, capture_output=True, text=True, check=False)
+            if said.returncode == 0 and len(json.loads(said.stdout)["bridges"]) == 2:
+                return
             time.sleep(0.1)
         fail(f"{where}: the agent doesn't know two bridges")
 
@@ -157,12 +158,13 @@ class Folder:
     def renew(self, where):
         """Ends the bridge that runs, and starts another one as it was started, once the ports are free."""
         self.end()
-        end = time.monotonic() + PATIENCE
-        while not are_free() and time.monotonic() < end:
-            time.sleep(0.05)
         self.run(where, self.start)
 
     def end(self):
+        """Ends the bridges that run, and waits until their ports are free: each stops by itself."""
         for one in self.bridges:
             end_of(one)
+        end = time.monotonic() + PATIENCE
+        while self.bridges and not are_free() and time.monotonic() < end:
+            time.sleep(0.05)
         self.bridges = []

@@ -18,19 +18,21 @@ from lib.shared import ROOT
 
 sys.path.insert(0, str(ROOT / "examples/fleet"))
 
-from kept import FURTHER, commands_of, groups_of  # noqa: E402
+from kept import FURTHER, Unmade, commands_of, groups_of  # noqa: E402
+from printable import printable  # noqa: E402
 
 NEEDS = "a bridge that runs"
 
-# How many seconds a bridge may take for an answer.
-PATIENCE = 30
+# How many seconds a bridge may take for an answer. How many octets a line of it has at most, and how many rows a desk:
+# more are no bridge's.
+PATIENCE, MOST_OCTETS, MOST_ROWS = 30, 4096, 200_000
 
 
 class Trouble(Exception):
-    """What a person is told, and the exit status."""
+    """What a person is told, as a terminal may show it, and the exit status."""
 
     def __init__(self, text, status):
-        super().__init__(text)
+        super().__init__(printable(text))
         self.status = status
 
 
@@ -47,14 +49,21 @@ class Seat(Operator):
         if not port.isdigit() or int(port) > 65535:
             raise Trouble(f"{address} is no address", 4)
         try:
-            super().__init__(socket.create_connection((host, int(port)), PATIENCE))
+            connection = socket.create_connection((host, int(port)), PATIENCE)
         except OSError as why:
             raise Trouble(f"there is no bridge at {self.address}: {why.strerror or why}", 2) from None
+        # Whatever octets come are a text.
+        self.lines = connection.makefile("rw", newline="\n", encoding="ascii", errors="backslashreplace")
+
+    def line(self):
+        """The next line: empty where the connection has ended."""
+        return self.lines.readline(MOST_OCTETS).strip("\n")
 
     def answered(self, line):
         """The first line that answers a line."""
         try:
-            said = self.ask(line)
+            self.tell(line)
+            said = self.line()
         except TimeoutError:
             raise Trouble(f"the bridge at {self.address} doesn't answer within {PATIENCE} s", 2) from None
         except OSError:
@@ -71,12 +80,15 @@ class Seat(Operator):
         while not line.startswith("end "):
             rows.append(line)
             try:
-                line = self.lines.readline().strip()
+                line = self.line()
             except OSError:
                 line = ""
-            if not line:
+            if not line or len(rows) > MOST_ROWS:
                 raise Trouble(f"the bridge at {self.address} is gone: its rows end in the middle", 2)
-        return rows, int(line[4:])
+        version = line.removeprefix("end ")
+        if not version.isdigit():
+            raise Trouble(f"{self.address} is no bridge: it says {line[:80]!r}", 2)
+        return rows, int(version)
 
     def close(self):
         with contextlib.suppress(OSError):
@@ -90,14 +102,22 @@ def last_line(groups, commands):
     return f"# end: {groups} groups of {commands} commands"
 
 
+def made_by(rows, address):
+    """The commands that make the rows of a bridge."""
+    try:
+        return commands_of(rows)
+    except Unmade as row:
+        raise Trouble(f"{address} is no bridge: `{str(row)[:80]}` is no row", 2) from None
+
+
 def run(args):
     try:
         with contextlib.closing(Seat(args.address)) as seat:
             rows, version = seat.rows()
+        commands = made_by(rows, args.address)
     except Trouble as why:
         print(f"tools/bridge keep: {why}", file=sys.stderr)
         return why.status
-    commands = commands_of(rows)
     groups = groups_of(commands)
     moved = f"FIRST_SEQ of each stream is {FURTHER} further on, as streams begin anew"
     print(f"# the desk of version {version}: {moved}", *groups, last_line(len(groups), len(commands)), sep="\n")

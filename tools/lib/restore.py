@@ -2,10 +2,10 @@
 
     tools/bridge restore 127.0.0.1:7000 desk.txt
 
-It reads the whole file before it gives a line of it, and looks first whether the desk is empty. Where a group is
-refused, it says which one, which command of it, and why, and one further group removes the rooms that those before it
-added: nothing stays. The status is 1 where the bridge refuses a group or isn't empty, 2 where it is gone or busy, and
-3 where the file isn't whole.
+It reads the whole file before it gives a line of it: each has to be a group that makes rows and does nothing else. It
+looks first whether the desk is empty. Where a group is refused, it says which one, which command of it, and why, and
+one further group removes the rooms that those before it added: nothing stays. The status is 1 where the bridge refuses
+a group or isn't empty, 2 where it is gone or busy, and 3 where the file isn't whole.
 """
 
 import contextlib
@@ -16,7 +16,9 @@ import sys
 from lib.keep import Seat, Trouble, last_line
 from lib.keep import options as takes_address
 from lib.models.desk import parts_of
-from lib.models.lines import fault_of_line
+
+# `keep` has said where that is.
+from kept import Unmade, makings  # noqa: E402
 
 NEEDS = "a bridge that runs"
 
@@ -33,10 +35,12 @@ def groups_in(path):
     except OSError as why:
         raise Trouble(f"{path} can't be read: {why.strerror}", 3) from None
     found = [(number, line) for number, line in enumerate(lines, 1) if line and not line.startswith(b"#")]
-    for number, line in found:
-        if not line.startswith(b"group ") or fault_of_line(line) or len(line) > 4096:
-            raise Trouble(f"line {number} of {path} is no group: nothing was given", 3)
-    groups = [(number, line.decode()) for number, line in found]
+    groups = [(number, line.decode("ascii", "replace")) for number, line in found]
+    for number, group in groups:
+        try:
+            makings(group)
+        except Unmade:
+            raise Trouble(f"line {number} of {path} is no group of rows: nothing was given", 3) from None
     end = last_line(len(groups), sum(len(parts_of(group.split(" "))) for _, group in groups))
     if not lines or lines[-1].decode("ascii", "replace") != end:
         raise Trouble(f"{path} is cut, or lines of it are missing: its last line isn't `{end}`. Nothing was given", 3)

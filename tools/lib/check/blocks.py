@@ -76,7 +76,8 @@ def never():
 # Blocks that are not run, or not everywhere, by how they begin (the first that fits): what they take, and whether that
 # is here.
 TAKES = {
-    "rt ci": ("all proofs; its last line is compared with the crates and edits that are there", never),
+    "RT_JOBS=": ("all proofs; its last line is compared with the crates and edits that are there", never),
+    "examples/demo.sh --hear": ("a sound card; the demo runs until it is stopped", never),
     "(cd crates/desk_page && rt run": ("the page's program, which `rt ci` builds, and its port", may_have_page),
     "cd crates/confbridge && rt run --cpu": ("the program, which `rt ci` builds", lambda: is_built("confbridge")),
     "tools/bridge member 6000": ("GStreamer, and the members' ports", may_speak),
@@ -84,7 +85,10 @@ TAKES = {
     "tcpdump": ("tcpdump, and leave to capture", may_capture),
     "sudo apt install etcd-server": ("etcd, curl, and the ports of a fleet", may_have_fleet),
     "sudo apt": ("packages that the check doesn't install", never),
-    "examples/fleet/dispatch.py": ("Kamailio, and a fleet; `check fleet` runs both", never),
+    "sudo install confbridge": ("the program, which `rt ci` builds", lambda: is_built("confbridge")),
+    "sudo install -d /usr/local/lib/confbridge ": ("the program, which `rt ci` builds", lambda: is_built("confbridge")),
+    "sudo systemctl stop etcd": ("etcd as a service of Debian's; `check fleet` gives one its users", never),
+    "export FLEET_SECRET": ("Kamailio, and a fleet; `check fleet` runs both", never),
     "nc -l 127.0.0.1 9000": ("a bridge with a trace; `check trace` runs one", never),
     "sed -n 's/^lane 0": ("the trace of a bridge; `check trace` replays one", never),
     "podman-compose": ("containers, and both programs in them", never),
@@ -212,7 +216,7 @@ class Reader:
     def take_text(self, where, text):
         if text.startswith("./confbridge: "):
             check_said(where, text)
-        elif self.commands == "rt ci\n":
+        elif self.commands.endswith(" rt ci\n"):
             check_count(where, text)
         elif not self.why:
             self.folder.shows(where, text, self.is_whole)
