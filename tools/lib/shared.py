@@ -120,6 +120,16 @@ def replay(lines, given, seconds=SECONDS):
     return run.stdout.splitlines()
 
 
+# Cases
+
+
+def case_files(kind):
+    """The files of a kind of cases, as the stored input of x_cases_files names them."""
+    folder, begins = CRATES / "x_cases_files", f"{kind} "
+    lines = (folder / "stdin").read_text().splitlines()
+    return [folder / "data" / line.removeprefix(begins) for line in lines if line.startswith(begins)]
+
+
 # Comparing
 
 

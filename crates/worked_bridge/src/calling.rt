@@ -17,24 +17,6 @@ pub fn undoes_the_last_call_alone(alloc: Global, core: &mut Core) -> Reply
     core.desk(alloc, 0, Call::Undo { last: 1 })
 }
 
-/// Nothing is done, so nothing is taken back.
-pub fn has_nothing_to_undo(alloc: Global, core: &mut Core) -> Reply
-    requires version { core.old.version ≡ 4 }
-    requires done { core.old.done ≡ [] }
-    ensures { result ≡ Reply.Refused 4 Refusal.NothingToUndo }
-{
-    core.desk(alloc, 0, Call::Undo { last: 4 })
-}
-
-/// That nothing is done is told before a full log.
-pub fn has_nothing_to_undo_in_a_full_log(alloc: Global, core: &mut Core) -> Reply
-    requires version { core.old.version ≡ 1048576 }
-    requires done { core.old.done ≡ [] }
-    ensures { result ≡ Reply.Refused 1048576 Refusal.NothingToUndo }
-{
-    core.desk(alloc, 0, Call::Undo { last: 1_048_576 })
-}
-
 /// An undo of a full log.
 pub fn undoes_no_more(alloc: Global, core: &mut Core) -> Reply
     requires version { core.old.version ≡ 1048576 }
@@ -43,23 +25,6 @@ pub fn undoes_no_more(alloc: Global, core: &mut Core) -> Reply
     ensures same { core.new ≡ core.old }
 {
     core.desk(alloc, 0, Call::Undo { last: 1_048_576 })
-}
-
-/// Room 1 is there at version 6.
-#[tactic(auto, unfolding(desk_edit::specs::Refusals::refused))]
-pub fn adds_no_room_twice(alloc: Global, core: &mut Core) -> Reply
-    requires version { core.old.version ≡ 6 }
-    requires desk { core.old.desk ≡ small }
-    ensures { result ≡ Reply.Refused 6 Refusal.Exists }
-{
-    core.desk(
-        alloc,
-        0,
-        Call::Apply(Command::AddRoom(Room {
-            room: 1,
-            rate: 8_000,
-        })),
-    )
 }
 
 /// A full log is told where nothing else stands against a room.
@@ -90,29 +55,6 @@ pub fn carries_out_no_empty_group(alloc: Global, core: &mut Core, commands: Vec<
     core.desk(alloc, 0, Call::Group(commands))
 }
 
-/// A group of 65 commands is told so before a full log.
-pub fn carries_out_no_group_of_65(alloc: Global, core: &mut Core, commands: Vec<Command>) -> Reply
-    requires version { core.old.version ≡ 1048576 }
-    requires commands { length commands.items ≡ 65 }
-    ensures { result ≡ Reply.Refused 1048576 (Refusal.GroupTooLong 64) }
-{
-    core.desk(alloc, 0, Call::Group(commands))
-}
-
-/// A full log is told before what stands against a group's first command: room 1 is there.
-pub fn carries_out_no_group_in_a_full_log(
-    alloc: Global,
-    core: &mut Core,
-    commands: Vec<Command>,
-) -> Reply
-    requires version { core.old.version ≡ 1048576 }
-    requires desk { core.old.desk ≡ small }
-    requires commands { commands.items ≡ Command.AddRoom (record { room = 1; rate = 8000 }) ∷ [] }
-    ensures { result ≡ Reply.Refused 1048576 Refusal.LogFull }
-{
-    core.desk(alloc, 0, Call::Group(commands))
-}
-
 /// What stands against a group's first command is told with its part: room 1 is there at version 6.
 #[tactic(auto, unfolding(desk_edit::specs::Refusals::reason_against, desk_edit::specs::Commands::desk_after))]
 pub fn carries_out_no_group_with_a_refused_part(
@@ -139,15 +81,6 @@ pub fn undoes_as_the_last_call(alloc: Global, core: &mut Core) -> Reply
     core.desk(alloc, 0, Call::Undo { last: 1_048_575 })
 }
 
-/// Whether something can be undone is asked after the number.
-pub fn names_the_last_call_first(alloc: Global, core: &mut Core) -> Reply
-    requires version { core.old.version ≡ 4 }
-    requires done { core.old.done ≡ [] }
-    ensures { result ≡ Reply.Refused 4 (Refusal.NewerCommand 4) }
-{
-    core.desk(alloc, 0, Call::Undo { last: 3 })
-}
-
 /// An undo that is accepted takes the next number.
 pub fn undoes(alloc: Global, core: &mut Core) -> Reply
     requires version { core.old.version ≡ 6 }
@@ -156,34 +89,6 @@ pub fn undoes(alloc: Global, core: &mut Core) -> Reply
     ensures done { length core.new.done ≡ 5 }
 {
     core.desk(alloc, 0, Call::Undo { last: 6 })
-}
-
-/// A redo has to name the last accepted call.
-pub fn redoes_after_the_last_call_alone(alloc: Global, core: &mut Core) -> Reply
-    requires version { core.old.version ≡ 8 }
-    requires undone { length core.old.undone ≡ 2 }
-    ensures answer { result ≡ Reply.Refused 8 (Refusal.NewerCommand 8) }
-    ensures same { core.new ≡ core.old }
-{
-    core.desk(alloc, 0, Call::Redo { last: 7 })
-}
-
-/// Nothing is undone, so nothing is done again.
-pub fn has_nothing_to_redo(alloc: Global, core: &mut Core) -> Reply
-    requires version { core.old.version ≡ 4 }
-    requires undone { core.old.undone ≡ [] }
-    ensures { result ≡ Reply.Refused 4 Refusal.NothingToRedo }
-{
-    core.desk(alloc, 0, Call::Redo { last: 4 })
-}
-
-/// That nothing is undone is told before a full log.
-pub fn has_nothing_to_redo_in_a_full_log(alloc: Global, core: &mut Core) -> Reply
-    requires version { core.old.version ≡ 1048576 }
-    requires undone { core.old.undone ≡ [] }
-    ensures { result ≡ Reply.Refused 1048576 Refusal.NothingToRedo }
-{
-    core.desk(alloc, 0, Call::Redo { last: 1_048_576 })
 }
 
 /// A redo to a full log.

@@ -28,83 +28,6 @@ pub fn version_0(alloc: Global) -> Option<RtcpFault>
     )
 }
 
-/// Version 3.
-pub fn version_3(alloc: Global) -> Option<RtcpFault>
-    ensures { result ≡ Some RtcpFault.Version }
-{
-    refused_as(
-        alloc,
-        RtcpFault::Version,
-        &[0x80, 201, 0, 1, 0, 0, 0, 9, 0xc0, 201, 0, 1, 0, 0, 0, 9],
-    )
-}
-
-/// A stray octet, whatever its version is.
-pub fn a_stray_octet(alloc: Global) -> Option<RtcpFault>
-    ensures { result ≡ Some RtcpFault.Length }
-{
-    refused_as(alloc, RtcpFault::Length, &[0x80, 201, 0, 1, 0, 0, 0, 9, 0])
-}
-
-/// Three octets of a common header.
-pub fn three_octets(alloc: Global) -> Option<RtcpFault>
-    ensures { result ≡ Some RtcpFault.Length }
-{
-    refused_as(
-        alloc,
-        RtcpFault::Length,
-        &[0x80, 201, 0, 1, 0, 0, 0, 9, 0x80, 201, 0],
-    )
-}
-
-/// A packet passes the end by a word, which is told before its padding.
-pub fn a_word_is_missing(alloc: Global) -> Option<RtcpFault>
-    ensures { result ≡ Some RtcpFault.Length }
-{
-    refused_as(
-        alloc,
-        RtcpFault::Length,
-        &[0x80, 201, 0, 1, 0, 0, 0, 9, 0xa1, 206, 0, 2, 0, 0, 0, 9],
-    )
-}
-
-/// A padding count of 0.
-pub fn a_padding_count_of_0(alloc: Global) -> Option<RtcpFault>
-    ensures { result ≡ Some RtcpFault.Padding }
-{
-    refused_as(
-        alloc,
-        RtcpFault::Padding,
-        &[
-            0x80, 201, 0, 1, 0, 0, 0, 9, 0xa0, 201, 0, 2, 0, 0, 0, 9, 0, 0, 0, 0,
-        ],
-    )
-}
-
-/// A padding count that is no multiple of 4.
-pub fn a_padding_count_of_3(alloc: Global) -> Option<RtcpFault>
-    ensures { result ≡ Some RtcpFault.Padding }
-{
-    refused_as(
-        alloc,
-        RtcpFault::Padding,
-        &[
-            0x80, 201, 0, 1, 0, 0, 0, 9, 0xa0, 201, 0, 2, 0, 0, 0, 9, 0, 0, 0, 3,
-        ],
-    )
-}
-
-/// Nothing follows the common header, so there is no padding.
-pub fn padding_of_nothing(alloc: Global) -> Option<RtcpFault>
-    ensures { result ≡ Some RtcpFault.Padding }
-{
-    refused_as(
-        alloc,
-        RtcpFault::Padding,
-        &[0x80, 201, 0, 1, 0, 0, 0, 9, 0xa0, 202, 0, 0],
-    )
-}
-
 /// Padding on a packet that isn't the last.
 pub fn padding_before_the_end(alloc: Global) -> Option<RtcpFault>
     ensures { result ≡ Some RtcpFault.Padding }
@@ -118,41 +41,6 @@ pub fn padding_before_the_end(alloc: Global) -> Option<RtcpFault>
     )
 }
 
-/// A leave without the source that it counts.
-pub fn a_source_is_missing(alloc: Global) -> Option<RtcpFault>
-    ensures { result ≡ Some RtcpFault.Body }
-{
-    refused_as(
-        alloc,
-        RtcpFault::Body,
-        &[0x80, 201, 0, 1, 0, 0, 0, 9, 0x81, 203, 0, 0],
-    )
-}
-
-/// A reason of four octets, of which three are there.
-pub fn a_reason_is_cut(alloc: Global) -> Option<RtcpFault>
-    ensures { result ≡ Some RtcpFault.Body }
-{
-    refused_as(
-        alloc,
-        RtcpFault::Body,
-        &[
-            0x80, 201, 0, 1, 0, 0, 0, 9, 0x81, 203, 0, 2, 0, 0, 0, 7, 4, 97, 98, 99,
-        ],
-    )
-}
-
-/// An APP without its name.
-pub fn an_app_without_its_name(alloc: Global) -> Option<RtcpFault>
-    ensures { result ≡ Some RtcpFault.Body }
-{
-    refused_as(
-        alloc,
-        RtcpFault::Body,
-        &[0x80, 201, 0, 1, 0, 0, 0, 9, 0x80, 204, 0, 1, 0, 0, 0, 9],
-    )
-}
-
 /// A NACK without words.
 pub fn a_nack_without_words(alloc: Global) -> Option<RtcpFault>
     ensures { result ≡ Some RtcpFault.Body }
@@ -163,27 +51,5 @@ pub fn a_nack_without_words(alloc: Global) -> Option<RtcpFault>
         &[
             0x80, 201, 0, 1, 0, 0, 0, 9, 0x81, 205, 0, 2, 0, 0, 0, 9, 0, 0, 0, 101,
         ],
-    )
-}
-
-/// A PLI without the source that it is about.
-pub fn a_pli_without_its_media(alloc: Global) -> Option<RtcpFault>
-    ensures { result ≡ Some RtcpFault.Body }
-{
-    refused_as(
-        alloc,
-        RtcpFault::Body,
-        &[0x80, 201, 0, 1, 0, 0, 0, 9, 0x81, 206, 0, 1, 0, 0, 0, 9],
-    )
-}
-
-/// A block is counted, and none is there.
-pub fn a_block_is_missing(alloc: Global) -> Option<RtcpFault>
-    ensures { result ≡ Some RtcpFault.Body }
-{
-    refused_as(
-        alloc,
-        RtcpFault::Body,
-        &[0x80, 201, 0, 1, 0, 0, 0, 9, 0x81, 201, 0, 1, 0, 0, 0, 9],
     )
 }

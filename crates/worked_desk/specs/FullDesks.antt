@@ -1,8 +1,8 @@
 -- Desks with as many rows of a kind as there may be, or one less.
-use Rattle.std.specs.Prelude.{ℕ, zero, suc, ◌+◌, ◌-◌, ◌/◌, ◌%◌, List, [], ◌∷◌, ◌++◌}
+use Rattle.std.specs.Prelude.{ℕ, zero, suc, ◌+◌, ◌%◌, List, [], ◌∷◌}
 use Rattle.desk_rows.specs.declared.row.Member.{Member}
 use Rattle.desk_rows.specs.Desk.{Desk}
-use Rattle.worked_desk.specs.Rows.{member, room, video, audio, slot}
+use Rattle.worked_desk.specs.Rows.{member, room, audio}
 
 -- so many in a row, from this number on
 abbrev pub from_on : {A : Type 0} → (ℕ → A) → ℕ → ℕ → List A
@@ -20,22 +20,6 @@ of_rooms n = record { bridge_ssrc = 1; members = []; others = from_on room 1 n }
 -- members from number 10 on
 abbrev pub of_members : ℕ → Desk
 of_members n = record { bridge_ssrc = 1; members = members_of n; others = room 1 ∷ [] }
-
--- sources of member 10, the first 64 of them audio
-abbrev pub of_sources : ℕ → Desk
-of_sources n = record {
-  bridge_ssrc = 1;
-  members = members_of 1;
-  others = room 1 ∷ (from_on (λ ssrc. audio ssrc 10) 20000 64 ++ from_on (λ ssrc. video ssrc 10) 20064 (n - 64));
-}
-
--- slots, 16 of each of 256 members; member 266 has none
-abbrev pub of_slots : ℕ → Desk
-of_slots n = record {
-  bridge_ssrc = 1;
-  members = members_of 257;
-  others = room 1 ∷ from_on (λ i. slot (20000 + i) (10 + i / 16) (i % 16)) 0 n;
-}
 
 -- audio sources of the two members of room 1, from SSRC 101 on; member 12 is in room 2
 abbrev pub of_audio : ℕ → Desk

@@ -7,11 +7,12 @@ ghost use Rattle.worked_desk.specs.TwoRooms.{two_rooms, twelve};
 ghost use Rattle.worked_desk.specs.Edits.{at, six_lists};
 ghost use Rattle.worked_desk.specs.DeskCases.{changing_nothing, exchanging_members, exchanging_others};
 
-use desk_rows::{Edit, Part, Placed, Replaced, Row, Rows};
+use desk_rows::{Edit, Part, Placed, Replaced, Row};
+use reversible_rows::ReversibleRows;
 use std::alloc::{AllocError, Global};
 use undo_log::Reversible;
 
-pub fn absorb(rows: &mut Rows, edit: &Edit)
+pub fn absorb(rows: &mut ReversibleRows, edit: &Edit)
     requires { rows.old ≡ two_rooms }
     ensures changing_nothing { Answers changing_nothing edit.now rows.new }
     ensures exchanging_members { Answers exchanging_members edit.now rows.new }
@@ -21,13 +22,13 @@ pub fn absorb(rows: &mut Rows, edit: &Edit)
 }
 
 /// What is taken comes back to its place, what is put goes, and what is replaced comes back.
-pub fn there_and_back(rows: &mut Rows, edit: Edit)
+pub fn there_and_back(rows: &mut ReversibleRows, edit: Edit)
     requires rows { rows.old ≡ two_rooms }
     requires edit { edit ≡ six_lists }
     ensures { rows.new ≡ two_rooms }
 {
     rows.absorb(&edit);
-    rows.absorb(&Rows::invert(edit));
+    rows.absorb(&ReversibleRows::invert(edit));
 }
 
 /// Turned round, an edit puts what it took and takes what it put, and old and new change sides.
@@ -37,7 +38,7 @@ pub fn invert(edit: Edit) -> Edit
     ensures put { result.put ≡ record { members = at 2 twelve ∷ []; others = video 103 12 ∷ slot 502 12 0 ∷ [] } }
     ensures replaced { result.replaced ≡ record { old = slot 501 11 3 ∷ []; new = slot 501 11 0 ∷ [] } }
 {
-    Rows::invert(edit)
+    ReversibleRows::invert(edit)
 }
 
 /// A copy has all six lists.
@@ -45,7 +46,7 @@ pub fn copy(alloc: Global, edit: &Edit) -> Result<Edit, AllocError>
     requires { edit.now ≡ six_lists }
     ensures { IfOk result (λ copied. copied ≡ six_lists) }
 {
-    <Rows as Reversible>::copy(alloc, edit)
+    <ReversibleRows as Reversible>::copy(alloc, edit)
 }
 
 /// An edit is put together of its parts.

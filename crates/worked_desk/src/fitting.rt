@@ -8,10 +8,11 @@ ghost use Rattle.worked_desk.specs.FitCases.{taking, taking_members, putting_mem
 ghost use Rattle.worked_desk.specs.FitCases.{putting_subs, replacing, moving};
 ghost use Rattle.worked_desk.specs.FitCases.{putting_a_65th_room, putting_a_65th_source};
 
-use desk_rows::{Edit, Rows};
+use desk_rows::Edit;
+use reversible_rows::ReversibleRows;
 use undo_log::Reversible;
 
-pub fn fits(rows: &mut Rows, edit: &Edit) -> bool
+pub fn fits(rows: &mut ReversibleRows, edit: &Edit) -> bool
     requires { rows.old ≡ two_rooms }
     ensures taking { Answers taking edit.now result }
     ensures taking_members { Answers taking_members edit.now result }
@@ -25,14 +26,14 @@ pub fn fits(rows: &mut Rows, edit: &Edit) -> bool
     rows.fits(edit)
 }
 
-pub fn fits_among_64_rooms(rows: &mut Rows, edit: &Edit) -> bool
+pub fn fits_among_64_rooms(rows: &mut ReversibleRows, edit: &Edit) -> bool
     requires { rows.old ≡ of_rooms 64 }
     ensures { Answers putting_a_65th_room edit.now result }
 {
     rows.fits(edit)
 }
 
-pub fn fits_beside_64_audio_sources(rows: &mut Rows, edit: &Edit) -> bool
+pub fn fits_beside_64_audio_sources(rows: &mut ReversibleRows, edit: &Edit) -> bool
     requires { rows.old ≡ of_audio 64 }
     ensures { Answers putting_a_65th_source edit.now result }
 {

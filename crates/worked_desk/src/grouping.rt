@@ -15,27 +15,32 @@ ghost use Rattle.worked_desk.specs.GroupCases.{grouping, grouping_at_once, group
 
 use desk_edit::{Command, GroupRefusal, Reason, Refusal, plan_group, size_refused};
 use desk_rows::{Edit, Rows};
+use reversible_rows::ReversibleRows;
 use std::alloc::Global;
 use undo_log::{Edits, History, Listed, Reversible, push_then_undo};
 
 /// Carries a group out as one entry of a history, and tells whether it did.
 pub fn carry_out_all(
     alloc: Global,
-    history: &mut History<Listed<Rows>>,
+    history: &mut History<Listed<ReversibleRows>>,
     commands: &[Command],
 ) -> bool
     ensures state { result ≡ true → history.new.state ≡ desk_after_all history.old.state commands.now }
     ensures done { result ≡ true → length history.new.done ≡ length history.old.done + 1 }
     ensures refused { result ≡ false → history.new.state ≡ history.old.state }
 {
-    match plan_group(alloc, history.state().inner(), commands) {
+    match plan_group(alloc, history.state().inner().rows(), commands) {
         Ok(edits) => history.push(Edits::new(edits)).is_ok(),
         Err(_) => false,
     }
 }
 
 /// A member goes and another comes in its stead: one call, one entry of the history.
-pub fn hands_over(alloc: Global, history: &mut History<Listed<Rows>>, commands: &[Command]) -> bool
+pub fn hands_over(
+    alloc: Global,
+    history: &mut History<Listed<ReversibleRows>>,
+    commands: &[Command],
+) -> bool
     requires desk { history.old.state ≡ two_rooms }
     requires commands { commands.now ≡ handing_over }
     ensures desk { result ≡ true → history.new.state ≡ handed_over }
@@ -47,14 +52,14 @@ pub fn hands_over(alloc: Global, history: &mut History<Listed<Rows>>, commands: 
 /// One undo takes the whole group back, whatever its commands.
 pub fn comes_back_as_one(
     alloc: Global,
-    history: &mut History<Listed<Rows>>,
+    history: &mut History<Listed<ReversibleRows>>,
     commands: &[Command],
 ) -> bool
     requires desk { history.old.state ≡ two_rooms }
     ensures desk { history.new.state ≡ two_rooms }
     ensures done { history.new.done ≡ history.old.done }
 {
-    match plan_group(alloc, history.state().inner(), commands) {
+    match plan_group(alloc, history.state().inner().rows(), commands) {
         Ok(edits) => push_then_undo(history, Edits::new(edits)).is_ok(),
         Err(_) => false,
     }
@@ -107,7 +112,7 @@ pub fn has_a_good_size(count: usize) -> bool
 }
 
 /// A list of edits is absorbed as a whole or not at all.
-pub fn absorbs_a_list(state: &mut Listed<Rows>, edits: &Edits<Edit>)
+pub fn absorbs_a_list(state: &mut Listed<ReversibleRows>, edits: &Edits<Edit>)
     requires { state.old ≡ two_rooms }
     ensures { Answers absorbing_lists edits.now state.new }
 {
@@ -115,7 +120,7 @@ pub fn absorbs_a_list(state: &mut Listed<Rows>, edits: &Edits<Edit>)
 }
 
 /// Whether a list fits is asked without a trace.
-pub fn asks_a_list(state: &mut Listed<Rows>, edits: &Edits<Edit>) -> bool
+pub fn asks_a_list(state: &mut Listed<ReversibleRows>, edits: &Edits<Edit>) -> bool
     requires { state.old ≡ two_rooms }
     ensures twice { edits.now ≡ puts [] (room 3 ∷ []) ∷ puts [] (room 3 ∷ []) ∷ [] → result ≡ false }
     ensures once { edits.now ≡ puts [] (room 3 ∷ []) ∷ [] → result ≡ true }
@@ -129,5 +134,5 @@ pub fn turns_a_list(edits: Edits<Edit>) -> Edits<Edit>
     requires { edits ≡ puts [] (room 3 ∷ []) ∷ takes [] (sub 501 101 ∷ []) ∷ [] }
     ensures { result ≡ puts [] (sub 501 101 ∷ []) ∷ takes [] (room 3 ∷ []) ∷ [] }
 {
-    <Listed<Rows> as Reversible>::invert(edits)
+    <Listed<ReversibleRows> as Reversible>::invert(edits)
 }

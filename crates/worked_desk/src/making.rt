@@ -14,14 +14,13 @@ use desk_edit::{Command, Refusal, dependent_rows_go, plan};
 use desk_rows::{Codec, Media, Member, Room, Rows, Slot, Source, Sub};
 use rtp_codec::Address;
 use std::alloc::Global;
-use undo_log::Reversible;
 
 /// Carries a command out.
 pub fn carry_out(alloc: Global, rows: &mut Rows, command: &Command) -> Result<(), Refusal>
     ensures { OnOk result (rows.new ≡ desk_after rows.old command.now) }
 {
     let edit = plan(alloc, rows, command)?;
-    rows.absorb(&edit);
+    rows.absorb_fitting(&edit);
     Ok(())
 }
 

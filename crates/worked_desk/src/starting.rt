@@ -7,26 +7,6 @@ use std::alloc::Global;
 use std::sync::Wait;
 use versions::{LaneReader, Opened, Publisher, VersionFault, start};
 
-pub fn refuses_no_reader<R: Wait>(
-    alloc: Global,
-    rt: &R,
-    rows: Rows,
-) -> Result<(Publisher, Vec<LaneReader>), VersionFault>
-    ensures { result ≡ Err VersionFault.Places }
-{
-    start(alloc, rt, Opened::new(), rows, 0)
-}
-
-pub fn refuses_eighteen_readers<R: Wait>(
-    alloc: Global,
-    rt: &R,
-    rows: Rows,
-) -> Result<(Publisher, Vec<LaneReader>), VersionFault>
-    ensures { result ≡ Err VersionFault.Places }
-{
-    start(alloc, rt, Opened::new(), rows, 18)
-}
-
 /// Version 0 is published from the start on, and has no list.
 pub fn starts_with_seventeen_readers<R: Wait>(
     alloc: Global,

@@ -2,17 +2,14 @@
 
 ghost use Rattle.std.specs.Prelude.{◌≡◌, ◌+◌, length, [], IfSome};
 ghost use mathlib.Core.List.{IsPrefix};
-ghost use Rattle.desk_rows.specs.Desk.{blank as no_rows};
 ghost use Rattle.desk_edit.specs.Asked.{asked_by};
 ghost use Rattle.operator_desk.specs.LegalLogs.{IsLegal};
 ghost use Rattle.operator_desk.specs.Seats.{new_seat};
 ghost use Rattle.worked_desk.specs.Has.{Has};
 
-use desk_edit::{Call, Command};
-use desk_rows::Room;
-use operator_desk::{Answer, DeskBrand, DeskNames, Log, LogEntry, Seat, SharedDesk};
+use desk_edit::Call;
+use operator_desk::{Answer, DeskBrand, LogEntry, Seat, SharedDesk};
 use std::alloc::Global;
-use std::io;
 use std::sync::Wait;
 use std::thread::{Threads, join};
 
@@ -23,39 +20,9 @@ struct Post<'d, 'a, H: DeskBrand> {
     seat: Seat<'a, H>,
 }
 
-/// Two operators add a room each at the same time.
-pub fn two_at_once<H: DeskBrand + Send + Sync, R: Threads + Wait + Print + Sync>(
-    rt: &R,
-    alloc: Global,
-    log: &Log,
-    names: DeskNames,
-) -> io::Result<()>
-    requires log { log.now ≡ H.cells }
-    requires ledger { (names.ledger.name ≡ H.name) × (names.ledger.parts ≡ H.parts) }
-    requires publisher { names.publisher ≡ H.publisher }
-    requires start { no_rows 1 ≡ H.start }
-    requires seats { (2 ≡ H.seats) × (H.seats ≡ H.parts) }
-{
-    match SharedDesk::<H>::new(rt, alloc, log, names, 1, 2, 1) {
-        Ok((desk, mut seats, _readers)) => {
-            let two = seats.pop().unwrap();
-            let one = seats.pop().unwrap();
-            match by_two(rt, alloc, desk, one, two, add_room(1), add_room(2)) {
-                Some(log) => println!(rt; "both, {} calls", log.len()),
-                None => println!(rt; "not both"),
-            }
-        }
-        Err(_) => println!(rt; "no desk"),
-    }
-}
-
-fn add_room(room: u32) -> Call {
-    Call::Apply(Command::AddRoom(Room { room, rate: 8_000 }))
-}
-
 /// Two operators make a call each. Where both are accepted, the log is legal and has just these two, each by its
 /// operator.
-fn by_two<'a, H: DeskBrand + Send + Sync, R: Threads + Wait + Sync>(
+pub fn by_two<'a, H: DeskBrand + Send + Sync, R: Threads + Wait + Sync>(
     rt: &R,
     alloc: Global,
     desk: SharedDesk<'a, H>,

@@ -1,6 +1,6 @@
 //! Mu-law samples.
 
-ghost use Rattle.std.specs.Prelude.{◌≡◌, ℤ, pos, negsuc};
+ghost use Rattle.std.specs.Prelude.{◌≡◌, ℤ, pos};
 
 use sample_codecs::{decode_sample, encode_again, encode_sample};
 
@@ -9,13 +9,6 @@ pub fn silence_is_all_ones() -> u8
     ensures { result ≡ 255 }
 {
     encode_sample(0)
-}
-
-/// The least magnitude below 0 has the code of the negative zero.
-pub fn minus_1_is_the_negative_zero() -> u8
-    ensures { result ≡ 127 }
-{
-    encode_sample(-1)
 }
 
 /// A step of the first segment.
@@ -39,32 +32,11 @@ pub fn the_loudest_sample_is_clipped() -> u8
     encode_sample(32767)
 }
 
-/// So is the loudest one below 0.
-pub fn the_loudest_sample_below_0_is_clipped() -> u8
-    ensures { result ≡ 0 }
-{
-    encode_sample(-32768)
-}
-
 /// A code gives the middle of its interval.
 pub fn a_code_gives_the_middle_of_its_interval() -> i16
     ensures { result ≡ pos 988 }
 {
     decode_sample(0xce)
-}
-
-/// The loudest code.
-pub fn the_loudest_code() -> i16
-    ensures { result ≡ pos 32124 }
-{
-    decode_sample(0x80)
-}
-
-/// The loudest code below 0.
-pub fn the_loudest_code_below_0() -> i16
-    ensures { result ≡ negsuc 32123 }
-{
-    decode_sample(0)
 }
 
 /// Both zeros are 0.
@@ -80,11 +52,4 @@ pub fn a_code_stays() -> u8
     ensures { result ≡ 206 }
 {
     encode_again(0xce)
-}
-
-/// The negative zero becomes the positive one.
-pub fn the_negative_zero_does_not() -> u8
-    ensures { result ≡ 255 }
-{
-    encode_again(0x7f)
 }

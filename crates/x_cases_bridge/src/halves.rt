@@ -6,6 +6,7 @@ use bridge_core::Reply;
 use desk_calls::Desk;
 use desk_edit::{Call, Refusal};
 use desk_rows::Rows;
+use reversible_rows::ReversibleRows;
 use script_text::{parse_desk, print_rows};
 use std::alloc::AllocError;
 use std::io;
@@ -17,7 +18,7 @@ use x_refusing::Refusing;
 struct Halves<'a> {
     heap: &'a Refusing,
     desk: Desk<&'a Refusing>,
-    follower: Listed<Rows<&'a Refusing>>,
+    follower: Listed<ReversibleRows<&'a Refusing>>,
 }
 
 impl<'a> Halves<'a> {
@@ -26,7 +27,7 @@ impl<'a> Halves<'a> {
         Ok(Self {
             heap,
             desk: Desk::new(heap, Rows::new(heap, 1)?),
-            follower: Listed::new(Rows::new(heap, 1)?),
+            follower: Listed::new(ReversibleRows::new(Rows::new(heap, 1)?)),
         })
     }
 
@@ -65,7 +66,7 @@ impl<'a> Halves<'a> {
     /// Appends the rows of the desk, and those of the other.
     fn print(&self, text: &mut Vec<u8, &'a Refusing>) -> Result<(), AllocError> {
         print_rows(self.desk.rows(), self.desk.version(), text)?;
-        print_rows(self.follower.inner(), self.desk.version(), text)
+        print_rows(self.follower.inner().rows(), self.desk.version(), text)
     }
 }
 

@@ -46,6 +46,24 @@ pub fn report_timer(plan: Plan) -> ReportTimer {
     }
 }
 
+/// Lanes that are given their first item.
+fn begun_lanes(alloc: Global, count: u32) -> Result<Vec<LaneModel>, Difference> {
+    let mut lanes = Vec::new(alloc);
+    for lane in 0..count {
+        let mut own = LaneModel::new(alloc, lane);
+        own.give(Item::Renew)?;
+        lanes.push(own)?;
+    }
+    Ok(lanes)
+}
+
+/// What takes datagrams, and nothing has come yet.
+fn begun_front(alloc: Global) -> Result<(Intake, RateLimiter), Difference> {
+    let limiter = RateLimiter::new(alloc)?;
+    let intake = Intake::new(alloc, settings())?;
+    Ok((intake, limiter))
+}
+
 /// A bridge of one thread.
 #[derive(Drop)]
 pub struct OneThread {
@@ -75,25 +93,24 @@ pub struct OneThread {
 impl OneThread {
     /// A bridge without rooms.
     pub fn new(alloc: Global, plan: Plan) -> Result<Self, Difference> {
+        let cost = pli_octets(alloc, &settings())?;
         let Ok(core) = Core::new(alloc, plan.lanes, settings()) else {
             return Err(Difference::Begin);
         };
-        let mut lanes = Vec::new(alloc);
-        for lane in 0..plan.lanes {
-            lanes.push(LaneModel::new(alloc, lane))?;
-        }
-        let mut model = Self {
+        let lanes = begun_lanes(alloc, plan.lanes)?;
+        let (intake, limiter) = begun_front(alloc)?;
+        Ok(Self {
             alloc,
             desk: PlainDesk { core, accepted: 0 },
             lanes,
             seats: u64::from(SEATS),
             busy: 0,
             is_stopped: false,
-            intake: Intake::new(alloc, settings())?,
-            limiter: RateLimiter::new(alloc)?,
+            intake,
+            limiter,
             pictures: PictureRequests::new(alloc),
             version: 0,
-            cost: pli_octets(alloc, &settings())?,
+            cost,
             ticks: Ticks {
                 start: START,
                 had: 0,
@@ -101,9 +118,7 @@ impl OneThread {
             ticked: START,
             reports: report_timer(plan),
             tried: Vec::new(alloc),
-        };
-        model.give(&Item::Renew)?;
-        Ok(model)
+        })
     }
 
     /// Lets a lane handle items up to the first one that gives datagrams, if there is one. Returns how many that

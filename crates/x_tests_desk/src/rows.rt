@@ -1,11 +1,8 @@
 //! An edit of a desk as large as there may be.
 
-use desk_rows::{
-    Codec, Edit, MAX_MEMBERS, MAX_SLOTS, Member, Part, Placed, Replaced, Row, Rows, Sub,
-};
+use desk_rows::{Codec, Edit, MAX_MEMBERS, MAX_SLOTS, Member, Part, Placed, Replaced, Row, Sub};
 use rtp_codec::Address;
 use std::test::Fail;
-use undo_log::Reversible;
 
 /// A member of room 7 at the place of its number.
 fn placed(place: u16) -> Placed {
@@ -51,6 +48,6 @@ fn the_largest_edit_is_copied(rt: HostRuntime) -> Result<(), Fail> {
         put: Part::none(alloc),
         replaced: Replaced::new(old, new),
     };
-    assert!(rt; <Rows as Reversible>::copy(alloc, &edit).is_ok());
+    assert!(rt; Edit::copy(&edit, alloc).is_ok());
     Ok(())
 }

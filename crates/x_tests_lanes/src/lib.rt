@@ -5,19 +5,7 @@
 #[cfg(test)]
 mod beginning;
 #[cfg(test)]
-mod beside;
-#[cfg(test)]
-mod cast;
-#[cfg(test)]
-mod closing;
-#[cfg(test)]
 mod counts;
-#[cfg(test)]
-mod feed;
-#[cfg(test)]
-mod full_rings;
-#[cfg(test)]
-mod full_sink;
 #[cfg(test)]
 mod gathering;
 #[cfg(test)]
@@ -28,10 +16,6 @@ mod items;
 mod lanes;
 #[cfg(test)]
 mod list_sink;
-#[cfg(test)]
-mod many;
-#[cfg(test)]
-mod one_thread;
 #[cfg(test)]
 mod paces;
 #[cfg(test)]
@@ -58,5 +42,3 @@ mod together;
 mod told;
 #[cfg(test)]
 mod unsignalled;
-#[cfg(test)]
-mod waiting;

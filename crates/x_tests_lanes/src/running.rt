@@ -10,7 +10,6 @@ use bridge_core::Egress;
 use media_workers::{Bridge, Lane, LaneEnd, Pace, Parcel, PublisherName, Sink, StartFault};
 use rtrb::Producer;
 use std::alloc::Global;
-use std::mem;
 use std::sync::Wait;
 use std::thread::Threads;
 
@@ -85,11 +84,6 @@ impl<N: PublisherName, P: Pace, S: Sink> Running<N, P, S> {
     /// The next egress of any lane.
     pub fn pop(&mut self) -> Option<(u32, Egress)> {
         self.rings.pop()
-    }
-
-    /// The rings leave it.
-    pub fn take_rings(&mut self, alloc: Global) -> Rings {
-        mem::replace(&mut self.rings, Rings::none(alloc))
     }
 
     /// What the lanes send.

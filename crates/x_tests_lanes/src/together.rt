@@ -4,8 +4,8 @@ ghost use Rattle.std.specs.Prelude.{◌≡◌, All};
 ghost use Rattle.desk_rows.specs.Desk.{blank as no_rows};
 ghost use Rattle.versions.specs.Published.{new_reader};
 
-use crate::beginning::begun;
-use crate::many::tell_all;
+use crate::beginning::begun_with;
+use crate::items::FitItem;
 use crate::paces::Together;
 use crate::rows::{FIRST, SECOND, frame, set_up};
 use crate::running::{Ends, Running};
@@ -23,6 +23,24 @@ use std::test::*;
 use std::thread;
 use std::thread::Threads;
 use versions::LaneReader;
+
+/// Gives each lane an item, which they share, with the notice. False where one isn't accepted.
+fn tell_all<N: PublisherName, P: Pace>(
+    running: &mut Running<N, P>,
+    item: &FitItem,
+    told: &Told<N>,
+) -> bool {
+    for lane in 0..running.lanes() {
+        let is_given = match item.again() {
+            Some(share) => running.push(lane, share.with(told.again())).is_ok(),
+            None => false,
+        };
+        if !is_given {
+            return false;
+        }
+    }
+    true
+}
 
 /// The next two egresses with their lanes, for which it waits.
 fn next_two<N: PublisherName, P: Pace, R: Wait>(
@@ -48,9 +66,11 @@ pub fn next<N: PublisherName, P: Pace, R: Wait>(
     unreachable!()
 }
 
-/// Ends the second lane alone, and waits for it. Says whether nothing is given from then on.
-fn ends_second<N: PublisherName, P: Pace, R: Wait>(rt: &R, running: &mut Running<N, P>) -> bool {
-    running.push_end(rt, 1);
+/// Waits until the second lane has ended. Says whether it alone has, and nothing is given from then on.
+fn second_has_ended<N: PublisherName, P: Pace, R: Wait>(
+    rt: &R,
+    running: &mut Running<N, P>,
+) -> bool {
     for _ in rt.forever() {
         if running.ended(1) {
             return !running.ended(0) && running.pop().is_none();
@@ -75,7 +95,8 @@ fn are_both_handled<N: PublisherName>(ends: &Ends<N>) -> bool {
     }
 }
 
-/// Lets both lanes handle the frame. The second sends its packets.
+/// Lets both lanes handle the frame. The second sends its packets, of which its ring holds one, and is asked to end
+/// before they are taken.
 fn are_together<N: PublisherName, P: Pace, R: Threads + Wait>(
     rt: &R,
     alloc: Global,
@@ -91,8 +112,9 @@ fn are_together<N: PublisherName, P: Pace, R: Threads + Wait>(
         running.close(rt);
         return false;
     }
+    running.push_end(rt, 1);
     let ((lane, first), (other, second)) = next_two(rt, &mut running);
-    let is_ended = ends_second(rt, &mut running);
+    let is_ended = second_has_ended(rt, &mut running);
     let ends = running.close(rt);
     is_ended
         && lane == 1
@@ -132,7 +154,7 @@ fn are_started<H: DeskBrand + Send + Sync + 'static, R: Threads + Wait + Copy + 
     let Some(paces) = paces(alloc) else {
         return false;
     };
-    match begun::<H, Together, R>(rt, alloc, readers, paces) {
+    match begun_with::<H, Together, R>(rt, alloc, readers, paces, 1) {
         Some(running) => are_together(rt, alloc, running, told),
         None => false,
     }
@@ -165,7 +187,8 @@ fn scene<H: DeskBrand + Send + Sync + 'static, R: Threads + Wait + Copy + Drop +
 }
 
 /// Two lanes run at once: the pace of each waits until the other's was asked. Each handles the frame, and the lane of
-/// the stream's number sends its two packets. That lane can be ended before the other.
+/// the stream's number sends its two packets, although its ring holds one: it waits until one is taken. Asked to end
+/// meanwhile, it ends behind both, and before the other lane.
 #[test]
 fn lanes_run_together(rt: HostRuntime) -> Result<(), Fail> {
     let alloc = rt.alloc();

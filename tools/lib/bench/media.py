@@ -1,4 +1,4 @@
-"""Times frames, NACKs, datagrams and sound in the core, or counts their instructions.
+"""Times frames, NACKs, datagrams, sound and entries in the core, or counts their instructions.
 
 A case is run N times as often as fills S seconds, and as many times twice as often. Its time is the least of the longer
 runs less the least of the shorter ones, over the times between them, in processor time: making the desk and filling the
@@ -15,7 +15,7 @@ import tempfile
 
 from lib.shared import add_measuring, add_program, compiled, instructions, processor_time, release_program
 
-NEEDS = "the program of the crate x_bench_media, `cc`, minutes; valgrind to count instructions"
+NEEDS = "the program of the crate x_bench, `cc`, minutes; valgrind to count instructions"
 
 HERE = pathlib.Path(__file__).resolve().parent
 RECEIVERS = 16
@@ -73,6 +73,7 @@ ROWS = {
     "audio packet put to its source, 64 sources at 44100 Hz": put(*MUSIC, 64),
     "160 samples encoded": row("encode 1 1"),
     "160 octets decoded": row("decode 1 1"),
+    "enter and leave of a desk of 4096 slots": row("enter 4096 1"),
 }
 # The floor of a row, by its members and the samples of a tick.
 FLOORS = {
@@ -83,7 +84,7 @@ FLOORS = {
 
 
 def options(parser):
-    add_program(parser, "x_bench_media")
+    add_program(parser, "x_bench")
     add_measuring(parser, 7)
     how = parser.add_mutually_exclusive_group()
     how.add_argument("--seconds", type=float, default=0.5, help="how long a run takes at least (%(default)s)")
@@ -135,7 +136,7 @@ def run(args):
     floors = {name: case for name, case in FLOORS.items() if name in rows}
     cases = list(dict.fromkeys([case for made, _ in rows.values() for case in made] + list(floors.values())))
     with tempfile.TemporaryDirectory() as folder:
-        programs = release_program(args.binary, "x_bench_media"), compiled(HERE / "tick.c", folder)
+        programs = release_program(args.binary, "x_bench"), compiled(HERE / "tick.c", folder)
         each = costs(measure, programs, cases, runs, least)
     yardstick = None
     for name, (made, units) in rows.items():

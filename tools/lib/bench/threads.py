@@ -1,6 +1,6 @@
 """Measures desks and lanes on threads, each beside a floor in the same run.
 
-The program x_bench_threads runs N times. It measures each figure and its floor in turn, some rounds each, and tells the
+The program x_bench runs N times. It measures each figure and its floor in turn, some rounds each, and tells the
 least times as a ratio. A row has the median ratio, in brackets the least and the most, and the median time. The floors
 are
   a call at a shared desk       the same call at the desk of a core on one thread
@@ -21,7 +21,7 @@ import subprocess
 
 from lib.shared import add_program, fail, release_program
 
-NEEDS = "the program of the crate x_bench_threads, minutes; four cores"
+NEEDS = "the program of the crate x_bench, minutes; four cores"
 
 LINE = re.compile(r"(?P<name>.*): (?P<ratio>[\d.]+) \((?P<time>[\d.]+) ns, floor (?P<floor>[\d.]+) ns\)")
 
@@ -36,7 +36,7 @@ GOALS = {
 
 
 def options(parser):
-    add_program(parser, "x_bench_threads")
+    add_program(parser, "x_bench")
     parser.add_argument("--runs", type=int, default=5, help="how many runs (%(default)s)")
 
 
@@ -63,7 +63,7 @@ def span(nanoseconds):
 
 
 def run(args):
-    program = release_program(args.binary, "x_bench_threads")
+    program = release_program(args.binary, "x_bench")
     found = {}
     for _ in range(args.runs):
         for name, time, ratio in measured(program):

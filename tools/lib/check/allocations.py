@@ -17,11 +17,11 @@ from lib.shared import CRATES, crates
 NEEDS = "nothing"
 
 PROGRAMS = {
-    "confbridge", "desk_page", "worked_desk",
-    "x_cases_codecs", "x_cases_sources", "x_cases_scripts", "x_cases_bridge", "x_cases_front", "x_cases_page",
+    "confbridge", "desk_page",
+    "x_cases_files", "x_cases_bridge", "x_cases_front", "x_cases_page",
 }  # fmt: skip
 # How the names of crates begin that have no function of a library.
-NO_LIBRARY = ("worked_", "x_tests_", "x_bench_")
+NO_LIBRARY = ("worked_", "x_tests_", "x_bench")
 
 FN = re.compile(r"(?P<vis>pub(?:\(crate\))? |)(?:const )?fn (?P<name>\w+)\s*(?P<generics><[^(]*>)?\(")
 IMPL = re.compile(
@@ -101,7 +101,7 @@ class Sources:
         depends = {name: [other for other in others if (CRATES / other).is_dir()] for name, others in crates().items()}
         self.sees = {name: {name, *others} for name, others in depends.items()}
         for crate in depends:
-            for path in sorted((CRATES / crate / "src").glob("*.rt")):
+            for path in sorted((CRATES / crate / "src").glob("**/*.rt")):
                 self.read(crate, path.name, IGNORED.sub("", path.read_text()))
         self.by_name = defaultdict(list)
         for f in self.functions:

@@ -1,9 +1,9 @@
 """Tries the cases of scripts, calls, codecs and sockets.
 
-The programs of x_cases_scripts, x_cases_bridge and x_cases_codecs are built without proofs. Sections that take them
-too long are left out: those that fill the desk's tables and its log, and those of many datagrams and random calls. A
-program that doesn't answer within the toolchain's time, as on a busy machine, says nothing of its cases: this is
-printed, and is no failure.
+The programs of x_cases_files and x_cases_bridge are built without proofs. Sections of scripts that take them too long
+are left out: those that fill the desk's tables and its log, and those of many datagrams and random calls. A program
+that doesn't answer within the toolchain's time, as on a busy machine, says nothing of its cases: this is printed, and
+is no failure.
 
 Cases by sums are scripts too long to be kept. Each is a line of sums.txt beside this tool, as `tools/bridge make script
 --sum` prints it: the SHA-256 of the output, its octets, and the arguments with which `make script` makes the script.
@@ -19,13 +19,14 @@ import functools
 import hashlib
 import pathlib
 import subprocess
+import tempfile
 
 from lib.make import script
-from lib.shared import CRATES, add_program, found_program, release_program, replay, tried
+from lib.shared import CRATES, add_program, case_files, found_program, release_program, replay, tried
 
 NEEDS = "`rt`, three minutes; with BINARY that program, a minute"
 
-# Sections of crates/x_cases_scripts/stdin that take too long.
+# Sections of the scripts of x_cases_files that take too long.
 LONG = {"no desk", "many datagrams", "large requests and reports", "random calls", "lines of 8,388,608 octets"}
 # The lanes of the bridges of x_cases_front whose case doesn't say how many. All are tried side by side.
 LANES = [1, 2, 4, 16]
@@ -50,19 +51,29 @@ def short_sections(text):
     return "".join(kept)
 
 
-def are_good(crate, text):
-    """Whether a program finds no case that differs. Prints what it says."""
+def are_good(crate, text, kinds=""):
+    """Whether a program finds no case that differs. Prints what it says of these kinds of cases."""
     run = tried(crate, [], text)
     said = run.stdout + run.stderr
     counts = [line for line in said.splitlines() if line.endswith(" cases, 0 differ")]
     if counts:
-        print(f"{crate}: {counts[-1]}")
+        print(f"{crate}{kinds}: {counts[-1]}")
     elif "did not end within the time limit" in said:
-        print(f"{crate}: no answer in time")
+        print(f"{crate}{kinds}: no answer in time")
     else:
         print(said)
         return False
     return True
+
+
+def are_scripts_good():
+    """Whether x_cases_files finds no script that differs, the long sections apart."""
+    with tempfile.TemporaryDirectory() as folder:
+        paths = []
+        for path in case_files("scripts"):
+            paths.append(pathlib.Path(folder) / path.name)
+            paths[-1].write_text(short_sections(path.read_text()))
+        return are_good("x_cases_files", "".join(f"scripts {path}\n" for path in paths), " of scripts")
 
 
 def said_on_lanes(program, lanes):
@@ -89,12 +100,11 @@ def are_good_on_lanes(program):
 
 def are_good_without_proofs():
     """Whether the programs that are built without proofs find no case that differs."""
-    scripts = short_sections((CRATES / "x_cases_scripts" / "stdin").read_text())
-    paths = sorted((CRATES / "x_cases_codecs" / "data").glob("*.txt"))
+    asked = "".join(f"{kind} {path}\n" for kind in ("codecs", "streams") for path in case_files(kind))
     good = [
-        are_good("x_cases_scripts", scripts),
+        are_good("x_cases_files", asked, " of codecs and streams"),
+        are_scripts_good(),
         are_good("x_cases_bridge", (CRATES / "x_cases_bridge" / "stdin").read_text()),
-        are_good("x_cases_codecs", "".join(f"{path}\n" for path in paths)),
         have_their_sums(found_program(None)),
     ]
     return all(good)

@@ -5,7 +5,8 @@ four is an undo or a redo. The whole desk is shown after each call. A program bu
 some 100 calls take. With --groups one call in three is a group of 1 to 65 commands, mostly 2 to 5: most are accepted,
 some are refused at a part, and some undo what they do.
 
-With --cases nothing is compared. The calls are printed with the model's answers, in the form of x_cases_scripts.
+With --cases nothing is compared. The calls are printed with the model's answers, in the form of the scripts of
+x_cases_files.
 """
 
 import collections

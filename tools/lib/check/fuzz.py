@@ -2,7 +2,7 @@
 
 INPUT is one of
   datagrams RTP packets and RTCP compounds, by `rx` lines of `replay`, with waits between them: whether each is read, or
-  its first fault fields these, by the program of crates/x_cases_codecs: each field that is read, and what compounds are
+  its first fault fields these, by the program of crates/x_cases_files: each field that is read, and what compounds are
   written as lines       operators' lines, over a connection to a served bridge
   scripts     lines of scripts, besides frames, each by a `replay` of its own: some hundred a second
   settings    TOML texts, by the program of crates/x_cases_front
@@ -26,12 +26,12 @@ from lib.models.codec import Dropped, read_rtcp, read_rtp
 from lib.models.lines import ALONE, fault_of_line, fault_of_script_line, settings_of
 from lib.models.told import told_of
 from lib.serving import settings, started
-from lib.shared import CRATES, add_program, fail, release_program
+from lib.shared import CRATES, add_program, case_files, fail, release_program
 
-NEEDS = "the program, of x_cases_codecs for fields, of x_cases_front for settings, none for captures; 25 s a million"
+NEEDS = "the program, of x_cases_files for fields, of x_cases_front for settings, none for captures; 25 s a million"
 
 # The programs that answer, where it isn't the bridge's.
-PROGRAMS = {"fields": "x_cases_codecs", "settings": "x_cases_front"}
+PROGRAMS = {"fields": "x_cases_files", "settings": "x_cases_front"}
 BATCH = 20_000
 MOST_SHOWN = 20
 # How long captures are tried, in seconds.
@@ -99,7 +99,7 @@ def said_of_datagram(data):
 
 def datagrams_like(draw, count):
     """Lists of datagrams that are changed cases of the codecs."""
-    texts = [path.read_text() for path in (CRATES / "x_cases_codecs" / "data").glob("*.txt")]
+    texts = [path.read_text() for path in case_files("codecs")]
     corpus = [bytes.fromhex(word) for text in texts for word in re.findall(r"\b(?:[0-9a-f]{2}){8,400}\b", text)]
     return batches(count, lambda: mutant(draw, corpus, TELLING) or b"\x80")
 
@@ -112,7 +112,7 @@ def fields(draw, count, program):
             wanted = [told_of(it) for it in data]
             cases.writelines(f"datagram {it.hex()} => {says}\n" for it, says in zip(data, wanted))
             cases.flush()
-            run = subprocess.run([program], input=f"{cases.name}\n", capture_output=True, text=True, check=False)
+            run = subprocess.run([program], input=f"codecs {cases.name}\n", capture_output=True, text=True, check=False)
             *said, last = run.stdout.splitlines() or [""]
             if run.returncode or not last.startswith(f"{len(data)} cases, "):
                 fail(f"status {run.returncode} after {len(data)} cases, and last {last!r}; the first: {data[0].hex()}")
@@ -136,6 +136,11 @@ def datagrams(draw, count, program):
 # Lines
 
 
+def script_lines():
+    """The lines of the cases of scripts."""
+    return [line for path in case_files("scripts") for line in path.read_text().splitlines()]
+
+
 def is_alone(line):
     """Whether a line asks for more or less than one line."""
     return line.split(b" ")[0].decode("latin-1") in ALONE and fault_of_line(line) is None
@@ -147,7 +152,7 @@ def said_to(answer):
 
 
 def lines(draw, count, program):
-    words = (CRATES / "x_cases_scripts" / "stdin").read_text().splitlines()
+    words = script_lines()
     corpus = list({re.sub(r"^\S+ \S+ ", "", it).encode() for it in words if it.startswith("desk ") and len(it) < 200})
     corpus += len(corpus) // 20 * [b"history 18446744073709551615", b"history 1"]
 
@@ -181,7 +186,7 @@ def said_of_script(program, line):
 
 
 def scripts(draw, count, program):
-    texts = [it.removeprefix("-- ") for it in (CRATES / "x_cases_scripts" / "stdin").read_text().splitlines()]
+    texts = [it.removeprefix("-- ") for it in script_lines()]
     words = ("desk ", "rx ", "wait ", "tick ", "report ", "show", "item", "#")
     corpus = list(
         {it.encode() for it in texts if it.startswith(words) and len(it) < 200 and it.isascii() and "{" not in it}

@@ -6,7 +6,8 @@ Most scripts begin with a line that has buffers begin anew by that. Ticks and wa
 set gains, move, remove and undo, with --groups mostly in groups. A member that is removed comes back in any of the
 rooms, also at another clock rate.
 
-With --cases nothing is compared. The lines are printed with the model's answers, in the form of x_cases_scripts.
+With --cases nothing is compared. The lines are printed with the model's answers, in the form of the scripts of
+x_cases_files.
 """
 
 import random

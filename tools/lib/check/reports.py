@@ -4,7 +4,8 @@ Senders of video and audio send as in `check rx`, one of them in a room for musi
 send report blocks, NACKs and PLIs. Waits, ticks, reports and operators' calls come in between, with --groups mostly in
 groups.
 
-With --cases nothing is compared. The lines are printed with the model's answers, in the form of x_cases_scripts.
+With --cases nothing is compared. The lines are printed with the model's answers, in the form of the scripts of
+x_cases_files.
 """
 
 import random

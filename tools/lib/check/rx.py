@@ -6,7 +6,8 @@ mostly for those of video. Receivers send NACKs. Operators mute, unsubscribe, re
 mostly in groups. They also have the second audio sender come back in the other room, or as a source of video. Every
 second script names its bridge.
 
-With --cases nothing is compared. The lines are printed with the model's answers, in the form of x_cases_scripts.
+With --cases nothing is compared. The lines are printed with the model's answers, in the form of the scripts of
+x_cases_files.
 """
 
 import collections

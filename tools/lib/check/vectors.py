@@ -1,6 +1,6 @@
 """Compares the codecs' answers with a folder of cases.
 
-FOLDER holds .txt files in the form that crates/x_cases_codecs/README.md describes, as crates/x_cases_codecs/data does.
+FOLDER holds .txt files in the form that crates/x_cases_files/README.md describes for the codecs.
 
 With --rx it holds what other programs sent. The bridge gets each packet as an `rx` line, and its answer is compared:
   rtp-*.txt a datagram a line, then its dissection (HEX by=.. marker= pt= seq= ts= ssrc= ..). A packet made of the
@@ -20,7 +20,7 @@ from lib.models.streams import Source
 from lib.packets import rtp
 from lib.shared import add_program_or_build, fail, found_program, replay, tried
 
-NEEDS = "a program, of x_cases_codecs too, a minute"
+NEEDS = "a program, of x_cases_files too, a minute"
 
 
 def options(parser):
@@ -33,15 +33,15 @@ def options(parser):
 
 
 def check_codecs(folder, binary, seconds):
-    """Runs x_cases_codecs over the files of a folder. The exit status."""
+    """Runs x_cases_files over the files of a folder. The exit status."""
     paths = sorted(folder.glob("*.txt"))
     if not paths:
         fail(f"there are no .txt files in {folder}")
-    text, program = "".join(f"{path}\n" for path in paths), found_program(binary, "x_cases_codecs")
+    text, program = "".join(f"codecs {path}\n" for path in paths), found_program(binary, "x_cases_files")
     if program:
         done = subprocess.run([program], input=text, capture_output=True, text=True, check=False)
     else:
-        done = tried("x_cases_codecs", [], text, seconds)
+        done = tried("x_cases_files", [], text, seconds)
     print(done.stdout, end="")
     counts = [line for line in done.stdout.splitlines() if line.endswith(" differ")]
     if done.returncode or not counts:

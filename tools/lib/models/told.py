@@ -1,4 +1,4 @@
-"""What crates/x_cases_codecs tells of a datagram, in the words of its README: its class, and each field that is
+"""What crates/x_cases_files tells of a datagram, in the words of its README: its class, and each field that is
 read."""
 
 from lib.models.codec import Dropped, read_rtcp, read_rtp
