@@ -12,6 +12,7 @@ use crate::judging::log_is_full;
 use crate::prepared::Prepared;
 use desk_edit::{Call, Command, Refusal};
 use desk_rows::{Edit, Rows};
+use reversible_rows::ReversibleRows;
 use std::alloc::{AllocError, Allocator, Global};
 use std::marker::Model;
 use undo_log::{Edits, History, Listed, Reversible};
@@ -24,7 +25,7 @@ use undo_log::{Edits, History, Listed, Reversible};
 #[derive(Drop)]
 pub struct Desk<A: Allocator + Copy = Global> {
     version: u64,
-    history: History<Listed<Rows<A>>>,
+    history: History<Listed<ReversibleRows<A>>>,
 }
 
 impl<A: Allocator + Copy> Model for Desk<A> {
@@ -54,7 +55,7 @@ impl<A: Allocator + Copy> Desk<A> {
         let _members = rows.members();
         Self {
             version: 0,
-            history: History::new(alloc, Listed::new(rows)),
+            history: History::new(alloc, Listed::new(ReversibleRows::new(rows))),
         }
     }
 
@@ -63,7 +64,7 @@ impl<A: Allocator + Copy> Desk<A> {
         ensures rows { result.now ≡ self.now.desk }
         ensures good { good self.now.desk ≡ true }
     {
-        self.history.state().inner()
+        self.history.state().inner().rows()
     }
 
     /// How many calls were accepted, 0 to 1,048,576.
@@ -195,7 +196,7 @@ impl<A: Allocator + Copy> Desk<A> {
         // Each edit that is done or undone fits the desk that it stands behind.
         self.history.known();
         match prepared {
-            Prepared::Apply(edits) => <Listed<Rows<A>> as Reversible>::copy(alloc, edits),
+            Prepared::Apply(edits) => <Listed<ReversibleRows<A>> as Reversible>::copy(alloc, edits),
             Prepared::Undo => match self.history.undo_edit(alloc) {
                 Ok(edits) => Ok(edits),
                 Err(_) => Err(AllocError),

@@ -16,7 +16,6 @@ use crate::refusal::GroupRefusal;
 use crate::refusing::reason_against;
 use desk_rows::{Edit, Rows};
 use std::alloc::Allocator;
-use undo_log::Reversible;
 
 /// The most commands of a group.
 pub const MAX_GROUP: usize = 64;

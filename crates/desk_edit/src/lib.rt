@@ -7,7 +7,7 @@
 //! ```rust
 //! let command = Command::AddRoom(Room { room: 1, rate: 8_000 });
 //! let edit = plan(alloc, &rows, &command)?; // or the first refusal, as Exists
-//! rows.absorb(&edit); // the desk with room 1
+//! rows.absorb_fitting(&edit); // the desk with room 1
 //! ```
 //!
 //! `carry_out` of worked_desk is this pair of calls, with the desk afterwards proved.

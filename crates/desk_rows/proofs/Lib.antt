@@ -9,9 +9,7 @@ pub mod ExchangeLemmas
 pub mod KindLemmas
 pub mod KeyedLemmas
 pub mod Finding
-pub mod NewKeys
-pub mod ChangeLemmas
-pub mod OverlayLemmas
+pub mod AbsorbLemmas
 pub mod SlidingLemmas
 pub mod GroupLemmas
 pub mod NamingLemmas

@@ -18,8 +18,8 @@ pub struct Placed {
 /// The rows that an edit takes, or those that it puts.
 #[derive(Drop)]
 pub struct Part<A: Allocator + Copy = Global> {
-    pub(crate) members: Vec<Placed, A>,
-    pub(crate) others: Vec<Row, A>,
+    members: Vec<Placed, A>,
+    others: Vec<Row, A>,
 }
 
 impl<A: Allocator + Copy> Model for Part<A> {
@@ -63,8 +63,8 @@ impl<A: Allocator + Copy> Part<A> {
 /// among them.
 #[derive(Drop)]
 pub struct Replaced<A: Allocator + Copy = Global> {
-    pub(crate) old: Vec<Row, A>,
-    pub(crate) new: Vec<Row, A>,
+    old: Vec<Row, A>,
+    new: Vec<Row, A>,
 }
 
 impl<A: Allocator + Copy> Model for Replaced<A> {
@@ -128,49 +128,56 @@ impl<A: Allocator + Copy> Edit<A> {
     ghost use Rattle.std.specs.Prelude.{◌≡◌, IfOk};
     ghost use Rattle.desk_rows.specs.Edit.{inverse};
 
-    pub(crate) fn taken_members(&self) -> &[Placed]
+    /// The members that go, with their places before.
+    pub fn taken_members(&self) -> &[Placed]
         ensures { result.now ≡ self.now.taken.members }
     {
         let taken = &self.taken;
         &taken.members
     }
 
-    pub(crate) fn taken_others(&self) -> &[Row]
+    /// The other rows that go.
+    pub fn taken_others(&self) -> &[Row]
         ensures { result.now ≡ self.now.taken.others }
     {
         let taken = &self.taken;
         &taken.others
     }
 
-    pub(crate) fn put_members(&self) -> &[Placed]
+    /// The members that come, with their places afterwards.
+    pub fn put_members(&self) -> &[Placed]
         ensures { result.now ≡ self.now.put.members }
     {
         let put = &self.put;
         &put.members
     }
 
-    pub(crate) fn put_others(&self) -> &[Row]
+    /// The other rows that come.
+    pub fn put_others(&self) -> &[Row]
         ensures { result.now ≡ self.now.put.others }
     {
         let put = &self.put;
         &put.others
     }
 
-    pub(crate) fn old(&self) -> &[Row]
+    /// The rows that are replaced.
+    pub fn old(&self) -> &[Row]
         ensures { result.now ≡ self.now.replaced.old }
     {
         let replaced = &self.replaced;
         &replaced.old
     }
 
-    pub(crate) fn new(&self) -> &[Row]
+    /// The rows in their stead.
+    pub fn new(&self) -> &[Row]
         ensures { result.now ≡ self.now.replaced.new }
     {
         let replaced = &self.replaced;
         &replaced.new
     }
 
-    pub(crate) fn inverted(self) -> Self
+    /// The edit that takes this one back.
+    pub fn inverted(self) -> Self
         ensures { result ≡ inverse self }
     {
         Self {
@@ -183,7 +190,8 @@ impl<A: Allocator + Copy> Edit<A> {
         }
     }
 
-    pub(crate) fn copy(&self, alloc: A) -> Result<Self, AllocError>
+    /// A copy. The only error is out of memory.
+    pub fn copy(&self, alloc: A) -> Result<Self, AllocError>
         ensures { IfOk result (λ edit. edit ≡ self.now) }
     {
         Ok(Self {

@@ -1,8 +1,9 @@
-//! The rows of a desk, and edits of them that can be taken back.
+//! The rows of a desk, and edits of them.
 //!
-//! Begin with [`Rows::new`] and the kinds of [`Row`]. Rows change by absorbing an [`Edit`] and in no other way
-//! ([`Reversible`](undo_log::Reversible)). A contract sees [`Rows`] as a desk, which is always a good one: keys are
-//! distinct, what a row names is there, and all rules and limits hold (specs/Desk.antt).
+//! Begin with [`Rows::new`] and the kinds of [`Row`]. Rows change by absorbing an [`Edit`] that fits, and in no other
+//! way ([`Rows::absorb_fitting`]); the crate reversible_rows judges whether an edit fits. A contract sees [`Rows`] as a
+//! desk, which is always a good one: keys are distinct, what a row names is there, and all rules and limits hold
+//! (specs/Desk.antt).
 //!
 //! ```rust
 //! let mut rows = Rows::new(alloc, 1)?; // for a bridge of SSRC 1
@@ -10,11 +11,11 @@
 //! others.push(Row::Room(Room { room: 1, rate: 8_000 }))?;
 //! let put = Part::new(Vec::new(alloc), others);
 //! let edit = Edit { taken: Part::none(alloc), put, replaced: Replaced::none(alloc) };
-//! rows.absorb(&edit); // the desk has room 1
+//! rows.absorb_fitting(&edit); // the desk has room 1
 //! let room = rows.find(&Key::Room(1)); // Some(Row::Room(Room { room: 1, rate: 8_000 }))
 //! ```
 //!
-//! `absorb`, `part`, `edit` and `find` of worked_desk are these calls, with their answers proved.
+//! `part`, `edit` and `find` of worked_desk are these calls, with their answers proved.
 #![tactic(auto)]
 
 // What a row is: its key, its values, and what it shares with no other row.
@@ -37,8 +38,7 @@ mod getters;
 mod looking;
 mod rows;
 
-// How it keeps its rows, and how it judges an edit.
-mod judging;
+// How it keeps its rows.
 mod tables;
 
 pub use self::claim::Claim;
@@ -49,9 +49,9 @@ pub use self::limits::{
     MAX_GAIN, MAX_GAINS, MAX_INDEX, MAX_MEMBERS, MAX_ROOM_AUDIO, MAX_ROOMS, MAX_SLOTS, MAX_SOURCES,
 };
 pub use self::looking::{
-    Look, all_suit, are_together, count_audio, rate_of_room, room_at, room_of,
+    Look, all_suit, are_together, count_audio, has_audio, rate_of_room, room_at, room_of,
 };
-pub use self::ordering::find_row;
+pub use self::ordering::{are_in_order, contains, find_row};
 pub use self::row::{
     Codec, DEFAULT_RATE, Floor, Gain, MUSIC_RATE, Media, Member, Mute, Pin, Room, Row, Slot,
     Source, Sub,

@@ -126,7 +126,7 @@ fn is_audio_in<D: Look>(rows: &D, room: u32, row: &Row) -> bool
 }
 
 /// Whether any of these is an audio source of the room.
-pub(crate) fn has_audio<D: Look>(rows: &D, these: &[Row], room: u32) -> bool
+pub fn has_audio<D: Look>(rows: &D, these: &[Row], room: u32) -> bool
     ensures { result ≡ list_any (is_audio_in (D.desk rows.now) room) these.now }
 {
     these.iter().any(|row| is_audio_in(rows, room, row))

@@ -1,11 +1,11 @@
 //! Rows in the order of kinds and keys, found by binary search.
 
-ghost use Rattle.std.specs.Prelude.{◌≡◌, true, ◌&&◌, filter, take};
+ghost use Rattle.std.specs.Prelude.{◌≡◌, true, filter, take};
 ghost use Rattle.std.specs.List.{find, list_all};
 ghost use Rattle.desk_rows.specs.Row.{has_key};
 ghost use Rattle.desk_rows.specs.Kinds.{is_of};
 ghost use Rattle.desk_rows.specs.Naming.{is_gain_of};
-ghost use Rattle.desk_rows.specs.Order.{precedes, in_order, key_is_new, are_apart, have_same_keys, is_in};
+ghost use Rattle.desk_rows.specs.Order.{precedes, in_order, is_in};
 
 use crate::key::{Key, Kind};
 use crate::row::Row;
@@ -21,7 +21,7 @@ pub(crate) fn precedes_first(row: &Row, rows: &[Row]) -> bool
 }
 
 /// Whether the rows are in the order of kinds and keys.
-fn are_in_order(rows: &[Row]) -> bool
+pub fn are_in_order(rows: &[Row]) -> bool
     ensures { result ≡ in_order rows.now }
 {
     let mut rest = rows;
@@ -32,49 +32,6 @@ fn are_in_order(rows: &[Row]) -> bool
         rest = later;
     }
     true
-}
-
-/// Whether no row has this row's key.
-fn is_new(row: &Row, rows: &[Row]) -> bool
-    ensures { result ≡ key_is_new row.now rows.now }
-{
-    rows.iter()
-        .all(|other| row.precedes(other) || other.precedes(row))
-}
-
-/// Whether no key of these rows is among the others.
-fn all_new(rows: &[Row], others: &[Row]) -> bool
-    ensures { result ≡ list_all (λ r. key_is_new r others.now) rows.now }
-{
-    rows.iter().all(|row| is_new(row, others))
-}
-
-/// Whether both lists are in order and have no key in common.
-pub(crate) fn are_apart(rows: &[Row], others: &[Row]) -> bool
-    ensures { result ≡ are_apart rows.now others.now }
-{
-    (are_in_order(rows) && are_in_order(others)) && all_new(others, rows)
-}
-
-/// Whether the rows at each place of both lists have one key.
-pub(crate) fn have_same_keys(rows: &[Row], others: &[Row]) -> bool
-    ensures { result ≡ have_same_keys rows.now others.now }
-{
-    let mut left = others;
-    let mut rest = rows;
-    while let Some((row, later)) = rest.split_first() {
-        match left.split_first() {
-            None => return false,
-            Some((other, behind)) => {
-                if !row.key().is_same(other.key()) {
-                    return false;
-                }
-                left = behind;
-            }
-        }
-        rest = later;
-    }
-    left.is_empty()
 }
 
 /// The row of this key, by binary search. The rows are in the order of kinds and keys.
@@ -125,8 +82,9 @@ pub(crate) fn gains_of(rows: &[Row], member: u32) -> &[Row]
     these
 }
 
+/// Whether this very row is among the rows, by binary search. The rows are in the order of kinds and keys.
 #[tactic(auto, using(crate::proofs::Halving::among_none, crate::proofs::Halving::among_found))]
-pub(crate) fn contains(rows: &[Row], row: &Row) -> bool
+pub fn contains(rows: &[Row], row: &Row) -> bool
     requires { in_order rows.now ≡ true }
     ensures { result ≡ is_in rows.now row.now }
 {
@@ -134,12 +92,4 @@ pub(crate) fn contains(rows: &[Row], row: &Row) -> bool
         None => false,
         Some(other) => row.is_same(&other),
     }
-}
-
-/// Whether each of these rows is among the others.
-pub(crate) fn contains_all(others: &[Row], rows: &[Row]) -> bool
-    requires { in_order others.now ≡ true }
-    ensures { result ≡ list_all (is_in others.now) rows.now }
-{
-    rows.iter().all(|row| contains(others, row))
 }

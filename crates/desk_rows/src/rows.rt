@@ -133,7 +133,7 @@ impl<A: Allocator + Copy> Rows<A> {
     }
 
     /// All other rows, by kind and within a kind by key.
-    pub(crate) fn others(&self) -> &[Row]
+    pub fn others(&self) -> &[Row]
         ensures rows { result.now ≡ self.now.others }
         ensures order { in_order result.now ≡ true }
         ensures good { good self.now ≡ true }

@@ -20,7 +20,7 @@
 //! }
 //! ```
 //!
-//! `two_in_turn` of worked_desk makes these calls, and prints the answers.
+//! `two_in_turn` of x_tests_desk makes these calls, and compares the answers.
 #![tactic(auto)]
 
 mod answer;

@@ -6,6 +6,7 @@ ghost use Rattle.std.specs.Arc.{arc_value};
 use crate::notice::Notice;
 use desk_rows::Rows;
 use left_right::Absorb;
+use reversible_rows::ReversibleRows;
 use std::alloc::AllocError;
 use std::marker::Model;
 use std::sync::Arc;
@@ -14,7 +15,7 @@ use undo_log::Listed;
 /// The rows at a version, which several may own, and its notice.
 #[derive(Drop)]
 pub struct Edition {
-    rows: Arc<Listed<Rows>>,
+    rows: Arc<Listed<ReversibleRows>>,
     notice: Notice,
 }
 
@@ -29,7 +30,7 @@ impl Model for Edition {
 
 impl Edition {
     /// An edition of these rows. The notice is of their version.
-    pub fn new(rows: Arc<Listed<Rows>>, notice: Notice) -> Edition
+    pub fn new(rows: Arc<Listed<ReversibleRows>>, notice: Notice) -> Edition
         ensures { result ≡ record { notice = notice; desk = arc_value rows } }
     {
         Edition { rows, notice }
@@ -39,7 +40,7 @@ impl Edition {
     pub fn rows(&self) -> &Rows
         ensures { result.now ≡ self.now.desk }
     {
-        self.rows.inner()
+        self.rows.inner().rows()
     }
 
     /// The notice of the version.

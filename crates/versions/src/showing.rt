@@ -15,6 +15,7 @@ use crate::notice::Notice;
 use crate::rule::{Follows, Looks, Sight};
 use desk_rows::{Edit, Rows};
 use left_right::writer::Writer;
+use reversible_rows::ReversibleRows;
 use std::alloc::Global;
 use std::marker::Model;
 use std::sync::{Arc, Wait};
@@ -28,8 +29,8 @@ pub(crate) type Lead = Writer<Edition, Edition, Option<Sight<Rows, Notice>>, Fol
 // million steps: in one struct with the publisher, a further field that names the rows may be one too many.
 pub struct Showing {
     pub(crate) writer: Writer<Edition, Edition, Option<Sight<Rows, Notice>>, Follows>,
-    pub(crate) shown: Arc<Listed<Rows>>,
-    pub(crate) before: Arc<Listed<Rows>>,
+    pub(crate) shown: Arc<Listed<ReversibleRows>>,
+    pub(crate) before: Arc<Listed<ReversibleRows>>,
     // It leads from the rows before to those that are shown.
     pub(crate) last: Edits<Edit>,
     pub(crate) alloc: Global,
@@ -173,7 +174,7 @@ impl Showing {
 }
 
 // Absorbs the edits, unless the rows have another owner.
-fn absorbed(rows: &mut Arc<Listed<Rows>>, edits: &Edits<Edit>) -> bool
+fn absorbed(rows: &mut Arc<Listed<ReversibleRows>>, edits: &Edits<Edit>) -> bool
     requires { all_fit fits after (arc_value rows.old) edits.now ≡ true }
     ensures { OnTrue result (arc_value rows.new ≡ after_list (arc_value rows.old) edits.now) }
 {
@@ -187,7 +188,7 @@ fn absorbed(rows: &mut Arc<Listed<Rows>>, edits: &Edits<Edit>) -> bool
 }
 
 // Whether the edits fit. None if the rows have another owner.
-fn judged(rows: &mut Arc<Listed<Rows>>, edits: &Edits<Edit>) -> Option<bool>
+fn judged(rows: &mut Arc<Listed<ReversibleRows>>, edits: &Edits<Edit>) -> Option<bool>
     ensures judged { IfSome result (λ fit. fit ≡ all_fit fits after (arc_value rows.old) edits.now) }
     ensures same { arc_value rows.new ≡ arc_value rows.old }
 {
@@ -199,7 +200,7 @@ fn judged(rows: &mut Arc<Listed<Rows>>, edits: &Edits<Edit>) -> Option<bool>
 
 // Absorbs the edits, and makes an edition of the rows. None if the rows have another owner, or 2^63 of them.
 fn edition_after(
-    rows: &mut Arc<Listed<Rows>>,
+    rows: &mut Arc<Listed<ReversibleRows>>,
     edits: &Edits<Edit>,
     notice: Notice,
 ) -> Option<Edition>

@@ -15,6 +15,7 @@ use crate::rule::{Looks, Shares};
 use crate::showing::{Lead, Showing, repeats};
 use desk_rows::Rows;
 use left_right::writer::Writer;
+use reversible_rows::ReversibleRows;
 use std::alloc::{AllocError, Global};
 use std::sync::{Arc, Wait};
 use thiserror::Error;
@@ -98,10 +99,10 @@ fn made<R: Wait>(
     }
 }
 
-fn owned(alloc: Global, rows: Rows) -> Result<Arc<Listed<Rows>>, AllocError>
+fn owned(alloc: Global, rows: Rows) -> Result<Arc<Listed<ReversibleRows>>, AllocError>
     ensures { IfOk result (λ owned. arc_value owned ≡ rows) }
 {
-    match Arc::new(alloc, Listed::new(rows)) {
+    match Arc::new(alloc, Listed::new(ReversibleRows::new(rows))) {
         Ok(owned) => Ok(owned),
         Err(_) => Err(AllocError),
     }

@@ -1,4 +1,3 @@
 pub mod Found
 pub mod Judged
-pub mod Tests
 pub mod Within

@@ -39,7 +39,6 @@ pub use Rattle.std.specs.Prelude.{count_by, Contains, IfSome, IfNone}
 pub use Rattle.std.specs.Str.{bytes_eq}
 pub use borrow.Author.Tests.{eq-eqb}
 pub use Rattle.desk_rows.specs.declared.claim.Claim.{Claim}
-pub use Rattle.desk_rows.specs.declared.judging.counting.Test.TheVariants.{Makes}
 pub use Rattle.desk_rows.specs.declared.edit.Placed.{Placed}
 pub use Rattle.desk_rows.specs.declared.tables.index.IndexEntry.{IndexEntry}
 pub use Rattle.desk_rows.specs.declared.row.Codec.{Codec}
@@ -86,5 +85,4 @@ unfoldable pub use Rattle.desk_rows.specs.inner.judging.Judged.{judged}
 pub use Rattle.desk_rows.specs.inner.Listed.{desk_of}
 pub use Rattle.desk_rows.specs.inner.tables.Parting.{Parts, is_found_as}
 pub use Rattle.desk_rows.specs.inner.tables.Roomed.{IsByRoom}
-pub use Rattle.desk_rows.specs.inner.judging.Tests.{passes}
 pub use Rattle.desk_rows.specs.inner.judging.Within.{put_within}

@@ -5,7 +5,7 @@ use Rattle.desk_rows.specs.laws.Words.{desk_of}
 use Rattle.desk_rows.specs.declared.key.Kind.TheVariants as kinds
 use Rattle.desk_rows.specs.laws.Laws.{good_order}
 use Rattle.desk_rows.proofs.ExchangeLemmas.{few_rows}
-use Rattle.desk_rows.proofs.OverlayLemmas.{Absorbs, absorbs}
+use Rattle.desk_rows.proofs.AbsorbLemmas.{Absorbs, absorbs}
 use Rattle.desk_rows.proofs.rows.Rows.exchange.Goals as goal
 
 -- the same of a desk that is the one given
