@@ -4,7 +4,8 @@ Documents are README.md, CONTRIBUTING.md, docs/ and the pages of examples/. The 
 sentence of over 16 words, a sentence of over 38, a line over 120 columns, or a link that leads nowhere. Code, tables,
 headings and lists of names are no sentences, and a piece of code within a sentence counts as one word. Tables and code
 may be wider. How many lines a document has doesn't matter. The status is 1 as well where a measured figure of README
-stands in another document, too: one has it, and the other links there.
+stands in another document, too: one has it, and the other links there. It is 1 where the index of DECISIONS isn't what
+`make decisions` writes.
 
 Of sources the status is 1 where a function of crates/*/src has over 30 lines or over five parameters beside `self`,
 `rt` and `alloc`, or a file over 300 lines (of the page its web files count, not what is made of them), and where a name
@@ -25,6 +26,7 @@ import re
 import statistics
 
 from lib.gate import edits
+from lib.make import decisions
 from lib.make.definitions import definition_files, words_of
 from lib.make.page import SOURCES, PARTS, WEB, stale
 from lib.plants import PLANTS
@@ -124,8 +126,7 @@ def anchors(path):
     """What a link can name in a document: its headings."""
     for line in without_fences(path.read_text()).split("\n"):
         if line.startswith("#"):
-            name = re.sub(r"[^\w\- ]", "", line.lstrip("# ").lower())
-            yield name.replace(" ", "-")
+            yield decisions.anchor_of(line.lstrip("# "))
 
 
 def wide_lines(text):
@@ -175,6 +176,14 @@ def check_figures():
     for figure, path in doubled:
         print(f"       {figure}: {path.relative_to(ROOT)}")
     return not doubled
+
+
+def check_index():
+    """Prints whether the index of DECISIONS is stale. Whether it isn't."""
+    text = decisions.DOCUMENT.read_text()
+    is_stale = text != decisions.document(text)
+    print("the index of DECISIONS is stale: run `tools/bridge make decisions`" if is_stale else "the index is current")
+    return not is_stale
 
 
 # Sources
@@ -383,7 +392,7 @@ def check_order():
 
 
 def run(args):
-    good = [args.sources or check_documents(), args.sources or check_figures()]
+    good = [args.sources or check() for check in (check_documents, check_figures, check_index)]
     if not args.docs:
         print()
         good += [check_sources(), check_lines(), check_names(), check_examples(), check_made(), check_edits()]
