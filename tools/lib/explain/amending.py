@@ -27,8 +27,9 @@ class Search:
 
     def __init__(self, run, events):
         self.run, self.events, self.vain, self.mended = run, events, 0, 0
-        # The places behind the last ticks with the states of the run there, and the place that it has come to.
-        self.states, self.end = [], 0
+        # The places behind the last ticks with the states of the run there, what the usual order wrote down since the
+        # first of them, and the place that it has come to.
+        self.states, self.usual, self.end = [], None, 0
 
     def go(self):
         """Goes through all events."""
@@ -64,7 +65,7 @@ class Search:
         last tick."""
         least, best, last = len(self.run.cursor.found), None, self.events[end - 1]
         first, states = self.states[0][0], self.states
-        usual = self.events[first:end]
+        usual, self.usual = self.events[first:end], self.run.behind(states[0][1])
         for tried, order in enumerate(self.orders(first, end)):
             if tried == TRIES:
                 break
@@ -87,6 +88,8 @@ class Search:
         same = next((n for n, (one, other) in enumerate(zip(usual, order)) if one is not other), len(usual) - 1)
         self.states = [state for state in states if state[0] <= first + same]
         at, state = self.states.pop()
+        # Another order may have been tried since, and what it wrote down is no part of this state.
+        self.run.put_behind(states[0][1], self.usual)
         self.run.go_back(state)
         begun = at - first
         for n, event in enumerate(order[begun:], begun + 1):

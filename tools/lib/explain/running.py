@@ -237,6 +237,16 @@ class Run:
         self.running = +running
         del self.done[done:], self.odd[odd:]
 
+    def behind(self, state):
+        """What has been written down since a state: lines, differences, and what is odd."""
+        _, (_, found, _), done, _, odd, *_ = state
+        return self.done[done:], self.cursor.found[found:], self.odd[odd:]
+
+    def put_behind(self, state, behind):
+        """Puts back what had been written down since a state, so that later states can be gone back to."""
+        _, (_, found, _), done, _, odd, *_ = state
+        self.done[done:], self.cursor.found[found:], self.odd[odd:] = behind
+
     def go(self, events):
         """Goes through some events, of which the last may be a tick. In mid-call, streams that begin are given their
         first numbers."""
