@@ -52,6 +52,7 @@ class Seat(Operator):
             connection = socket.create_connection((host, int(port)), PATIENCE)
         except OSError as why:
             raise Trouble(f"there is no bridge at {self.address}: {why.strerror or why}", 2) from None
+        self.connection = connection
         # Whatever octets come are a text.
         self.lines = connection.makefile("rw", newline="\n", encoding="ascii", errors="backslashreplace")
 
@@ -93,8 +94,9 @@ class Seat(Operator):
     def close(self):
         with contextlib.suppress(OSError):
             self.tell("quit")
-        with contextlib.suppress(OSError):
-            self.lines.close()
+        for one in self.lines, self.connection:
+            with contextlib.suppress(OSError):
+                one.close()
 
 
 def last_line(groups, commands):
@@ -110,16 +112,26 @@ def made_by(rows, address):
         raise Trouble(f"{address} is no bridge: `{str(row)[:80]}` is no row", 2) from None
 
 
+MOVED = f"FIRST_SEQ of each stream is {FURTHER} further on, as streams begin anew"
+
+
+def text_of(rows, version, address):
+    """What makes the rows of a bridge again, as a file has it."""
+    commands = made_by(rows, address)
+    groups = groups_of(commands)
+    lines = [f"# the desk of version {version}: {MOVED}", *groups, last_line(len(groups), len(commands))]
+    return "".join(f"{line}\n" for line in lines)
+
+
 def run(args):
     try:
         with contextlib.closing(Seat(args.address)) as seat:
             rows, version = seat.rows()
-        commands = made_by(rows, args.address)
+        text = text_of(rows, version, args.address)
     except Trouble as why:
         print(f"tools/bridge keep: {why}", file=sys.stderr)
         return why.status
-    groups = groups_of(commands)
-    moved = f"FIRST_SEQ of each stream is {FURTHER} further on, as streams begin anew"
-    print(f"# the desk of version {version}: {moved}", *groups, last_line(len(groups), len(commands)), sep="\n")
-    print(f"tools/bridge keep: {len(rows)} rows in {len(groups)} groups; {moved}", file=sys.stderr)
+    print(text, end="")
+    groups = text.count("\n") - 2
+    print(f"tools/bridge keep: {len(rows)} rows in {groups} groups; {MOVED}", file=sys.stderr)
     return 0
