@@ -72,10 +72,10 @@ def text_of(address):
 
 def started(crate, words, seconds, given=None):
     program = found_program(given, crate)
-    if not program:
+    if not program and CRATES.is_dir():
         print(f"building crates/{crate} without proofs, which takes some minutes", flush=True)
-    command = [program, *words] if program else try_command(words, seconds)
-    return subprocess.Popen(command, cwd=CRATES / crate, stdin=subprocess.DEVNULL, stdout=subprocess.DEVNULL)
+    command, folder = ([program, *words], None) if program else (try_command(words, seconds), CRATES / crate)
+    return subprocess.Popen(command, cwd=folder, stdin=subprocess.DEVNULL, stdout=subprocess.DEVNULL)
 
 
 def refuse_taken():

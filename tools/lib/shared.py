@@ -9,6 +9,8 @@ import sys
 
 ROOT = pathlib.Path(__file__).resolve().parents[2]
 CRATES = ROOT / "crates"
+# Where a package has its programs; its tools stand in ../share/confbridge.
+INSTALLED = ROOT.parents[1] / "lib/confbridge"
 # `rt try` stops a program after this many seconds where nobody says how many.
 SECONDS = 300
 
@@ -53,7 +55,10 @@ def crates_below(crate):
 def add_program(parser, crate="confbridge"):
     """Adds the argument that names a program."""
     parser.add_argument(
-        "binary", nargs="?", metavar="BINARY", help=f"the program (crates/{crate}/out/{crate} if not given)"
+        "binary",
+        nargs="?",
+        metavar="BINARY",
+        help=f"the program ({f'crates/{crate}/out' if CRATES.is_dir() else INSTALLED}/{crate} if not given)",
     )
 
 
@@ -72,10 +77,12 @@ def is_current(program):
 
 
 def found_program(given, crate="confbridge"):
-    """The path of the program that is named, or of the one that `rt run` or `rt ci` built from these sources, or
-    None."""
+    """The path of the program that is named, or of the one that `rt run` or `rt ci` built from these sources, or the
+    package's, or None."""
     if given:
         return pathlib.Path(given).resolve()
+    if not CRATES.is_dir():
+        return INSTALLED / crate if (INSTALLED / crate).is_file() else None
     program = CRATES / crate / "out" / crate
     return program if program.is_file() and is_current(program) else None
 
@@ -92,6 +99,8 @@ def release_program(given, crate="confbridge"):
 
 def try_command(words, seconds=None):
     """The command that builds a crate's program without proofs and runs it, to be started in the crate's folder."""
+    if not CRATES.is_dir():
+        fail(f"{INSTALLED} lacks a program that this takes")
     if not shutil.which("rt"):
         fail(
             "there is no command `rt`: install the Rattle toolchain that README.md names, and put its bin/ on the path"
