@@ -27,8 +27,11 @@ class Line:
 class Direction:
     """What one end of a connection sends."""
 
-    def __init__(self, source, target, notes):
+    def __init__(self, source, target, notes, patience=0):
         self.source, self.target, self.notes = source, target, notes
+        # What has come where it isn't known yet where it begins, since when, and for how long it waits for what is
+        # before it.
+        self.begins, self.patience = None, patience
         self.next, self.behind, self.text = None, {}, b""
         # A line isn't whole that stands behind a hole. A connection that was there before is taken to begin with a
         # whole line.
@@ -38,13 +41,19 @@ class Direction:
         """The lines that a segment ends."""
         seq, octets = packet.seq, packet.octets
         if packet.flags & SYN:
-            self.next, self.is_whole, self.behind, self.text = (seq + 1) % 2**32, True, {}, b""
+            if self.next is not None:
+                self.behind = {}
+            self.next, self.is_whole, self.text = (seq + 1) % 2**32, True, b""
+            yield from self.follow(packet.moment)
             return
         if not octets and not packet.missing:
             return
         if self.next is None:
-            self.next = seq
-            self.notes.add(f"the connection {self.source} to {self.target} was there before the capture", packet.moment)
+            self.begins = self.begins or packet.moment
+            self.behind[seq] = octets, packet.missing, packet.moment
+            if packet.moment >= self.begins + self.patience:
+                yield from self.start(packet.moment)
+            return
         ahead = (seq - self.next + 2**31) % 2**32 - 2**31
         if ahead > 0:
             self.notes.add(f"TCP segments of {self.source} are out of order, and are put in order", packet.moment)
@@ -58,6 +67,14 @@ class Direction:
             yield from self.join(packet.moment, octets[-ahead:])
             self.cut(packet.moment, min(packet.missing, len(octets) + packet.missing + ahead))
         yield from self.follow(packet.moment)
+
+    def start(self, moment):
+        """The lines of what came first of a connection that was there before."""
+        self.notes.add(f"the connection {self.source} to {self.target} was there before the capture", self.begins)
+        some = next(iter(self.behind))
+        self.next = min(self.behind, key=lambda seq: (seq - some + 2**31) % 2**32)
+        yield from self.follow(moment, False)
+        self.waits_since = moment if self.behind else None
 
     def follow(self, moment, is_filled=True):
         """The lines of what waited behind a hole that is filled, or was never captured."""
@@ -103,6 +120,8 @@ class Direction:
 
     def end(self, moment):
         """The lines that the end of the capture leaves behind holes."""
+        if self.next is None and self.behind:
+            yield from self.start(moment)
         while self.behind:
             yield from self.skip(moment)
 
@@ -110,7 +129,9 @@ class Direction:
 class Connections:
     """The lines of all connections."""
 
-    def __init__(self, notes):
+    def __init__(self, notes, patience=0):
+        # What comes first of a connection waits for so long for what is before it, in nanoseconds.
+        self.patience = patience
         # By their ends: what each sends, and when it said that it ends. By both ends: which of them listens.
         self.notes, self.directions, self.ends, self.listening, self.last = notes, {}, {}, {}, 0
 
@@ -118,7 +139,7 @@ class Connections:
         """The lines that a segment ends."""
         key = packet.source, packet.target
         # The direction that was heard of last stands last.
-        self.directions[key] = self.directions.pop(key, None) or Direction(*key, self.notes)
+        self.directions[key] = self.directions.pop(key, None) or Direction(*key, self.notes, self.patience)
         if len(self.directions) > MOST_DIRECTIONS:
             del self.directions[next(iter(self.directions))]
         for table in self.ends, self.listening:

@@ -19,9 +19,11 @@ from lib.captures.writing import VLAN, pcap, pcapng, tcp_packet, udp_packets
 from lib.explain.explaining import explained
 from lib.explain.given import given_by
 from lib.explain.made import BEGIN, BRIDGE, DESK, GAP, ONE, OPERATOR, OTHER, Made
+from lib.explain.operators import calls_of
 from lib.explain.planted import FAULTS, FOLLOWS, SAID, Call
 from lib.explain.telling import Telling, telling
-from lib.explain.varied import variations, written, wrong
+from lib.explain.varied import disordered, variations, written, wrong
+from lib.explain.wire import wire_of
 from lib.packets import number
 from lib.shared import fail
 
@@ -249,6 +251,21 @@ def check_rows():
     print(f"in {count} conversations no row of an answer is an operator's line")
 
 
+def check_order():
+    """Operators' lines have their answers, in whatever order within 5 ms a capture has their segments."""
+    packets, draw = Call(says={8: ["show"], 9: ["mute 202"]}).packets[:120], random.Random(1)
+    wanted = calls_in(packets)
+    for _ in range(40):
+        got = calls_in(disordered(draw, packets))
+        check(got == wanted, f"out of order, the calls are {got}")
+    print("operators' lines have their answers in each order of their segments")
+
+
+def calls_in(packets):
+    """The calls of packets, with their answers."""
+    return [(call.text, call.answer) for call in calls_of(wire_of(io.BytesIO(written(packets))))[0]]
+
+
 def check_desks():
     """The desk of a capture in mid-call comes from `show`, also in one segment with a call, from `history`, and from
     files."""
@@ -306,6 +323,7 @@ def run(_args):
     check_two(packets)
     check_middle()
     check_rows()
+    check_order()
     check_desks()
     check_varied()
     check_planted()

@@ -21,6 +21,8 @@ ANSWER = re.compile(
 ROWS = "mute ", "pin "
 # The header of RTP, in octets.
 HEADER = 12
+# A capture may have packets out of order by so much, in nanoseconds.
+REORDERED = 10_000_000
 
 
 @dataclasses.dataclass(frozen=True)
@@ -218,7 +220,7 @@ class Reading:
     """Reads the packets of a capture."""
 
     def __init__(self, notes):
-        self.notes, self.clock, self.connections = notes, Clock(notes), Connections(notes)
+        self.notes, self.clock, self.connections = notes, Clock(notes), Connections(notes, REORDERED)
         self.lines, self.datagrams, self.frames = [], [], 0
 
     def take(self, packets):
