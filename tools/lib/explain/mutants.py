@@ -138,9 +138,10 @@ def too_long(*_):
 
 def said_of(octets):
     """How `explain` and `watch` end on a capture: in words, or by a traceback."""
-    signal.signal(signal.SIGALRM, too_long)
+    # By the time that this process itself takes: a busy machine gives it little.
+    signal.signal(signal.SIGPROF, too_long)
     for name, told in ("explain", explain_told), ("watch", watch_told):
-        signal.alarm(LONGEST)
+        signal.setitimer(signal.ITIMER_PROF, LONGEST)
         try:
             lines = told(octets)
             if len(lines) > MOST_LINES:
@@ -152,5 +153,5 @@ def said_of(octets):
             place = traceback.extract_tb(why.__traceback__)[-1]
             return f"{name} ends with {why!r} at {place.filename}:{place.lineno}"
         finally:
-            signal.alarm(0)
+            signal.setitimer(signal.ITIMER_PROF, 0)
     return "told"
