@@ -12,7 +12,9 @@ by `-s 96`, with a clock that is set by an hour, and beside another bridge. Each
 to be told, and nothing else may be. Where this process may not capture, all is skipped.
 """
 
+import concurrent.futures
 import io
+import os
 import pathlib
 import random
 import socket
@@ -30,9 +32,9 @@ from lib.explain import compared
 from lib.explain.explaining import explained
 from lib.explain.given import given_by
 from lib.explain.holding import LATEST, Held
-from lib.explain.planted import FAULTS, SAID, SHOWS_UNTIL, USUAL, Call as MadeCall
+from lib.explain.planted import FAULTS, SAID, Call as MadeCall
 from lib.explain.telling import Telling, telling
-from lib.explain.varied import variations, wrong
+from lib.explain.varied import Varied, variations, wrong
 from lib.network.camera import asked_numbers
 from lib.packets import nack, number, pli, rtp, seq_of
 from lib.serving import Operator, port_of, settings, started, udp_socket
@@ -65,7 +67,7 @@ def options(parser):
         "--tries", type=int, default=3, help="how many calls are tried where the machine is busy (%(default)s)"
     )
     parser.add_argument("--seed", type=int, default=1, help="what is lost and overtaken (%(default)s)")
-    parser.add_argument("--keep", metavar="FILE", help="leave the capture there")
+    parser.add_argument("--keep", metavar="FILE", help="leave the last capture there, or one that is told otherwise")
     add_program(parser)
 
 
@@ -238,10 +240,11 @@ def run(args):
         return 0
     program = release_program(args.binary)
     try:
-        for lanes in args.lanes:
-            if not args.only:
-                check_one(program, args, lanes)
-            check_planted(program, args, lanes)
+        with concurrent.futures.ProcessPoolExecutor(initializer=os.nice, initargs=(NICE,)) as workers:
+            for lanes in args.lanes:
+                if not args.only:
+                    check_one(program, args, lanes)
+                check_planted(program, args, lanes, workers)
     except BadCapture as why:
         fail(f"the capture can't be read: {why}")
     return 0
@@ -263,23 +266,30 @@ def check_one(program, args, lanes):
 
 # What is so where the machine is busy, and nobody planted it.
 BUSY = ("busy", None)
+# What explains captures has less of the processors than the calls that are held meanwhile.
+NICE = 10
 OTHERS = ("127.0.0.1:5104", "127.0.0.1:7100"), ("127.0.0.1:6100", "127.0.0.1:6102")
 
 
-def check_planted(program, args, lanes):
-    """Calls with planted faults, whose captures are made worse."""
-    draw, count = random.Random(args.seed), 0
+def check_planted(program, args, lanes, workers):
+    """Calls with planted faults, whose captures are made worse. These are explained while other calls are held."""
     names = [name for name in FAULTS | SAID if name != "a full receive buffer" and args.only in (None, name)]
-    others = MadeCall(bridge=OTHERS[0], members=OTHERS[1]).packets
+    due = []
     for at in range(0, len(names), args.at_once):
-        held = held_in_time(program, args, lanes, names[at : at + args.at_once])
-        packets = [(frame.moment, frame.octets) for frame in frames_of(io.BytesIO(held.octets), Notes())]
-        check_told(held, packets[0][0], held.octets, {}, "whole")
-        named, desk = {"udp": held.udp}, (given_by(held.rows), held.known)
-        for one in variations(draw, packets, args.cuts, desk, others, named):
-            check_told(held, one.begin, one.octets, one.named, one.how)
-            count += 1
-    print(f"on {lanes} lanes {len(names)} planted faults are told, also in {count} worse captures, and nothing else")
+        record = held_in_time(program, args, lanes, names[at : at + args.at_once])
+        seed = f"{args.seed} {lanes} {record.names}"
+        due.append((record, workers.submit(differences, record, seed, args.cuts)))
+    count = 0
+    for record, job in due:
+        tried, found = job.result()
+        count += tried
+        for how, octets, differ in found:
+            if args.keep:
+                pathlib.Path(args.keep).write_bytes(octets)
+            lines = "\n".join(f"  {line}" for line in differ)
+            fail(f"on {lanes} lanes a call with {', '.join(record.names)}, {how}:\n{lines}")
+    text = f"on {lanes} lanes {len(names)} planted faults are told, also in {count} worse captures, and nothing else"
+    print(text, flush=True)
 
 
 def held_in_time(program, args, lanes, names):
@@ -288,22 +298,28 @@ def held_in_time(program, args, lanes, names):
         with tempfile.TemporaryDirectory() as folder:
             held = Held(program, lanes, names, folder)
         if held.is_whole and held.late < LATEST:
-            break
-    return held
+            return held.record
+    return fail(
+        f"no call was held in time: packets left {1000 * held.late:.0f} ms late, or the capture lost some: the machine "
+        "is too busy"
+    )
 
 
-def check_told(held, begin, octets, named, how):
-    """What is told of a capture is planted, and what it shows of that is told."""
-    it = explained(io.BytesIO(octets), **named)
-    found = Telling(it, None, ALL).found() if it.run else []
-    may, must, second = {BUSY}, set(), (begin - held.known) / 1e9
-    for member in held.members:
-        wanted, follows = member.wanted()
-        may |= wanted | follows
-        if it.run and second < SHOWS_UNTIL.get(member.name, USUAL):
-            must |= wanted
-    differ = wrong(found, may, must)
-    if differ:
-        named = ", ".join(member.name for member in held.members)
-        late = f" (its packets left {1000 * held.late:.0f} ms late)" if held.late > LATEST else ""
-        fail(f"a call with {named}, {how}{late}:\n" + "\n".join(f"  {line}" for line in differ))
+def differences(record, seed, cuts):
+    """How many worse captures of a call were explained, and of which of them other things were told than what they
+    show: how they are worse, their octets, and the differences."""
+    packets = [(frame.moment, frame.octets) for frame in frames_of(io.BytesIO(record.octets), Notes())]
+    others = MadeCall(bridge=OTHERS[0], members=OTHERS[1]).packets
+    worse = variations(
+        random.Random(seed), packets, cuts, (given_by(record.rows), record.known), others, {"udp": record.udp}
+    )
+    found, count = [], -1
+    for one in (Varied("whole", record.octets, {}, packets[0][0]), *worse):
+        count += 1
+        it = explained(io.BytesIO(one.octets), **one.named)
+        told = Telling(it, None, ALL).found() if it.run else []
+        must, may = record.wanted(one.begin, one.broken)
+        differ = wrong(told, may | {BUSY}, must if it.run else set())
+        if differ:
+            found.append((one.how, one.octets, differ))
+    return count, found

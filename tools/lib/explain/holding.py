@@ -1,5 +1,6 @@
 """Holds a call over sockets in which some members have planted faults, and captures it."""
 
+import dataclasses
 import pathlib
 import socket
 import time
@@ -7,7 +8,7 @@ import time
 from lib.captures.recorder import Recorder
 from lib.demo import picture, tone
 from lib.explain.made import OTHER, STRANGER
-from lib.explain.planted import FAULTS, FOLLOWS, NEW, SAID, TICKS, whole
+from lib.explain.planted import FAULTS, NEW, SAID, TICKS, wanted, whole
 from lib.packets import number, rtp
 from lib.serving import Operator, port_of, settings, started, udp_socket
 from lib.shared import fail
@@ -25,9 +26,7 @@ class Member:
     def __init__(self, place, name):
         self.place, self.name, self.number, self.ssrc = place, name, 11 + place, 202 + place
         self.sockets = {address: udp_socket() for address in (OTHER, STRANGER, NEW)}
-        self.fault = FAULTS[name][0] if name in FAULTS else whole
-        # What stands in the made calls for what is this member's.
-        self.others = {202: self.ssrc, 777: 777 + place, 77: 3000 + place, 11: self.number}
+        self.fault, self.others = FAULTS[name][0] if name in FAULTS else whole, others_of(place)
 
     def address(self):
         return f"127.0.0.1:{port_of(self.sockets[OTHER])}"
@@ -45,19 +44,38 @@ class Member:
             words = line.split(" ")
             yield " ".join(str(self.others.get(int(word), word)) if word.isdigit() else word for word in words)
 
-    def told(self, found):
-        """What has to be told of it, or may be."""
-        return {(kind, self.others.get(about, about)) for kind, about in found}
 
-    def wanted(self):
-        """The kind of its fault and what that is about, and what else may follow from it."""
-        fault = (FAULTS | SAID)[self.name][1]
-        return self.told([fault]), self.told(FOLLOWS.get(fault, ()))
+def others_of(place):
+    """What stands in the made calls, and what is there for it in the call of the member at a place."""
+    return {202: 202 + place, 777: 777 + place, 77: 3000 + place, 11: 11 + place}
+
+
+@dataclasses.dataclass(frozen=True)
+class Record:
+    """The capture of a call whose members have these faults; the rows of its desk before these, with their moment; and
+    the bridge's address."""
+
+    names: tuple
+    octets: bytes
+    rows: str
+    known: int
+    udp: str
+
+    def wanted(self, begin, broken=None):
+        """What has to be told by a capture that begins at a moment, and what may be. At a moment its clock may be
+        set."""
+        begin, broken = (moment and (moment - self.known) / 1e9 for moment in (begin, broken))
+        found = set(), set()
+        for place, name in enumerate(self.names):
+            others = others_of(place)
+            for kinds, more in zip(found, wanted(name, begin, broken)):
+                kinds |= {(kind, others.get(about, about)) for kind, about in more}
+        return found
 
 
 class Held:
-    """A call that was held: its capture, the rows of its desk before the faults with their moment, and by how much
-    packets left too late."""
+    """A call that was held: its record, whether the capture has all of it, and by how much packets left too late, in
+    seconds."""
 
     def __init__(self, program, lanes, names, folder):
         self.members = [Member(place, name) for place, name in enumerate(names)]
@@ -76,7 +94,7 @@ class Held:
             self.operator.tell("stop")
             bridge.wait(60)
         self.is_whole = recorder.end()
-        self.octets = recorder.path.read_bytes()
+        self.record = Record(tuple(names), recorder.path.read_bytes(), self.rows, self.known, self.udp)
 
     def setup(self):
         yield from ("add-room 1", f"add-member 10 1 127.0.0.1:{port_of(self.one)} pcmu 9001 0 0")

@@ -183,6 +183,16 @@ SHOWS_UNTIL, USUAL = {
     "keys": 0.6, "a late path": 0.6, "another address": 0.6, "numbers that jump": 0.6, "a full receive buffer": 0.3,
     "a slow clock": 0.4, "a mute": 2.2, "a gain of 0": 2.2, "another room": 2.2,
 }, 1.2  # fmt: skip
+# The second at which faults begin that have a beginning, and how near to it either may be told.
+BEGINS, NEAR = HERE * 0.02, 0.15
+# What is told where a capture begins behind a fault, if that is another thing; it can be cut up to this second. A
+# source that comes from another address all the time is one whose member has to send from elsewhere.
+BEHIND, LATEST = {("moved", 202): ("address", 202)}, 2
+# From which second to which a clock that is set hides a fault, or the older part of it.
+HIDDEN = {
+    "a late path": (BEGINS - NEAR, BEGINS + 0.5), "another address": (BEGINS - NEAR, BEGINS + NEAR),
+    "numbers that jump": (BEGINS - NEAR, BEGINS + NEAR),
+}  # fmt: skip
 # What else may be said of a fault, since it follows from it.
 FOLLOWS = {
     ("clock", 202): {("late", 202), ("early", 202)},
@@ -192,3 +202,18 @@ FOLLOWS = {
     ("alone", 11): {("alone", 10), ("slot", 501)},
     ("overrun", None): {("still", 101)},
 }
+
+
+def wanted(name, begin, broken=None):
+    """What has to be told of a fault by a capture that begins at a second of a call, and what may be: kinds, and what
+    these are about. At a second its clock may be set."""
+    fault = (FAULTS | SAID)[name][1]
+    later, until = BEHIND.get(fault), SHOWS_UNTIL.get(name, USUAL)
+    first, last = HIDDEN.get(name, (0, 0))
+    is_hidden = broken is not None and first < broken < last
+    may = {fault, *FOLLOWS.get(fault, ())}
+    if later and (begin > BEGINS - NEAR or is_hidden):
+        may.add(later)
+    if later and begin > BEGINS + NEAR:
+        return ({later} if begin < LATEST else set()), {later}
+    return (set() if is_hidden or begin > until else {fault}), may

@@ -12,12 +12,14 @@ LOST, MOVED, KEPT, SET = 2, 5_000_000, 96, 3600 * 10**9
 
 @dataclasses.dataclass(frozen=True)
 class Varied:
-    """A capture made worse: how, its octets, what options it takes, and from which moment on it tells of the call."""
+    """A capture made worse: how, its octets, what options it takes, from which moment on it tells of the call, and at
+    which one its clock is set."""
 
     how: str
     octets: bytes
     named: dict
     begin: int
+    broken: int = None
 
 
 def written(packets, **named):
@@ -60,8 +62,9 @@ def variations(draw, packets, cuts, desk, others, named):
     rows, moment = desk
     yield Varied("cut short", written(begun_at(packets, moment), most=KEPT), {"given": rows}, moment)
     at = draw.randrange(len(packets) // 4, len(packets) * 3 // 4)
-    yield Varied("with a clock that is set ahead", set_at(packets, at, SET), {}, begin)
-    yield Varied("with a clock that is set back", set_at(packets, at, -SET), {}, begin)
+    broken = sorted(packets, key=lambda one: one[0])[at][0]
+    yield Varied("with a clock that is set ahead", set_at(packets, at, SET), {}, begin, broken)
+    yield Varied("with a clock that is set back", set_at(packets, at, -SET), {}, begin, broken)
     yield Varied("beside another bridge", written(beside(packets, others)), named, begin)
 
 
