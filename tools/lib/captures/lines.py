@@ -6,6 +6,8 @@ FIN, SYN, RST, ACK = 1, 2, 4, 16
 # A hole that so many octets lie behind was never captured. So it is, where later segments have come for so many
 # nanoseconds.
 MOST_BEHIND, LONGEST = 1 << 18, 3 * 10**9
+# So many segments wait for what is before them at the beginning.
+MOST_HELD = 256
 CUT = "operators' lines are cut short, by `-s` of tcpdump: calls or answers are lost"
 # The longest line of a bridge is one of `history`, with a group of 4,096 octets. A longer one is no bridge's.
 MOST_OF_LINE = 8192
@@ -51,7 +53,7 @@ class Direction:
         if self.next is None:
             self.begins = self.begins or packet.moment
             self.behind[seq] = octets, packet.missing, packet.moment
-            if packet.moment >= self.begins + self.patience:
+            if packet.moment >= self.begins + self.patience or len(self.behind) == MOST_HELD:
                 yield from self.start(packet.moment)
             return
         ahead = (seq - self.next + 2**31) % 2**32 - 2**31

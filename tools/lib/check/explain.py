@@ -267,7 +267,7 @@ def check_one(program, args, lanes):
 # What is so where the machine is busy, and nobody planted it.
 BUSY = ("busy", None)
 # What explains captures has less of the processors than the calls that are held meanwhile.
-NICE = 10
+NICE = 15
 OTHERS = ("127.0.0.1:5104", "127.0.0.1:7100"), ("127.0.0.1:6100", "127.0.0.1:6102")
 
 
