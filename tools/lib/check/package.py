@@ -2,10 +2,13 @@
 
 The package is built twice, and has the same octets. Programs that weren't proved are refused. lintian finds no error,
 and man no fault of a page. The .deb is installed in a root of its own, which debootstrap makes once and keeps in the
-user's cache (~/.cache/confbridge). There the bridge starts as its unit starts it, with the settings of the package, as
-a user without rights. Two members talk through `confbridge-tools member`, `stats` counts them, and SIGTERM stops the
-bridge with its last lines. What keeps the desk restores it to the next bridge. `confbridge-tools explain` explains a
-capture. At last the package is removed, and nothing of it stays. Each has a line; so has what is skipped, and why.
+user's cache (~/.cache/confbridge). Where it can't, the package is unpacked in a tree with the C library, a shell and
+Python of this machine alone, and isn't removed.
+
+There the bridge starts as its unit starts it, with the settings of the package, as a user without rights. Two members
+talk through `confbridge-tools member`, `stats` counts them, and SIGTERM stops the bridge with its last lines. What
+keeps the desk restores it to the next bridge. `confbridge-tools explain` explains a capture. At last the package is
+removed, and nothing of it stays. Each has a line; so has what is skipped, and why.
 """
 
 import argparse
@@ -13,9 +16,11 @@ import ctypes
 import fcntl
 import os
 import pathlib
+import re
 import shutil
 import signal
 import socket
+import stat
 import struct
 import subprocess
 import tarfile
@@ -49,6 +54,9 @@ MEMBERS = [(10, 201, 6000, 6100, 6200, 9001, 0xCE), (11, 202, 6002, 6102, 6202, 
 def options(parser):
     add_program(parser)
     parser.add_argument("--page", type=pathlib.Path, metavar="FILE", help="the page's program")
+    parser.add_argument(
+        "--gathered", action="store_true", help="unpack it in a tree of this machine's C library, shell and Python"
+    )
 
 
 def check(holds, text):
@@ -166,6 +174,43 @@ def kept_root():
         shutil.rmtree(cache, ignore_errors=True)
         return None, f"debootstrap: {run.stdout.strip().splitlines()[-1:]}"
     return cache, None
+
+
+def gathered(folder):
+    """A tree with the C library, a shell and Python of this machine alone, or None where it has no Python of its
+    own."""
+    if not pathlib.Path("/usr/bin/python3").exists():
+        return None
+    for name in "usr/bin", "usr/lib", "usr/lib64", "tmp", "proc", "dev", "etc", "var/lib":
+        (folder / name).mkdir(parents=True)
+    for name in "bin", "lib", "lib64":
+        (folder / name).symlink_to(f"usr/{name}")
+    os.mknod(folder / "dev/null", 0o666 | stat.S_IFCHR, os.makedev(1, 3))
+    (folder / "dev/null").chmod(0o666)
+    (folder / "tmp").chmod(0o1777)
+    version = "python{}.{}".format(*python_version())
+    ignored = shutil.ignore_patterns("__pycache__", "test", "dist-packages", "config-*")
+    shutil.copytree(f"/usr/lib/{version}", folder / f"usr/lib/{version}", ignore=ignored)
+    programs = [pathlib.Path("/usr/bin") / name for name in ("sh", "dirname", "setpriv", "true", "python3")]
+    for program in programs:
+        shutil.copy(program, folder / f"usr/bin/{program.name}")
+    modules = (folder / f"usr/lib/{version}/lib-dynload").glob("*.so")
+    for path in libraries_of([*programs, *modules]):
+        target = folder / path.removeprefix("/")
+        target.parent.mkdir(parents=True, exist_ok=True)
+        shutil.copy(path, target)
+    return folder
+
+
+def python_version():
+    words = ["/usr/bin/python3", "-c", "import sys; print(*sys.version_info[:2])"]
+    return subprocess.run(words, capture_output=True, text=True, check=True).stdout.split()
+
+
+def libraries_of(files):
+    """The libraries that files take, by their paths."""
+    said = "".join(subprocess.run(["ldd", one], capture_output=True, text=True).stdout for one in files)
+    return set(re.findall(r"(?:=> |^\s*)(/\S+)", said, re.M))
 
 
 class Root:
@@ -384,25 +429,39 @@ def check_tools(root):
     capture.unlink()
 
 
-def check_root(deb):
+def check_root(deb, is_gathered):
     """Installs the package in a root of its own, uses it there, and removes it."""
     if os.geteuid():
         skipped("install", "a root of its own takes root")
         return
-    base, why = kept_root()
-    if not base:
-        skipped("install", why)
-        return
-    with tempfile.TemporaryDirectory() as folder:
-        pathlib.Path(folder).chmod(0o755)
-        root = Root(base, pathlib.Path(folder))
+    base, why = (None, "asked for by --gathered") if is_gathered else kept_root()
+    with tempfile.TemporaryDirectory() as name:
+        folder = pathlib.Path(name)
+        folder.chmod(0o755)
+        is_debian, base = bool(base), base or gathered(folder / "base")
+        if not base:
+            skipped("install", f"{why}, and this machine has no Python in /usr/bin")
+            return
+        root = Root(base, folder)
         try:
-            use(root, deb)
+            if is_debian:
+                use_installed(root, deb)
+            else:
+                skipped("dpkg", f"{why}. The package is unpacked instead")
+                use_unpacked(root, deb)
         finally:
             root.end()
 
 
-def use(root, deb):
+def use_unpacked(root, deb):
+    """Unpacks the package, and uses it."""
+    subprocess.run(["dpkg-deb", "-x", deb, root.path], check=True)
+    told("install", "unpacked in a tree with the C library, a shell and Python alone")
+    check_bridge(root)
+    check_tools(root)
+
+
+def use_installed(root, deb):
     """Installs the package, uses it, and removes it."""
     shutil.copyfile(deb, root.path / "tmp/confbridge.deb")
     root.run("dpkg", "--install", "/tmp/confbridge.deb")
@@ -432,5 +491,5 @@ def run(args):
             return 0
         subprocess.run(["dpkg-deb", "-x", deb, folder / "tree"], check=True)
         check_forms(deb, folder / "tree")
-        check_root(deb)
+        check_root(deb, args.gathered)
     return 0
