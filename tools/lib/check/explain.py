@@ -119,6 +119,8 @@ class Call:
     def __init__(self, port, operator, seed):
         self.one, self.other, self.stranger = (Member(("127.0.0.1", port), seed + n) for n in range(3))
         self.operator, self.version, self.tick, self.sent = operator, 0, 0, {}
+        # By how many seconds packets left too late.
+        self.late = 0
 
     def setup(self):
         yield from ("add-room 1", f"add-member 10 1 {self.one.address()} pcmu 9001 0 0")
@@ -159,6 +161,7 @@ class Call:
             if calls and now - begun >= min(calls):
                 self.say(calls.pop(min(calls)))
             if now - begun >= self.tick * EACH:
+                self.late = max(self.late, now - begun - self.tick * EACH)
                 self.turn(now)
             self.other.turn(now)
             self.stranger.turn(now)
@@ -256,10 +259,16 @@ def check_one(program, args, lanes):
         with tempfile.TemporaryDirectory() as folder:
             octets, call = captured(program, args, lanes, folder)
         it = check_whole(octets, call, program)
-        if it:
+        if it and call.late < LATEST:
             check_parts(octets, it)
             return
+    if it:
+        fail(too_busy(call))
     fail("media packets differ from the models'")
+
+
+def too_busy(call):
+    return f"no call was held in time: packets left {1000 * call.late:.0f} ms late, or some weren't captured"
 
 
 # Planted faults
@@ -299,10 +308,7 @@ def held_in_time(program, args, lanes, names):
             held = Held(program, lanes, names, folder)
         if held.is_whole and held.late < LATEST:
             return held.record
-    return fail(
-        f"no call was held in time: packets left {1000 * held.late:.0f} ms late, or the capture lost some: the machine "
-        "is too busy"
-    )
+    return fail(too_busy(held))
 
 
 def differences(record, seed, cuts):

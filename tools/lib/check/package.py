@@ -429,6 +429,22 @@ def check_tools(root):
     capture.unlink()
 
 
+def check_demo(root):
+    """The demo there has a call of two members, at the page."""
+    if not (root.path / "usr/bin/confbridge-page").is_symlink():
+        skipped("demo", "there is no page")
+        return
+    demo = root.start(["/usr/bin/confbridge-tools", "demo"])
+    until(lambda: PAGE in said_by(demo) or demo.poll() is not None, f"the demo doesn't begin: {said_by(demo)}")
+    check(demo.poll() is None, f"the demo ends with status {demo.returncode}: {said_by(demo)}")
+    desk = Operator(socket.create_connection(TCP, PATIENCE))
+    heard = lambda: sum(line.startswith("stream ") for line in desk.shown("stats")) >= 2
+    until(heard, "nobody is heard in the demo")
+    demo.send_signal(signal.SIGINT)
+    check(demo.wait(PATIENCE) == 0, f"the demo ends with status {demo.returncode}: {said_by(demo)}")
+    told("demo", "`confbridge-tools demo` holds a call, and Ctrl-C ends it")
+
+
 def check_root(deb, is_gathered):
     """Installs the package in a root of its own, uses it there, and removes it."""
     if os.geteuid():
@@ -459,6 +475,7 @@ def use_unpacked(root, deb):
     told("install", "unpacked in a tree with the C library, a shell and Python alone")
     check_bridge(root)
     check_tools(root)
+    check_demo(root)
 
 
 def use_installed(root, deb):
@@ -471,6 +488,7 @@ def use_installed(root, deb):
         skipped("filters", f"there is no {lacks()}, so the units' filters of system calls aren't tried")
     check_bridge(root)
     check_tools(root)
+    check_demo(root)
     root.run("dpkg", "--purge", "confbridge")
     left = [name for name in files if os.path.lexists(f"{root.path}{name}")]
     left += map(str, (root.path / "var/lib").glob("confbridge*"))
