@@ -1,28 +1,28 @@
-"""The agent's watch: it sees to its own bridges, and that each room has one.
+"""The agent's watch: it sees to its own bridges, and the leader that each room has one.
 
 A room's record says where it is to be. The agents do what is missing, again and again, so that one that dies in the
 middle leaves nothing that the next one doesn't put right.
 """
 
+import collections
+import contextlib
 import threading
 import time
 import traceback
 
+from copied import Copy
 from desk import BUSY
-from etcd import ANY
-from kept import commands_of, groups_of
+from etcd import ANY, GONE
 from known import DESKS, FLEET, NEW, Store
+from leader import AT_ONCE, EMPTY, Leader
+from leased import Lease
 from printable import printable
 from refused import FAILED, Refused, words_of
 
-# The seconds between two looks, and those after which a refused room is tried again. How long a bridge of another agent
-# may be unknown before its rooms go elsewhere: beside the time of its lease, and once etcd is known again by this agent,
-# which may be the first one that does.
-PAUSE, AGAIN, GRACE, PATIENCE = 0.25, 5, 0.5, 5
-# How many rooms are changed at once: etcd takes 128 changes.
-AT_ONCE = 100
-# How many seconds a room stays without a member, unless an operator has added it.
-EMPTY = 10
+# The seconds between two looks where nothing happens, and where something is wrong.
+PAUSE, TROUBLED = 1, 0.25
+# How many calls that were lost are remembered.
+LOST = 64
 
 
 def log(text):
@@ -31,23 +31,40 @@ def log(text):
 
 class Agent:
     def __init__(self, settings, bridges, user=None):
-        self.url, self.lasts = settings["agent"]["url"], settings["agent"]["lease"]
+        self.url, self.lasts, self.log = settings["agent"]["url"], settings["agent"]["lease"], log
         self.store, self.bridges = Store(settings["etcd"]["servers"], user), {one.name: one for one in bridges}
-        self.lease, self.renewed, self.patient, self.missing, self.troubles = None, 0.0, 0.0, {}, {}
-        self.spoiled = set()
-        # `lost`: a bridge has just ended, whose rooms want another one.
-        self.closed, self.lost = threading.Event(), threading.Event()
+        self.copy, self.troubles, self.spoiled = Copy(self.store), {}, set()
+        self.lease = Lease(self.store, self.lasts, self.begins, log)
+        self.leader = Leader(self)
+        # Calls of operators that were lost, since their rooms had gone elsewhere.
+        self.lost = collections.deque(maxlen=LOST)
+        self.closed = threading.Event()
+        self.copy.heard.append(self.hears)
 
     def run(self):
-        for bridge in self.bridges.values():
-            threading.Thread(target=self.again, args=(self.closed, self.tend, bridge), daemon=True).start()
-        threading.Thread(target=self.again, args=(self.lost, self.settle), daemon=True).start()
+        self.starts(self.copy.run)
+        self.starts(self.lease.run)
+        for name, bridge in self.bridges.items():
+            self.starts(self.again, name, bridge.desk.waits, self.tend, bridge)
+        self.starts(self.again, "the fleet", self.leader.woken.wait, self.leader.settle)
+        self.starts(self.again, "bridges without agents", self.leader.late.wait, self.leader.ask_late)
 
-    def again(self, early, work, *given):
+    def starts(self, work, *given):
+        threading.Thread(target=work, args=given, daemon=True).start()
+
+    def close(self):
+        """Ends, and lets another agent be the leader."""
+        self.closed.set()
+        self.copy.closed.set()
+        self.lease.closed.set()
+        with contextlib.suppress(Refused):
+            if self.copy.known.leader == self.url:
+                self.copy.swap([(f"{FLEET}leader", None, ANY)], None, self.leader.only_if())
+
+    def again(self, name, waits, work, *given):
         """Does a work again and again, also early. What hinders it is told once."""
-        name = given[0].name if given else "the fleet"
         while not self.closed.is_set():
-            early.wait(PAUSE)
+            waits(TROUBLED if self.troubles.get(name) else PAUSE)
             trouble = ""
             try:
                 work(*given)
@@ -60,143 +77,163 @@ class Agent:
                 log(f"{name}: {trouble or 'all is well again'}")
             self.troubles[name] = trouble
 
-    # All rooms
+    def hears(self, key):
+        """Wakes those of its bridges that a change is about."""
+        kind, _, name = (key or "").partition("/")
+        known = self.copy.known
+        if kind == "rooms" and name.isdigit():
+            record, _ = known.rooms.get(int(name), (NEW, 0))
+            # Where a room has left, the desk that still has it sees so.
+            named = {record["on"], record["to"], *(one for one, it in self.bridges.items() if int(name) in it.rooms)}
+        elif kind in ("bridges", "draining"):
+            named = {name}
+        else:
+            named = {*self.bridges} if key is None else set()
+        for one in named & self.bridges.keys():
+            self.bridges[one].desk.ring()
 
-    def settle(self):
-        """Keeps the lease, and gives each room without a bridge one."""
-        self.lost.clear()
-        if self.lease is None or time.monotonic() - self.renewed > self.lasts / 3:
-            if self.lease is None or not self.renews():
-                self.patient, self.lease = time.monotonic() + PATIENCE, self.store.lease(self.lasts)
-            self.renewed = time.monotonic()
-        known, changed = self.store.known(), {}
-        self.tell_of(known.spoiled)
-        gone = self.gone(known)
-        for room, (record, revision) in known.rooms.items():
-            is_nowhere = record["on"] is None and record["members"] == 0 and record["placed"]
-            if is_nowhere and time.time() - record["placed"] > EMPTY:
-                self.store.end_room(room, revision)
-                continue
-            later = self.settled(room, record, known, gone)
-            if later != record and len(changed) < AT_ONCE:
-                known.rooms[room], changed[room] = (later, revision), later
-        if changed:
-            self.store.put_rooms(changed, known)
+    def begins(self, lease):
+        """Has a new lease, by which the others know this agent."""
+        key = f"agents/{self.url.partition('//')[2]}"
+        self.copy.put(key, {"url": self.url}, lease)
+
+    def demand(self):
+        """Refuses what is asked of a bridge where other agents may have given its rooms away."""
+        self.copy.current()
+        if not self.lease.is_good():
+            raise Refused(GONE)
 
     def tell_of(self, spoiled):
         """Says of keys that they hold what no agent has put there."""
-        for key in list(spoiled.keys() - self.spoiled)[:10]:
+        for key in list(spoiled - self.spoiled)[:10]:
             log(f"etcd has something strange at {FLEET}{key[:100]}: it is passed over")
         self.spoiled = {*spoiled}
-
-    def renews(self):
-        """Whether etcd still has the lease. Where etcd is gone, other agents may be late as well once it is back."""
-        try:
-            return self.store.renew(self.lease)
-        except Refused:
-            self.patient = time.monotonic() + PATIENCE
-            raise
-
-    def gone(self, known):
-        """The bridges that are gone: those of this agent at once, others after a while."""
-        named = {name for one, _ in known.rooms.values() for name in (one["on"], one["to"])} - {None, *known.bridges}
-        now = time.monotonic()
-        self.missing = {name: self.missing.get(name, now) for name in named}
-        own = {name for name in named if name in self.bridges and self.bridges[name].is_there is False}
-        late = {name for name in named if now - self.missing[name] > GRACE and now > self.patient}
-        return own | late - {*self.bridges}
-
-    def settled(self, room, record, known, gone):
-        """A room's record as it should be."""
-        later = dict(record)
-        if later["on"] in gone:
-            later |= {"on": None, "ready": False}
-        if later["to"] in gone:
-            later |= {"to": None, "ready": False}
-        is_asked_to_go = known.draining.get(later["on"], {}).get("move", False)
-        if later["to"] is None and (later["on"] is None or is_asked_to_go) and time.time() >= later["after"]:
-            try:
-                later["to"] = known.chosen(later["members"], [*later["tried"], later["on"]])
-                log(f"room {room} goes from {record['on']} to {later['to']}")
-            except Refused as why:
-                later |= {"tried": [], "why": str(why), "after": int(time.time()) + AGAIN}
-                log(f"room {room} has no bridge: {why}")
-        return later
 
     # A bridge of this agent
 
     def tend(self, bridge):
         """Does what the records ask of a bridge, and keeps the rows of its rooms."""
         with bridge.lock:
-            known = self.store.known()
+            self.fence(bridge)
+            self.copy.current()
             try:
-                bridge.look()
+                bridge.see()
             except Refused as why:
                 if str(why) != BUSY:
-                    was_there, bridge.is_there, bridge.kept = bridge.is_there, False, {}
-                    if was_there:
-                        self.lost.set()
-                    if known.bridges.get(bridge.name, {}).get("agent") == self.url:
-                        self.store.swap([(f"{FLEET}bridges/{bridge.name}", None, ANY)])
+                    self.loses(bridge)
                 raise
-            self.announce(bridge, known)
-            may_come = lambda one: one["to"] == bridge.name != one["on"] and (one["on"] is None or one["ready"])
-            coming = {room: one for room, one in known.rooms.items() if may_come(one[0])}
-            if coming:
-                self.bring(bridge, dict(list(coming.items())[:AT_ONCE]))
-            for room, (record, revision) in known.rooms.items():
+            self.announce(bridge)
+            for room, (record, revision) in self.records(bridge).items():
                 if record["on"] == bridge.name:
                     self.keep(bridge, room, record, revision)
                     self.end_empty(bridge, room, record, revision)
-            for room in list(bridge.rooms):
-                record, _ = known.rooms.get(room, (None, 0))
-                if record is None:
-                    # An operator has added it. If the number is taken by now, the next look removes it.
-                    self.store.put_room(room, NEW | {"on": bridge.name}, known.revision(room))
-                elif bridge.name not in (record["on"], record["to"]):
-                    log(f"room {room} leaves {bridge.name}: it is on {record['on']}")
-                    bridge.remove(room)
-            is_drained = bridge.name in known.draining and not bridge.rooms and not known.rooms_of(bridge.name)
-            # What etcd says of a drain stops no bridge: somebody has to ask this agent.
-            if is_drained and bridge.may_stop:
-                log(f"{bridge.name} has no room any more, and is stopped")
-                bridge.stop()
-                self.store.swap([(f"{FLEET}{kind}/{bridge.name}", None, ANY) for kind in ("draining", "bridges")])
+            bridge.is_anew = False
+            may_come = lambda one: one["to"] == bridge.name != one["on"] and (one["on"] is None or one["ready"])
+            coming = {room: one for room, one in self.records(bridge).items() if may_come(one[0])}
+            if coming:
+                self.bring(bridge, dict(list(coming.items())[:AT_ONCE]))
+            self.give_up(bridge)
+            self.end_drain(bridge)
+
+    def records(self, bridge):
+        """The records of the rooms that are on a bridge or go there, with their revisions."""
+        with self.copy.lock:
+            known = self.copy.known
+            return {room: known.rooms[room] for room in known.rooms_of(bridge.name)}
+
+    def fence(self, bridge):
+        """Sees whether others may have given a bridge's rooms away, since this agent has lost them."""
+        bridge.desk.hears()
+        if not bridge.is_cut and bridge.is_there and not self.lease.is_good():
+            bridge.is_cut = True
+            bridge.desk.others.clear()
+            log(f"{bridge.name} is cut off: its rooms may go elsewhere, and what operators do there may be lost")
+
+    def loses(self, bridge):
+        """A bridge has ended: its rooms go elsewhere."""
+        with self.copy.lock:
+            known = self.copy.known
+            before, revision = known.bridges.get(bridge.name), known.revisions.get(f"bridges/{bridge.name}", 0)
+        bridge.is_there, bridge.kept = False, {}
+        if before and before["agent"] == self.url:
+            self.copy.swap([(f"{FLEET}bridges/{bridge.name}", None, revision)])
+
+    def give_up(self, bridge):
+        """Gives up the rooms of a desk that have gone elsewhere, and takes in those that an operator has added."""
+        left = []
+        for room in list(bridge.rooms):
+            with self.copy.lock:
+                known = self.copy.known
+                (record, _), revision = known.rooms.get(room, (None, 0)), known.revision(room)
+            if record is None:
+                # If the number is taken by now, the next look removes the room.
+                self.copy.put_room(room, NEW | {"on": bridge.name}, revision)
+            elif bridge.name not in (record["on"], record["to"]):
+                log(f"room {room} leaves {bridge.name}: it is on {record['on']}")
+                bridge.remove(room)
+                left.append(room)
+        if bridge.is_cut and self.lease.is_good():
+            bridge.is_cut = False
+            log(f"{bridge.name} is back: {len(left)} of its rooms had gone elsewhere")
+            for number, operator, call in list(bridge.desk.others) if left else ():
+                words = f"call {number} of operator {operator} at {bridge.name} may be lost, since rooms had gone: {call}"
+                self.lost.append(words)
+                log(words)
+
+    def end_drain(self, bridge):
+        """Stops a bridge that is drained. What etcd says of a drain stops none: somebody has to ask this agent."""
+        known = self.copy.known
+        if bridge.may_stop and bridge.name in known.draining and not bridge.rooms and not known.of.get(bridge.name):
+            log(f"{bridge.name} has no room any more, and is stopped")
+            bridge.stop()
+            self.copy.swap([(f"{FLEET}{kind}/{bridge.name}", None, ANY) for kind in ("draining", "bridges")])
 
     def end_empty(self, bridge, room, record, revision):
         """Ends a room that nobody has joined, or that nobody is in any more."""
         is_over = bridge.seconds_empty(room) > EMPTY and record["placed"] and record["to"] is None
-        if is_over and self.store.end_room(room, revision):
+        if is_over and self.copy.end_room(room, revision):
             log(f"room {room} has had no member for {EMPTY} s, and ends")
             bridge.remove(room)
 
-    def announce(self, bridge, known):
+    def announce(self, bridge):
         """Says that a bridge runs."""
         told = {key: bridge.settings[key] for key in ("udp", "sip", "page", "rooms", "members")} | {"agent": self.url}
-        before, bridge.is_there = known.bridges.get(bridge.name), True
-        if before and before["agent"] != self.url:
+        with self.copy.lock:
+            known = self.copy.known
+            before, revision = known.bridges.get(bridge.name), known.revisions.get(f"bridges/{bridge.name}", 0)
+            others = before and before["agent"] != self.url and known.has_agent(bridge.name)
+        bridge.is_there = True
+        if others:
             raise Refused(f"the agent at {before['agent']} has a bridge of this name")
-        if self.lease and (before != told or bridge.lease != self.lease):
-            self.store.swap([(f"{FLEET}bridges/{bridge.name}", told, ANY)], self.lease)
-            bridge.lease = self.lease
+        if before != told and self.lease.id:
+            self.copy.swap([(f"{FLEET}bridges/{bridge.name}", told, revision)])
+        if self.lease.id and self.url not in known.agents:
+            self.begins(self.lease.id)
 
     def keep(self, bridge, room, record, revision):
         """Keeps a room's rows, where they have changed or where the room is about to go."""
         if room not in bridge.rooms:
-            if bridge.version < record["version"]:
+            if bridge.is_anew or bridge.version < record["version"]:
                 log(f"{bridge.name} was started anew, without room {room}")
-                self.store.put_room(room, record | {"on": None, "ready": False}, revision)
+                self.copy.put_room(room, record | {"on": None, "ready": False}, revision)
             else:
                 log(f"room {room} was removed from {bridge.name}")
-                self.store.end_room(room, revision)
+                self.copy.end_room(room, revision)
             return
-        ready = record["to"] is not None
-        if bridge.kept.get(room) == bridge.rooms[room] and record["ready"] == ready:
+        ready, kept = record["to"] is not None, bridge.kept.get(room)
+        if bridge.is_kept(room) and record["ready"] == ready:
             return
-        later = record | {"members": len(bridge.members(room)), "version": bridge.version, "ready": ready}
-        groups = groups_of(commands_of(bridge.rooms[room]))
-        if self.store.put_room(room, later, revision, (f"{DESKS}{room}", groups, ANY)):
-            bridge.kept[room] = bridge.rooms[room]
+        later, others = record | {"members": len(bridge.members(room)), "version": bridge.version, "ready": ready}, []
+        if not bridge.is_kept(room):
+            number, what, kept = bridge.changes_to_keep(room)
+            if number is None:
+                others = [(f"{DESKS}{room}", what, ANY), (f"{DESKS}{room}/", None, ANY)]
+            else:
+                others = [(f"{DESKS}{room}/{number:04}", what, ANY)]
+        # Where that fails, somebody has changed the record, and all is put anew.
+        bridge.kept.pop(room, None)
+        if self.copy.put_room(room, later, revision, *others):
+            bridge.kept[room] = kept
 
     def bring(self, bridge, rooms):
         """Makes rooms on a bridge by their records and revisions, and then says which of them are there."""
@@ -212,9 +249,9 @@ class Agent:
                 later[room] |= {"tried": [*record["tried"], bridge.name], "why": why}
                 log(why)
         revisions = {room: revision for room, (_, revision) in rooms.items()}
-        if self.store.swap_rooms(later, revisions):
+        if self.copy.put_rooms(later, revisions):
             return
         # Some record has changed meanwhile: that room isn't to come any more.
         for room in rooms:
-            if not self.store.put_room(room, later[room], revisions[room]) and refusals[room] is None:
+            if not self.copy.put_room(room, later[room], revisions[room]) and refusals[room] is None:
                 bridge.remove(room)

@@ -3,6 +3,8 @@
     GET  /                all bridges and rooms
     GET  /where?room=12   its bridge, or the one that it would get now. It is a question: nothing changes. `at` says by
                           its `udp` which one is best for a room without a bridge
+    GET  /where?room=12&follow   the same as server-sent events: now, and whenever it changes. Without `room`: those of
+                          all rooms, as they change
     POST /join    {"room": 12, "address": "10.0.0.9:6000", "voice": SSRC, "camera": SSRC, "slots": 3, "codec": "pcmu"}
                   A room gets its bridge now. Without `address` it gets no member: a gateway adds its own, and the room
                   goes where there is none after 10 s. `source` says for whom a room is opened (left out: the host of
@@ -11,8 +13,11 @@
     POST /move    {"room": 12, "to": "b"}
     POST /drain   {"bridge": "a", "move": true}: no new rooms, and `stop` once it has none. `move` sends them elsewhere,
                   and `off` takes a drain back
+    POST /lead    {"room": 12, "source": .., "at": ..} or {"room": 12, "to": "b"}: what an agent asks the leader, to
+                  place a room or to move one
 """
 
+import contextlib
 import json
 import re
 import time
@@ -22,17 +27,18 @@ import urllib.request
 from body import FLAG, ROOM, text, whole
 from bridge import MEMBERS
 from desk import in_words
-from etcd import ANY
 from fleet_rooms import LEAST
 from fleet_secret import signed
-from known import FLEET, NEW
+from known import NEW
 from refused import Refused
-from server import Handler
+from server import Followed, Handler
 
-# How often a change is tried that others come before. How many seconds a request waits for a room that moves.
-TURNS, PATIENCE = 50, 5
-MOVING, TOO_MANY = 409, 429
+# How many seconds a request waits for a room that moves, or for the fleet to know what it was told; and for etcd, where
+# that has just been lost.
+PATIENCE, READING = 5, 2
+MOVING = 409
 U32 = 2**32 - 1
+NOBODY = "The agent of this room's bridge doesn't answer. Try again in a second."
 # How many octets of another agent's answer are read.
 MOST_OCTETS = 100_000
 
@@ -46,50 +52,79 @@ def room_of(words):
 class Asked:
     def __init__(self, agent, secret, most):
         """`most`: how many rooms that one source has opened there may be."""
-        self.agent, self.store, self.secret, self.most = agent, agent.store, secret, most
+        self.agent, self.copy, self.secret, self.most = agent, agent.copy, secret, most
 
     def place(self, words):
-        """What is known, once a room has a bridge or goes to one."""
+        """What is known, once a room has a bridge or goes to one: the leader has chosen it."""
         room = room_of(words)
-        source = words.get("source", words.get("address", "").partition(":")[0])
-        for _ in range(TURNS):
-            known = self.store.known()
-            if room in known.rooms:
-                return known
-            opened = sum(one["source"] == source for one, _ in known.rooms.values())
-            if source and opened >= self.most:
-                words = f"{source} has opened {opened} rooms of this fleet, as many as one may."
-                raise Refused(f"{words} Try again when one of them has ended.", TOO_MANY)
-            to = known.chosen(at=words.get("at"))
-            record = NEW | {"to": to, "source": source, "placed": int(time.time())}
-            self.store.put_rooms({room: record}, known)
-        raise Refused("Too many rooms open at once. Try again in a second.")
+        if room not in self.copy.current(READING).rooms:
+            source = words.get("source", words.get("address", "").partition(":")[0])
+            at = {"at": words["at"]} if "at" in words else {}
+            if "passed" not in words:
+                self.led({"room": room, "source": source} | at)
+            # Others may have heard of it before this agent has.
+            if not self.copy.until(lambda known: room in known.rooms, PATIENCE):
+                raise Refused("Two agents don't know the same. Try again in a second.", MOVING)
+        return self.copy.known
+
+    def led(self, words):
+        """Has the leader change something."""
+        self.copy.current(READING)
+        if not self.copy.until(lambda known: known.leader, PATIENCE):
+            raise Refused("The fleet has no leader in this moment. Try again in some seconds.")
+        leader = self.copy.known.leader
+        if leader == self.agent.url:
+            return self.lead(words)
+        return self.passed_on(f"{leader}/lead", words)
+
+    def lead(self, words):
+        self.agent.demand()
+        leader, room = self.agent.leader, room_of(words)
+        if "to" in words:
+            return {"revision": leader.move(room, words["to"])}
+        return {"revision": leader.place(room, words.get("source", ""), words.get("at"), self.most)}
 
     def found(self, words):
         """What is known, where a room is there."""
-        known = self.store.known()
+        known = self.copy.current(READING)
         if room_of(words) not in known.rooms:
             raise Refused(f"There is no room {words['room']}.", 404)
         return known
 
     def where(self, words):
         """The bridge of a room, and whether it has that already."""
-        room, known = room_of(words), self.store.known()
-        if room in known.rooms:
-            return bridge_of(room, known) | {"placed": True}
-        bridge = known.chosen(at=words.get("at"))
-        return {"bridge": bridge, **known.bridges[bridge], "placed": False}
+        room = room_of(words)
+        with self.copy.lock:
+            known = self.copy.current(READING)
+            if room in known.rooms:
+                return bridge_of(room, known) | {"placed": True}
+            bridge = known.chosen(at=words.get("at"))
+            return {"bridge": bridge, **known.bridges[bridge], "placed": False}
+
+    def place_of(self, room):
+        """What those are told who follow a room: None where nobody knows it in this moment."""
+        with self.copy.lock:
+            known = self.copy.known
+            record = known.rooms.get(room, (None, 0))[0]
+            if not self.copy.is_current or record and record["on"] not in known.bridges:
+                return None
+            bridge = record and record["on"]
+            return {"room": room, "bridge": bridge} | (known.bridges[bridge] if bridge else {})
 
     def at_bridge(self, path, words, find, work):
         """Does a work where a room is, once `find` says what is known of it. It waits for a room that moves."""
         end = time.monotonic() + PATIENCE
         while True:
             try:
-                told = bridge_of(room_of(words), find(words))
+                known = find(words)
+                told = bridge_of(room_of(words), known)
                 if told["bridge"] in self.agent.bridges:
+                    self.agent.demand()
                     return work(self.agent.bridges[told["bridge"]], room_of(words), words) | {"udp": told["udp"]}
                 if "passed" in words:
                     raise Refused("Two agents don't know the same. Try again in a second.", MOVING)
+                if not known.has_agent(told["bridge"]):
+                    raise Refused(NOBODY, MOVING)
                 return self.passed_on(f"{told['agent']}/{path}", words)
             except Refused as why:
                 if why.status != MOVING or "passed" in words or time.monotonic() > end:
@@ -98,11 +133,11 @@ class Asked:
 
     def stands(self, bridge, room):
         """A room's record, once it is on a bridge whose lock is held, and stays there."""
-        bridge.look()
-        record, revision = self.store.room(room)
+        bridge.see()
+        record, revision = self.copy.known.rooms.get(room, (None, 0))
         if record and record["on"] is None and record["to"] == bridge.name:
             self.agent.bring(bridge, {room: (record, revision)})
-            record, revision = self.store.room(room)
+            record, revision = self.copy.known.rooms.get(room, (None, 0))
         if not record or record["on"] != bridge.name or record["to"] or room not in bridge.rooms:
             raise Refused((record or NEW)["why"] or f"Room {room} moves. Try again in a second.", MOVING)
         return record, revision
@@ -130,10 +165,12 @@ class Asked:
             refusal, joined = bridge.join(room, words)
             if refusal and not bridge.members(room):
                 bridge.remove(room)
-                self.store.end_room(room, revision)
+                self.copy.end_room(room, revision)
             if refusal:
                 raise Refused(f"{in_words(refusal)} ({bridge.name}: {refusal})")
-            self.agent.keep(bridge, room, record, revision)
+            # It is a member. Where etcd doesn't answer just now, its rows are kept later.
+            with contextlib.suppress(Refused):
+                self.agent.keep(bridge, room, record, revision)
         return joined | {"bridge": bridge.name}
 
     def leave(self, words):
@@ -152,33 +189,20 @@ class Asked:
 
     def move(self, words):
         room, to = room_of(words), words["to"]
-        for _ in range(TURNS):
-            known = self.store.known()
-            if room not in known.rooms or to not in known.bridges:
-                raise Refused(f"There is no room {room}, or no bridge {to}.", 404)
-            record = known.rooms[room][0]
-            if record["on"] is None or record["to"]:
-                raise Refused(f"Room {room} is on its way already.", MOVING)
-            if known.chosen(record["members"], [name for name in known.bridges if name != to]) == record["on"]:
-                raise Refused(f"Room {room} is on {to}.", 400)
-            if self.store.put_rooms({room: record | {"to": to, "tried": [], "why": ""}}, known):
-                return self.moved(room, to)
-        raise Refused("Too many rooms change at once. Try again in a second.", MOVING)
-
-    def moved(self, room, to):
-        """Where a room is once its move is over."""
-        end = time.monotonic() + PATIENCE
-        while time.monotonic() < end:
-            record = self.store.room(room)[0] or NEW
-            if record["to"] is None:
-                if record["on"] != to:
-                    raise Refused(f"Room {room} stays on {record['on']}. {record['why']}")
-                return {"bridge": to}
-            time.sleep(0.1)
-        raise Refused(f"Room {room} is still on its way to {to}.", MOVING)
+        begun = self.led({"room": room, "to": to})["revision"]
+        if not begun:
+            raise Refused(f"Room {room} changes in this moment. Try again in a second.", MOVING)
+        record = lambda known: known.rooms.get(room, (NEW, 0))[0]
+        is_over = lambda known: known.revision(room) == 0 or known.revision(room) > begun and record(known)["to"] is None
+        if not self.copy.until(is_over, PATIENCE):
+            raise Refused(f"Room {room} is still on its way to {to}.", MOVING)
+        where = record(self.copy.known)
+        if where["on"] != to:
+            raise Refused(f"Room {room} stays on {where['on']}. {where['why']}")
+        return {"bridge": to}
 
     def drain(self, words):
-        name, bridges = words["bridge"], self.store.known().bridges
+        name, bridges = words["bridge"], self.copy.current(READING).bridges
         if name not in bridges:
             raise Refused(f"There is no bridge {name}.", 404)
         if name not in self.agent.bridges:
@@ -186,7 +210,7 @@ class Asked:
                 raise Refused("Two agents don't know the same. Try again in a second.", MOVING)
             return self.passed_on(f"{bridges[name]['agent']}/drain", words)
         drain = None if words.get("off") else {"move": bool(words.get("move"))}
-        self.store.swap([(f"{FLEET}draining/{name}", drain, ANY)])
+        self.copy.put(f"draining/{name}", drain)
         # Once it has no room, the bridge is stopped, since this agent was asked for it.
         self.agent.bridges[name].may_stop = drain is not None
         return {"bridge": name}
@@ -200,7 +224,7 @@ class Asked:
         except urllib.error.HTTPError as why:
             raise Refused(why.read(MOST_OCTETS).decode("ascii", "backslashreplace"), why.code) from None
         except (OSError, ValueError):
-            raise Refused("The agent of this bridge doesn't answer.", MOVING) from None
+            raise Refused(NOBODY, MOVING) from None
 
 
 def bridge_of(room, known):
@@ -228,6 +252,7 @@ class ForFleet(Handler):
         ],
         "leave": [{"room": ROOM, "member": whole(U32)}, {"passed": FLAG}],
         "move": [{"room": ROOM, "to": text(200)}],
+        "lead": [{"room": ROOM}, {"source": text(200), "at": text(200), "to": text(200), "passed": FLAG}],
         "drain": [{"bridge": text(200)}, {"move": FLAG, "off": FLAG, "passed": FLAG}],
     }  # fmt: skip
 
@@ -235,10 +260,15 @@ class ForFleet(Handler):
         return getattr(self.asked, path)(words)
 
     def questioned(self, path, query):
+        if path == "where" and "follow" in query:
+            return Followed(room_of(query) if "room" in query else None)
         if path == "where":
             return self.asked.where({"room": ""} | query)
         if path:
             raise Refused(f"There is no question /{path[:40]}.", 404)
-        known = self.asked.store.known()
-        rooms = {room: record for room, (record, _) in known.rooms.items()}
-        return {"bridges": known.bridges, "draining": known.draining, "rooms": rooms}
+        agent, copy = self.asked.agent, self.asked.copy
+        with copy.lock:
+            known = copy.current(READING)
+            rooms = {room: record for room, (record, _) in known.rooms.items()}
+            told = {"bridges": known.bridges, "draining": known.draining, "agents": [*known.agents]}
+            return told | {"leader": known.leader, "lost": [*agent.lost], "rooms": rooms}

@@ -1,12 +1,15 @@
 # A bridge on each of three clients, with its agent beside it, and one etcd elsewhere (var.etcd). `nomad job run -var
 # etcd=http://10.0.0.9:2379 confbridge.nomad`. The clients have Docker, and the image of Containerfile. Media need the
 # machine's own network, which no driver closes: give these clients to the bridges alone, and close 8095/tcp to all but
-# the other clients and signalling, 5004/udp to all but members, and etcd to all but the clients. The desk (7000) is on
-# loopback, where each process of the machine reaches it. The secrets are Nomad's own:
+# the other clients and signalling, 5004/udp to all but members, and etcd to all but the clients. Let the other clients
+# reach 8095/udp and 5004/udp, and ICMP (port unreachable) go back to them: so they see whether a bridge runs whose agent
+# doesn't. The desk (7000) is on loopback, where each process of the machine reaches it. The secrets are Nomad's own:
 #
 #     nomad var put nomad/jobs/confbridge fleet_secret=$(openssl rand -hex 32) etcd_password=..
 #
-# etcd's user `fleet` has that password (etcd_users.py).
+# etcd's user `fleet` has that password (etcd_users.py). Start etcd with these flags, or it keeps each change for ever:
+#
+#     etcd --auto-compaction-mode=periodic --auto-compaction-retention=5m
 variable "etcd" {
   type = string
 }

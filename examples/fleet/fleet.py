@@ -21,6 +21,7 @@ from agent import Agent, log  # noqa: E402
 from asked import Asked, ForFleet  # noqa: E402
 from bridge import Bridge  # noqa: E402
 from fleet_secret import secret_in  # noqa: E402
+from followers import Followers  # noqa: E402
 from known import BRIDGE  # noqa: E402
 from server import Signatures, served  # noqa: E402
 
@@ -62,17 +63,20 @@ def main():
         secret = secret_in(path.parent / own["secret"])
         agent = Agent(settings, bridges_of(settings["bridges"]), user_of(etcd, path.parent))
         asked, signatures = Asked(agent, secret, own["rooms_of_source"]), Signatures(secret)
+        followers = Followers(agent.copy, asked.place_of)
         host, _, port = own["listen"].rpartition(":")
-        server = served(ForFleet, (host, int(port)), asked=asked, signatures=signatures, hosts=hosts_of(own))
+        parts = {"asked": asked, "signatures": signatures, "followers": followers, "hosts": hosts_of(own)}
+        server = served(ForFleet, (host, int(port)), **parts)
     except (OSError, KeyError, ValueError) as why:
         sys.exit(f"fleet: {path}: {why!r}")
     stopped = threading.Event()
     for number in signal.SIGINT, signal.SIGTERM:
         signal.signal(number, lambda *_: stopped.set())
     agent.run()
+    agent.starts(followers.run)
     log(f"the agent of {', '.join(agent.bridges)} is at {agent.url}/")
     stopped.wait()
-    agent.closed.set()
+    agent.close()
     server.server_close()
 
 

@@ -105,6 +105,41 @@ def groups_of(commands):
     return groups
 
 
+def change_of(before, after):
+    """What makes one list of commands another one: those that go, and those that come with their places. None where
+    what stays stands in another order."""
+    had, has = set(before), set(after)
+    if [one for one in before if one in has] != [one for one in after if one in had]:
+        return None
+    come = [[place, one] for place, one in enumerate(after) if one not in had]
+    return {"gone": [one for one in before if one not in has], "come": come}
+
+
+def with_changes(groups, changes):
+    """The groups that make a room, after some changes. Raises Unmade where something is no change, or no groups."""
+    if not changes:
+        return groups
+    if not isinstance(groups, list):
+        raise Unmade
+    commands = [" ".join(words) for group in groups for words in makings(group)]
+    for change in changes:
+        if not is_change(change):
+            raise Unmade
+        gone = set(change["gone"])
+        commands = [one for one in commands if one not in gone]
+        for place, one in change["come"]:
+            commands.insert(place, one)
+    return groups_of(commands)
+
+
+def is_change(one):
+    """Whether it has the form of a change. What its commands do is seen where they are whole groups again."""
+    if not isinstance(one, dict) or one.keys() != {"gone", "come"} or not all(isinstance(it, list) for it in one.values()):
+        return False
+    is_come = lambda it: isinstance(it, list) and list(map(type, it)) == [int, str] and it[0] >= 0
+    return all(isinstance(it, str) for it in one["gone"]) and all(map(is_come, one["come"]))
+
+
 def by_room(rows):
     """The rows of each room, in their order, by its number."""
     rooms, room_of = {}, {}

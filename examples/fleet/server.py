@@ -1,4 +1,4 @@
-"""The HTTP server of an agent: who may ask it, how many at once, and for how long.
+"""The HTTP server of an agent: who may ask it. How many at once, and for how long, is as at the gateway's agent.
 
 A connection has one request. Nothing is done that isn't signed by the fleet's secret.
 """
@@ -7,22 +7,19 @@ import hmac
 import http.server
 import json
 import re
-import socket
-import sys
 import threading
 import time
 import traceback
 import urllib.parse
 
 from body import fields_of
+from bounded import SECONDS, Bounded
 from fleet_secret import signature
 from printable import printable
 from refused import FAILED, Refused
 
-# How many connections have a thread, and how many octets a request's head and body have at most.
-MOST, MOST_OF_HEAD, MOST_OCTETS = 64, 16_384, 100_000
-# Within so many seconds a request is whole; and its answer is taken.
-READING, TAKING = 5, 5
+# How many octets a request's head and body have at most.
+MOST_OF_HEAD, MOST_OCTETS = 16_384, 100_000
 # By how many seconds the clocks of two machines may differ.
 SKEW = 30
 AUTHORIZATION = re.compile("Fleet ([0-9]{1,20}) ([0-9a-f]{64})")
@@ -53,62 +50,28 @@ class Signatures:
         return None
 
 
-class Server(http.server.ThreadingHTTPServer):
-    """A server with so many threads at most. Where all are taken, who hasn't said a whole request yet makes way."""
+class Server(Bounded):
+    """A server that hands some connections over to those who tell of what happens."""
 
-    request_queue_size = 128
+    def __init__(self, *given):
+        self.handed = set()
+        super().__init__(*given)
 
-    def __init__(self, address, handler):
-        # The connections whose request isn't whole, each with the moment at which it came; and how many threads run.
-        self.lock, self.reading, self.running = threading.Lock(), {}, 0
-        super().__init__(address, handler)
-
-    def process_request(self, request, client_address):
-        with self.lock:
-            fits = self.running < MOST or self.running < 2 * MOST and self.cut(list(self.reading)[:1])
-            if fits:
-                self.reading[request], self.running = time.monotonic(), self.running + 1
-        if fits:
-            super().process_request(request, client_address)
+    def shutdown_request(self, request):
+        if request in self.handed:
+            self.handed.discard(request)
         else:
-            self.shutdown_request(request)
-
-    def process_request_thread(self, request, client_address):
-        try:
-            super().process_request_thread(request, client_address)
-        finally:
-            with self.lock:
-                self.reading.pop(request, None)
-                self.running -= 1
-
-    def service_actions(self):
-        """Twice a second: who takes too long for a request."""
-        now = time.monotonic()
-        with self.lock:
-            self.cut([one for one, came in self.reading.items() if now - came > READING])
-
-    def cut(self, connections):
-        """Ends connections whose request isn't whole. Whether there were any. Their threads end by themselves."""
-        for one in connections:
-            del self.reading[one]
-            try:
-                one.shutdown(socket.SHUT_RDWR)
-            except OSError:
-                pass
-        return bool(connections)
-
-    def is_whole(self, connection):
-        """A connection has said its request. It may have been cut meanwhile."""
-        with self.lock:
-            return self.reading.pop(connection, None) is not None
-
-    def handle_error(self, request, client_address):
-        # A connection that breaks is no fault of the agent.
-        if not isinstance(sys.exc_info()[1], OSError):
-            traceback.print_exc()
+            super().shutdown_request(request)
 
 
-class Bounded:
+class Followed:
+    """The answer to who wants to be told of a room, or of all (None), as long as the connection lasts."""
+
+    def __init__(self, room):
+        self.room = room
+
+
+class Head:
     """What a connection says, up to a bound."""
 
     def __init__(self, file):
@@ -127,18 +90,18 @@ class Bounded:
 
 
 class Handler(http.server.BaseHTTPRequestHandler):
-    """`served` gives it `signatures`, and `hosts`, the names by which others know the agent.
+    """`served` gives it `signatures`, `followers`, and `hosts`, the names by which others know the agent.
 
     Its REQUESTS are by path: the fields that a body must have, and those that it may have.
     """
 
     protocol_version = "HTTP/1.1"
     server_version, sys_version = "confbridge", ""
-    timeout = TAKING
+    timeout = SECONDS
 
     def setup(self):
         super().setup()
-        self.rfile = Bounded(self.rfile)
+        self.rfile = Head(self.rfile)
 
     def handle(self):
         self.close_connection = True
@@ -154,11 +117,14 @@ class Handler(http.server.BaseHTTPRequestHandler):
 
     def tell(self, octets):
         """Answers a request with this body, which is None where it isn't read."""
-        if not self.server.is_whole(self.connection):
-            return
         try:
             indent = 1 if self.command == "GET" else None
-            told = 200, "application/json", json.dumps(self.answered(octets), indent=indent) + "\n"
+            with self.server.at_work(self.request):
+                said = self.answered(octets)
+            if isinstance(said, Followed):
+                self.follow(said.room)
+                return
+            told = 200, "application/json", json.dumps(said, indent=indent) + "\n"
         except Refused as why:
             told = why.status, "text/plain", printable(str(why))
         except Exception:
@@ -166,6 +132,13 @@ class Handler(http.server.BaseHTTPRequestHandler):
             traceback.print_exc()
             told = 500, "text/plain", FAILED
         self.reply(*told)
+
+    def follow(self, room):
+        """Hands the connection over."""
+        if not self.followers.fits():
+            raise Refused("This agent tells as many as it may. Ask another one.")
+        self.server.handed.add(self.request)
+        self.followers.add(self.request, room)
 
     def answered(self, octets):
         if octets is None:
@@ -181,7 +154,7 @@ class Handler(http.server.BaseHTTPRequestHandler):
             raise Refused(refusal, 401)
         path, _, query = self.path.strip("/").partition("?")
         if self.command == "GET":
-            return self.questioned(path, dict(urllib.parse.parse_qsl(query)))
+            return self.questioned(path, dict(urllib.parse.parse_qsl(query, keep_blank_values=True)))
         if path not in self.REQUESTS:
             raise Refused(f"There is no request /{path[:40]}.", 404)
         return self.carried_out(path, fields_of(octets, *self.REQUESTS[path]))
@@ -202,5 +175,5 @@ class Handler(http.server.BaseHTTPRequestHandler):
 def served(handler, address, **parts):
     """A server that runs."""
     server = Server(address, type(handler.__name__, (handler,), parts))
-    threading.Thread(target=server.serve_forever, daemon=True).start()
+    server.serve()
     return server

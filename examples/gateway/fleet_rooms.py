@@ -41,10 +41,14 @@ class Fleet:
 
     def moved(self, room):
         """Words for who was in a room that has gone to another bridge, None where it hasn't."""
-        known = self.ask("")
-        bridge = known["rooms"].get(str(room), {}).get("on")
-        told = known["bridges"].get(bridge)
-        return elsewhere(room, bridge, told) if told and told["udp"] != self.udp else None
+        try:
+            told = self.ask(f"where?room={room}&at={self.udp}")
+        except Refused as why:
+            # It is on its way, or has ended where no bridge has a place for it.
+            if why.status == 409 or "12 Full" in str(why):
+                return None
+            raise
+        return elsewhere(room, told["bridge"], told) if told["placed"] and told["udp"] != self.udp else None
 
 
 def elsewhere(room, bridge, told):

@@ -154,7 +154,7 @@ class Strangers:
                 if not good:
                     self.check(False, f"{groups} in etcd", (said, self.places().get(4242), self.logs()[name]))
         self.check(True, f"{len(NO_ROWS)} things in place of a room's groups: no bridge gets a line of them")
-        for key in "desks/4242", "fleet/rooms/4242":
+        for key in "fleet/rooms/4242", "desks/4242":
             store.swap([(f"/confbridge/{key}", None, None)])
 
     def written_records(self, store):

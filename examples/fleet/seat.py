@@ -1,0 +1,107 @@
+"""The seat of an agent at a bridge's desk: what it asks, and what the bridge tells of each call, whoever made it."""
+
+import collections
+import contextlib
+import select
+import socket
+import threading
+
+from desk import BUSY, GONE, Desk
+from refused import Refused
+
+# How many octets are taken at once, and how many calls are remembered.
+OCTETS, CALLS = 65536, 64
+
+
+class Seat(Desk):
+    """It connects where it has to. Then `is_new` says so, since the bridge may be another one."""
+
+    def __init__(self, address):
+        self.address, self.lock, self.stream, self.octets, self.is_new = address, threading.Lock(), None, b"", False
+        # The number of the last call that was told, and the last ones that others made: their numbers, operators and
+        # words. The numbers of those that the agent made itself.
+        self.told, self.others, self.own = 0, collections.deque(maxlen=CALLS), collections.deque(maxlen=CALLS)
+        # What wakes who waits for a call.
+        self.bell, self.rope = socket.socketpair()
+        self.bell.setblocking(False)
+        self.rope.setblocking(False)
+
+    def ask(self, line, is_last=lambda said: True, count=1):
+        with self.lock:
+            try:
+                if self.stream is None:
+                    self.connect()
+                said = self.asked(line, is_last, count)
+            except OSError as why:
+                self.close()
+                raise Refused(BUSY if str(why) == "busy" else GONE) from why
+            self.own += [int(one[3:]) for one in said if one.startswith("ok ")]
+            return said
+
+    def connect(self):
+        self.stream, self.octets = socket.create_connection(self.address, 10), b""
+        self.told, self.is_new = int(self.asked("watch", lambda said: True, 1)[0][4:] or 0), True
+
+    def asked(self, line, is_last, count):
+        self.stream.sendall(f"{line}\n".encode())
+        answer = []
+        while len(answer) < count or not is_last(answer[-1]):
+            if b"\n" not in self.octets:
+                self.take(self.stream.recv(OCTETS))
+                continue
+            said = self.line()
+            if said in ("", "busy"):
+                raise OSError(said)
+            if not self.is_call(said):
+                answer.append(said)
+        return answer
+
+    def take(self, octets):
+        if not octets:
+            raise OSError("closed")
+        self.octets += octets
+
+    def line(self):
+        line, _, self.octets = self.octets.partition(b"\n")
+        return line.decode("ascii", "backslashreplace").strip()
+
+    def is_call(self, line):
+        """Whether a line tells of a call."""
+        word, *more = line.split(" ", 3)
+        if word != "call" or len(more) != 3 or not more[0].isdigit():
+            return False
+        self.told = max(self.told, int(more[0]))
+        if int(more[0]) not in self.own:
+            self.others.append(more)
+        return True
+
+    def hears(self):
+        """Takes what the bridge has told meanwhile."""
+        with self.lock:
+            while self.stream and select.select([self.stream], [], [], 0)[0]:
+                try:
+                    self.take(self.stream.recv(OCTETS))
+                except OSError:
+                    self.close()
+                while b"\n" in self.octets:
+                    self.is_call(self.line())
+
+    def close(self):
+        # A connection that is left open would keep its seat.
+        if self.stream:
+            self.stream.close()
+        self.stream, self.octets = None, b""
+
+    def ring(self):
+        """Wakes who waits."""
+        with contextlib.suppress(BlockingIOError):
+            self.rope.send(b"\0")
+
+    def waits(self, seconds):
+        """Waits until the bridge tells something, somebody rings, or so much time has passed."""
+        with contextlib.suppress(OSError, ValueError):
+            # Who asks takes an answer under the lock; that isn't waited for.
+            select.select([self.bell, *([self.stream] if self.stream else [])], [], [], seconds)
+        with contextlib.suppress(BlockingIOError):
+            while self.bell.recv(OCTETS):
+                pass
