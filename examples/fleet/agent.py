@@ -21,6 +21,8 @@ from refused import FAILED, Refused, words_of
 
 # The seconds between two looks where nothing happens, and where something is wrong.
 PAUSE, TROUBLED = 1, 0.25
+# For how many seconds an agent that begins waits for etcd, before it says that there is none.
+BEGINS = 5
 # How many calls that were lost are remembered.
 LOST = 64
 
@@ -44,6 +46,7 @@ class Agent:
     def run(self):
         self.starts(self.copy.run)
         self.starts(self.lease.run)
+        self.copy.until(lambda known: True, BEGINS)
         for name, bridge in self.bridges.items():
             self.starts(self.again, name, bridge.desk.waits, self.tend, bridge)
         self.starts(self.again, "the fleet", self.leader.woken.wait, self.leader.settle)
@@ -145,7 +148,7 @@ class Agent:
         """Sees whether others may have given a bridge's rooms away, since this agent has lost them."""
         bridge.desk.hears()
         if not bridge.is_cut and bridge.is_there and not self.lease.is_good():
-            bridge.is_cut = True
+            bridge.is_cut, bridge.left = True, set()
             bridge.desk.others.clear()
             log(f"{bridge.name} is cut off: its rooms may go elsewhere, and what operators do there may be lost")
 
@@ -160,7 +163,6 @@ class Agent:
 
     def give_up(self, bridge):
         """Gives up the rooms of a desk that have gone elsewhere, and takes in those that an operator has added."""
-        left = []
         for room in list(bridge.rooms):
             with self.copy.lock:
                 known = self.copy.known
@@ -171,11 +173,11 @@ class Agent:
             elif bridge.name not in (record["on"], record["to"]):
                 log(f"room {room} leaves {bridge.name}: it is on {record['on']}")
                 bridge.remove(room)
-                left.append(room)
+                bridge.left.add(room)
         if bridge.is_cut and self.lease.is_good():
             bridge.is_cut = False
-            log(f"{bridge.name} is back: {len(left)} of its rooms had gone elsewhere")
-            for number, operator, call in list(bridge.desk.others) if left else ():
+            log(f"{bridge.name} is back: {len(bridge.left)} of its rooms had gone elsewhere")
+            for number, operator, call in list(bridge.desk.others) if bridge.left else ():
                 words = f"call {number} of operator {operator} at {bridge.name} may be lost, since rooms had gone: {call}"
                 self.lost.append(words)
                 log(words)
@@ -205,10 +207,13 @@ class Agent:
         bridge.is_there = True
         if others:
             raise Refused(f"the agent at {before['agent']} has a bridge of this name")
-        if before != told and self.lease.id:
-            self.copy.swap([(f"{FLEET}bridges/{bridge.name}", told, revision)])
-        if self.lease.id and self.url not in known.agents:
+        if not self.lease.id:
+            # Rooms of a bridge that nobody knows would be given to others.
+            raise Refused(GONE)
+        if self.url not in known.agents:
             self.begins(self.lease.id)
+        if before != told and not self.copy.swap([(f"{FLEET}bridges/{bridge.name}", told, revision)]):
+            raise Refused(f"another agent has just announced {bridge.name}")
 
     def keep(self, bridge, room, record, revision):
         """Keeps a room's rows, where they have changed or where the room is about to go."""

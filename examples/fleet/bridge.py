@@ -54,8 +54,8 @@ class Bridge:
         self.doubtful = set()
         # Since when rooms have no member; and whether somebody who may has asked this agent for a drain.
         self.empty, self.may_stop = {}, False
-        # Whether the agent has lost the others.
-        self.is_cut = False
+        # Whether the agent has lost the others, and which rooms have gone elsewhere since.
+        self.is_cut, self.left = False, set()
 
     def see(self):
         """Sees the desk as it is: it is read where a call was told."""

@@ -140,7 +140,7 @@ class Known:
         self.let_go(room)
 
     def hold(self, room, bridge, members, source=""):
-        """Counts a room at a bridge that it gets in this moment."""
+        """Counts a room at a bridge that it gets in this moment, and a new one at its source."""
         self.let_go(room)
         self.held[room] = bridge, members, source
         self.members[bridge] += members

@@ -97,7 +97,7 @@ class Leader:
         if after["to"] is None and time.time() >= after["after"]:
             try:
                 after["to"] = known.chosen(after["members"], [*after["tried"], after["on"]])
-                known.hold(room, after["to"], after["members"], after["source"])
+                known.hold(room, after["to"], after["members"])
                 self.agent.log(f"room {room} goes from {record['on']} to {after['to']}")
             except Refused as why:
                 after |= {"tried": [], "why": str(why), "after": int(time.time()) + AGAIN}
@@ -165,17 +165,18 @@ class Leader:
             revisions = {name: known.revisions[f"bridges/{name}"] for name in late}
         self.missing = {name: self.missing.get(name, (0.0, "")) for name in late}
         due = {name: late[name] for name, (moment, _) in self.missing.items() if now > moment}
+        lost = {}
         for name, said in reached.seen(due).items() if due else ():
-            before = self.missing[name][1]
-            if said == reached.RUNS and before != said:
+            if said == reached.RUNS and self.missing[name][1] != said:
                 self.agent.log(f"{name} runs, and its agent doesn't: its rooms stay")
             elif said == reached.GONE or said == reached.SILENT and now > self.lease.patient:
-                self.loses(name, revisions[name], said)
+                why = "its port is closed" if said == reached.GONE else "nothing answers at its address"
+                self.agent.log(f"{name} is gone, and its agent: {why}")
+                lost[f"{FLEET}bridges/{name}"] = revisions[name]
             # Where nothing answers just after this agent itself was late, others may be late as well.
             self.missing[name] = now + (ASKS if said == reached.RUNS else 0), said
-
-    def loses(self, name, revision, said):
-        why = "its port is closed" if said == reached.GONE else "nothing answers at its address"
-        self.agent.log(f"{name} is gone, and its agent: {why}")
-        changes = [(f"{FLEET}bridges/{name}", None, revision)]
-        self.copy.swap(changes, None, self.only_if())
+        only_if = self.only_if() if lost else []
+        # All at once: their rooms go together. If one has changed meanwhile, the next look sees so.
+        if lost and not self.copy.swap([(key, None, revision) for key, revision in lost.items()], None, only_if):
+            for key, revision in lost.items():
+                self.copy.swap([(key, None, revision)], None, only_if)
