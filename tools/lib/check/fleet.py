@@ -8,6 +8,10 @@ Manifests are read by kubectl and compared with the settings, images and units t
 closes pods, tasks and units. The units' programs run with what the units take from them. Kamailio's dispatcher finds a
 room's bridge.
 
+An agent is killed while its bridge runs, and the leader's stands still: no room goes elsewhere. A machine is cut off,
+and says which calls are lost. Signalling follows a room. A watch of etcd ends, and its revisions are compacted. 10,000
+changes of rooms have to leave a database below 20 MB.
+
 Strangers send requests without the fleet's secret, by other names, twice, and by halves; ask for rooms and never join;
 name members of other rooms; send SIP with routes of their own; and write to etcd what no agent would. Nothing of it may
 reach a bridge, a record or an address outside.
@@ -27,13 +31,14 @@ from lib.check.peers import Checks
 from lib.fleet_call.fleet import Fleet
 from lib.fleet_call.keeping import Keeping
 from lib.fleet_call.manifests import Manifests
+from lib.fleet_call.memory import Memory
 from lib.shared import add_program, release_program
 from lib.waits import carried_out, within
 
 NEEDS = "the program or nothing (--model), etcd, and what it names where it skips; three minutes"
 
-# How many seconds a step may take.
-STEP = 120
+# How many seconds a step may take, also where other work has the machine.
+STEP = 1800
 
 
 def options(parser):
@@ -46,12 +51,14 @@ PARTS = [
     (Keeping, [], ["step_round_trip", "step_refusals", "step_lines", "step_large"]),
     (Manifests, [], [
         "step_kubernetes", "step_pods", "step_compose", "step_podman", "step_nomad", "step_ports_of_job", "step_units",
-        "step_ports_of_units", "step_confined",
+        "step_ports_of_units", "step_compaction", "step_confined",
     ]),
+    (Memory, ["etcd"], ["step_changes", "step_watch", "step_database"]),
     (Fleet, ["etcd"], [
         "step_opens", "step_bodies", "step_secret", "step_questions", "step_leave", "step_halves", "step_kill",
-        "step_etcd_lines", "step_empty", "step_move", "step_cut_moves", "step_gateways", "step_etcd",
-        "step_full_and_busy", "step_machine", "step_dispatcher", "step_drain",
+        "step_etcd_lines", "step_empty", "step_move", "step_cut_moves", "step_agent_alone", "step_leader",
+        "step_follows", "step_cut_off", "step_gateways", "step_etcd", "step_full_and_busy", "step_machine",
+        "step_dispatcher", "step_drain",
     ]),
 ]  # fmt: skip
 
@@ -67,7 +74,7 @@ def run(args):
             print(f"skipped: {part.__doc__.splitlines()[0]} There is no {' and no '.join(lacking)}")
             continue
         # A fleet is opened before anything is done to it.
-        chosen = [one for at, one in enumerate(steps) if args.only in one or needed and at == 0]
+        chosen = [one for at, one in enumerate(steps) if args.only in one or part is Fleet and at == 0]
         if not any(args.only in one for one in steps):
             continue
         with tempfile.TemporaryDirectory(ignore_cleanup_errors=True) as name:

@@ -229,6 +229,19 @@ class Agreeing:
             there = [(EXAMPLES / folder / one.rpartition("/")[2]).is_file() for one in programs]
             self.check(all(there), f"their programs are there: {', '.join(programs)}", programs)
 
+    def step_compaction(self):
+        """etcd forgets old changes wherever it is started."""
+        texts = {name: (EXAMPLES / "fleet" / name).read_text() for name in ("kubernetes.yaml", "confbridge.nomad")}
+        flags = {name: set(re.findall(r"--auto-compaction-(\w+)=(\w+)", text)) for name, text in texts.items()}
+        unit = (EXAMPLES / "fleet/systemd/etcd.conf").read_text()
+        found = re.findall(r"ETCD_AUTO_COMPACTION_(\w+)=(\w+)", unit)
+        flags["etcd.conf"] = {(name.lower(), value) for name, value in found}
+        wanted = {("mode", "periodic"), ("retention", "5m")}
+        wrong = {name: one for name, one in flags.items() if one != wanted}
+        self.check(not wrong, f"etcd forgets old changes: {', '.join(flags)}", wrong)
+        says = "systemd/etcd.conf" in (EXAMPLES / "fleet/README.md").read_text()
+        self.check(says, "README installs that for etcd's own unit")
+
     def step_ports_of_job(self):
         """The Nomad job: its static ports are those of the settings that it writes."""
         text = (EXAMPLES / "fleet/confbridge.nomad").read_text()

@@ -5,6 +5,7 @@ import threading
 import time
 
 from lib.fleet_call.dispatcher import Dispatched, Sink
+from lib.fleet_call.failing import Failing
 from lib.fleet_call.gateways import Gatewayed
 from lib.fleet_call.parts import LEASE, ROOMS, AgentPart, BridgePart, EtcdPart, commands_of, groups_of, until
 from lib.fleet_call.strangers import Strangers
@@ -12,6 +13,8 @@ from lib.gateway_call.bodies import are_refused
 from lib.waits import within
 
 COUNT, PEOPLE = 30, 3
+# How many times later a machine may be that has no time for this test.
+LATE = 20
 # How many seconds the rooms of a bridge that was killed may be nowhere; and those of a machine that is gone.
 MOST = MOST_OF_MACHINE = 5
 
@@ -27,7 +30,7 @@ def without_firsts(rows):
     return told
 
 
-class Fleet(Dispatched, Gatewayed, Strangers):
+class Fleet(Dispatched, Failing, Gatewayed, Strangers):
     """A fleet of bridges."""
 
     def __init__(self, check, folder, program):
@@ -47,7 +50,7 @@ class Fleet(Dispatched, Gatewayed, Strangers):
 
     def comes(self, condition, text, seconds=20, most=None):
         """Checks that something holds before long. After how many seconds it did."""
-        with within(seconds + 30, text):
+        with within(LATE * seconds + 30, text):
             took = until(condition, seconds)
         good = took is not None and (most is None or took <= most)
         self.check(good, f"{text}{'' if took is None else f', after {took:.1f} s'}", took or self.logs())

@@ -1,6 +1,7 @@
 """Strangers at a fleet: requests without its secret, rooms that nobody joins, and what somebody has written to etcd."""
 
 import base64
+import itertools
 import json
 import pathlib
 import socket
@@ -16,6 +17,12 @@ NO_ROWS = [
     ["group add-room 4242", "stop"], ["stop"], ["group add-room 4242 / remove-room 1"], ["undo 1"], "stop", {"a": 1},
     ["group add-room 4242\nstop"], ["group add-room 4242 / add-member 7 1 127.0.0.1:9 pcmu 7 0 0"],
     ["group add-room 4243"], ["group add-room 4242 / mute 1"], [7], [], ["group add-room 4242 / watch"],
+]  # fmt: skip
+# And as a change of a room.
+NO_CHANGES = [
+    {"gone": [], "come": [[1, "stop"]]}, {"gone": [], "come": [[1, "add-room 4243"]]}, {"gone": [], "come": "mute 1"},
+    {"gone": ["add-room 4242"], "come": [[0, "undo 1"]]}, {"gone": [7], "come": []}, {"come": []}, "stop", None,
+    {"gone": [], "come": [[0, "add-room 4242 / stop"]]}, {"gone": [], "come": [[-1, "add-room 4242"]]},
 ]  # fmt: skip
 # And in place of a room's record.
 NO_RECORDS = [7, "x", [], {}, {"on": "a"}, None]
@@ -154,7 +161,15 @@ class Strangers:
                 if not good:
                     self.check(False, f"{groups} in etcd", (said, self.places().get(4242), self.logs()[name]))
         self.check(True, f"{len(NO_ROWS)} things in place of a room's groups: no bridge gets a line of them")
-        for key in "fleet/rooms/4242", "desks/4242":
+        put(store, "/confbridge/desks/4242", ["group add-room 4242"])
+        for change, name in zip(NO_CHANGES, itertools.cycle(self.bridges)):
+            put(store, "/confbridge/desks/4242/0000", change)
+            put(store, "/confbridge/fleet/rooms/4242", record | {"to": name, "source": "", "placed": 0})
+            said = until(lambda: (self.etcd.store.room(4242)[0] or {}).get("to") != name, 10)
+            if said is None or 4242 in self.places() or not self.bridges[name].is_up():
+                self.check(False, f"{change} in etcd", (said, self.places().get(4242), self.logs()[name]))
+        self.check(True, f"{len(NO_CHANGES)} things in place of a change: no bridge gets a line of them")
+        for key in "fleet/rooms/4242", "desks/4242", "desks/4242/":
             store.swap([(f"/confbridge/{key}", None, None)])
 
     def written_records(self, store):
