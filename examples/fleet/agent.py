@@ -7,7 +7,6 @@ middle leaves nothing that the next one doesn't put right.
 import collections
 import contextlib
 import threading
-import time
 import traceback
 
 from copied import Copy

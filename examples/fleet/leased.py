@@ -3,7 +3,7 @@
 import threading
 import time
 
-from refused import Refused, words_of
+from refused import Refused
 
 # How many renewals may be unanswered at once, and for how many seconds each may be.
 MOST, SECONDS = 5, 5

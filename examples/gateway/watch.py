@@ -6,7 +6,7 @@ import time
 import traceback
 
 from calls import log
-from desk import in_words
+from desk import Rows, in_words
 from refused import FAILED, Refused, words_of
 from rtpengine import UnknownCall
 
@@ -50,7 +50,13 @@ class Watch:
 
     def look(self):
         """Ends the calls that the bridge, rtpengine or the caller has left."""
-        rows = self.calls.rows()
+        try:
+            rows = self.calls.rows()
+        except Refused:
+            if self.calls.fleet:
+                # The bridge may have ended, and its rooms gone to others: who was in them is told where.
+                self.follow(Rows())
+            raise
         self.calls.end_empty_rooms(rows)
         if self.calls.fleet:
             self.follow(rows)

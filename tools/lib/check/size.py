@@ -23,7 +23,7 @@ import tempfile
 
 from lib.check.peers import Checks
 from lib.fleet_call.machines import Clock, Joining, Machine, Way, asked, processor_time, stays, twice
-from lib.fleet_call.parts import FLEET, USER, EtcdPart, Store, until
+from lib.fleet_call.parts import FLEET, USER, EtcdPart, until
 
 NEEDS = "etcd; ten minutes, and half a core for the models"
 

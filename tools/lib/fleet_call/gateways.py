@@ -10,7 +10,7 @@ from lib.gateway_call.refusals import answer_of, offer_of
 from lib.serving import Answering
 
 # The rooms that this uses, and the SSRC of a browser that keeps it: real ones draw another one for each call.
-HERE, THERE, SSRC = 60, 61, 600_000
+HERE, THERE, FALLEN, SSRC = 60, 61, 66, 600_000
 # How many strangers only ask, and the first of their rooms.
 STRANGERS, NOBODY = 32, 6001
 
@@ -91,6 +91,7 @@ class Gatewayed:
         words = f"Room {HERE} is on bridge c of the fleet now"
         self.told(b.ask("state", id=ids[0][0]) if ended else (0, ""), 410, words, "the page of the old call says so")
         self.moves_while_joining(c)
+        self.ends_below(b)
         self.comes(lambda: self.members(HERE) == [own], "no call leaves a row behind")
         self.agents["a"].ask("leave", room=HERE, member=own)
         c.ask("leave", id=ids[1][0])
@@ -123,6 +124,21 @@ class Gatewayed:
             until(lambda: c.ask("state", id=late)[0] == 410)
             said = c.ask("state", id=late)
         self.check(said[0] in (410, 421) and words in str(said[1]), f"the browser is told so: `{words}`", said)
+
+    def ends_below(self, gateway):
+        """The bridge of a browser's call ends. Another member stays in the room, wherever that goes."""
+        port = next(self.ports)
+        self.opened(FALLEN, "b")
+        member = self.join("a", FALLEN, voice=port)[1]["member"]
+        id, said = gateway.joined(FALLEN, SSRC + 4)
+        self.check(said[0] == 200, "a browser joins at a bridge that is killed then", said)
+        self.bridges["b"].close()
+        ended = until(lambda: gateway.ask("state", id=id)[0] == 410)
+        words = f"Room {FALLEN} is on bridge"
+        self.told(gateway.ask("state", id=id) if ended else (0, ""), 410, words, "its page says where the room is now")
+        self.bridges["b"].start()
+        self.comes(lambda: self.agents["a"].knows() == 3, "the bridge is started anew")
+        self.agents["a"].ask("leave", room=FALLEN, member=member)
 
     def opened(self, room, name):
         """Opens a room on a bridge. It ends before long if nobody joins."""
