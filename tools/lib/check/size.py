@@ -25,7 +25,7 @@ from lib.check.peers import Checks
 from lib.fleet_call.machines import Clock, Joining, Machine, Way, asked, processor_time, stays, twice
 from lib.fleet_call.parts import FLEET, USER, EtcdPart, until
 
-NEEDS = "etcd; ten minutes, and half a core for the models"
+NEEDS = "etcd, and at its full size a machine with little other work"
 
 ON_MACHINE, PEOPLE = 5, 4
 # The bounds: of a core, of the floor, of the octets that an agent reads for each change, and of seconds until all rooms
