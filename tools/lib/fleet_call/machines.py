@@ -1,5 +1,6 @@
 """The machines of a large fleet: models of bridges, real agents, and a way to etcd that counts and can be slow."""
 
+import atexit
 import collections
 import json
 import os
@@ -71,6 +72,8 @@ class Way:
         self.port, log = free_port(socket.SOCK_STREAM), (folder / "way.log").open("a")
         words = [sys.executable, "-B", MODELS / "slow_way.py", str(self.port), str(server)]
         self.process = subprocess.Popen(words, stdin=-1, stdout=-1, stderr=log, text=True, bufsize=1)
+        # Nothing is left behind by a test that is ended while it begins.
+        atexit.register(ended, self.process)
         self.process.stdout.readline()
         self.url = f"http://127.0.0.1:{self.port}"
 
@@ -107,6 +110,7 @@ class Machine:
         for at, (tcp, udp) in enumerate(self.bridges.values()):
             words.append(f"{tcp}:{udp}:{self.rooms[at]}:{self.rooms[at + 1] - self.rooms[at]}:{members}")
         self.models = subprocess.Popen(words, stdin=-1, stdout=-1, text=True)
+        atexit.register(ended, self.models)
         self.models.stdout.readline()
 
     def start_agent(self):
