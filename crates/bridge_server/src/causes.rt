@@ -6,7 +6,7 @@ ghost use Rattle.udp_wire.specs.Ended.{ended_by_io};
 
 use crate::rounds::Running;
 use crate::setup::Setup;
-use crate::telling::Teller;
+use bridge_monitor::Teller;
 use event_lines::{Cause, ServerPart, WhyFailed};
 use media_workers::{HandleFault, LaneEnd, PublisherName, StartFault};
 use operator_desk::{DeskBrand, DeskFault};

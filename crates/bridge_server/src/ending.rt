@@ -16,7 +16,7 @@ use crate::rounds::{Running, ServerMedia};
 use crate::setup::Setup;
 use crate::sinks::LaneSocket;
 use crate::stopped::{DeskEnd, MediaEnd};
-use crate::telling::Teller;
+use bridge_monitor::Teller;
 use front_rounds::Rounds;
 use lane_laws::{lanes_saw_what_they_know, none_knew_more, the_running_headline};
 use lane_wire::{LaneSent, LaneWire, WireSink};

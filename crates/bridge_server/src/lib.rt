@@ -4,7 +4,8 @@
 //! Begin with [`Front::bind`], then [`Front::run`]. It returns once an operator stops the bridge, with the log, how
 //! many calls of each operator were accepted, how many items were dropped for each lane, and how much each lane sent
 //! and could not send. What lines and datagrams lead to is decided in operator_threads and media_front, and the loop
-//! that joins them is that of front_rounds. Here are the sockets, the clock and the threads that it runs over.
+//! that joins them is that of front_rounds. What it counts and tells is shown by bridge_monitor. Here are the sockets,
+//! the clock and the threads that it runs over.
 //!
 //! Contracts say that there are as many lanes as the settings have, and that what these sent is what one list of the
 //! log's calls and of items sends, signed by the SSRC and the CNAME of the settings. They say nothing of sockets.
@@ -12,7 +13,7 @@
 //! ```rust
 //! let front = Front::bind(&rt, settings(alloc, text)?)?; // text: the settings' file
 //! println!(rt; "{}", front.listening()?)?;
-//! let teller = Teller::new(alloc)?; // a thread of its own writes what `EventLines::next` answers
+//! let teller = Teller::new(alloc)?; // of bridge_monitor: a thread writes what `EventLines::next` answers
 //! let stopped = front.run(&rt, &teller)?; // until an operator stops it
 //! println!(rt; "{} calls of operator 0", stopped.accepted[0])?;
 //! ```
@@ -24,19 +25,15 @@ mod calls;
 mod causes;
 mod ending;
 mod front;
-mod lane_counts;
 mod listener;
 mod opening;
+mod parts;
 mod rounds;
 mod serving;
 mod setup;
 mod sinks;
 mod sockets;
-mod stats_desk;
-mod stats_rows;
 mod stopped;
-mod telling;
-mod trace_stream;
 mod tracing;
 mod waking;
 mod watching;
@@ -45,4 +42,3 @@ pub use self::calls::calls_of;
 pub use self::causes::BindFault;
 pub use self::front::Front;
 pub use self::stopped::Stopped;
-pub use self::telling::{EventLines, Teller};

@@ -1,6 +1,7 @@
 //! Where operators connect.
 
 use mio::net::{TcpListener, TcpStream};
+use operator_threads::Lobby;
 use rtp_codec::Address;
 use std::io::ErrorKind;
 use udp_wire::address_of;
@@ -18,6 +19,8 @@ pub(crate) struct OperatorListener {
     /// Connections may wait.
     // So a round in which nobody connects asks the system nothing. Where more than 64 connect at once, some wait 20 ms.
     pub(crate) has_callers: bool,
+    /// The connections whose first line has not come.
+    pub(crate) lobby: Lobby,
 }
 
 impl OperatorListener {

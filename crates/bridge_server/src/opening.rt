@@ -14,19 +14,18 @@ ghost use Rattle.bridge_server.specs.OneRun.{IsSetUp, IsOneRun, signer, sent_int
 use crate::causes::{desk_fault, note_desk, note_end, note_round, note_start, start_fault};
 use crate::ending::{close, gather, give_up};
 use crate::front::Front;
-use crate::lane_counts::fresh_counts;
 use crate::listener::OperatorListener;
+use crate::parts::{records_of, sockets_of};
 use crate::rounds::{Running, ServerMedia};
 use crate::serving::serve;
 use crate::setup::Setup;
-use crate::sinks::{LaneSocket, sinks_for};
-use crate::sockets::{chunk, sockets_of};
+use crate::sinks::LaneSocket;
 use crate::stopped::Stopped;
-use crate::telling::Teller;
-use crate::tracing::{Tracer, tracing};
+use crate::tracing::Tracer;
 use crate::waking::FrontWaker;
 use crate::watching::SystemWatch;
 use bridge_core::{Intake, Settings};
+use bridge_monitor::Teller;
 use front_rounds::{FrontTrace, RoundStage, Rounds, Wakes};
 use lane_wire::WireSink;
 use media_front::{LaneFeed, MediaFront, pli_octets};
@@ -135,35 +134,33 @@ where
     requires who { signer front.settings.bridge ≡ H.who }
 {
     let own = readers.pop();
-    let (sockets, listener, waker, clock, trace, settings) = sockets_of(rt, alloc, front, teller)?;
-    let watch = SystemWatch::new(rt, clock);
-    let chunk = chunk(alloc)?;
-    let (lanes, stats) = fresh_counts(alloc, readers.len())?;
-    let bridge = &settings.bridge;
-    let (trace, mut tracer) = tracing(alloc, bridge, trace, teller)?;
-    let sinks = sinks_for(alloc, &sockets.udp, &lanes.counts, &mut tracer, bridge)?;
-    let reports = ReportTimer::begin(settings.report_ms, watch.start());
-    let mut media = media_of(rt, alloc, readers, settings.bridge, sinks, reports, teller)?;
+    let (sockets, trace, parts) = sockets_of(rt, alloc, front, teller)?;
+    let bridge = &parts.settings.bridge;
+    let (records, sinks) = records_of(alloc, &sockets.udp, trace, bridge, readers.len(), teller)?;
+    let start = parts.moments.start();
+    let reports = ReportTimer::begin(parts.settings.report_ms, start);
+    let mut media = media_of(rt, alloc, readers, bridge, sinks, reports, teller)?;
     media.renew();
     let rounds = Rounds {
         alloc,
         inlet: sockets.inlet,
         wire: sockets.wire,
-        ticked: watch.start(),
-        wakes: Wakes::begin(watch.start()),
-        watch,
+        watch: SystemWatch::new(rt, parts.moments),
         reader: own,
         media,
-        stats,
+        ticked: start,
+        stats: records.stats,
         version: 0,
         pictures: PictureRequests::new(alloc),
         has_members: false,
         stage: RoundStage::Whole,
-        chunk,
-        trace: FrontTrace::new(trace),
+        wakes: Wakes::begin(start),
+        chunk: parts.chunk,
+        trace: FrontTrace::new(records.trace),
     };
+    let lanes = records.lanes;
     let running = Running { rounds, lanes };
-    Ok((running, waker, listener, tracer))
+    Ok((running, parts.waker, parts.listener, records.tracer))
 }
 
 /// Starts the lanes, one for each reader, each with a sink.
@@ -171,7 +168,7 @@ fn media_of<H, R>(
     rt: &R,
     alloc: Global,
     readers: Vec<LaneReader>,
-    settings: Settings,
+    settings: &Settings,
     sinks: Vec<WireSink<LaneSocket>>,
     reports: ReportTimer,
     teller: &Teller,
@@ -182,7 +179,7 @@ where
     requires readers { All (λ (reader : ReaderOf). reader ≡ new_reader H.publisher H.start) readers.items }
     requires few { vec_len readers ≤ most_lanes }
     requires lanes { vec_len readers ≡ H.lanes }
-    requires who { signer settings ≡ H.who }
+    requires who { signer settings.now ≡ H.who }
     requires many { vec_len sinks ≡ vec_len readers }
     requires untaken { All (λ sink. taken_list sink.sent.taken ≡ []) sinks.items }
     ensures { IfOk result (λ media. IsSetUp H.who H.lanes H.start H.publisher media) }
@@ -193,8 +190,8 @@ where
     }
     let intake = Intake::new(alloc, settings.try_clone()?)?;
     let limiter = RateLimiter::new(alloc)?;
-    let cost = pli_octets(alloc, &settings)?;
-    match LaneFeed::start(rt, alloc, readers, &settings, sinks) {
+    let cost = pli_octets(alloc, settings)?;
+    match LaneFeed::start(rt, alloc, readers, settings, sinks) {
         Ok(feed) => Ok(MediaFront::new(intake, feed, limiter, cost, reports)),
         Err(fault) => {
             note_start(rt, teller, fault);

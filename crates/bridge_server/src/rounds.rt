@@ -2,14 +2,11 @@
 
 ghost use Rattle.std.specs.Prelude.{◌≡◌};
 
-use crate::lane_counts::{LaneCounts, show_lanes, show_streams};
 use crate::setup::Setup;
 use crate::sinks::LaneSocket;
 use crate::sockets::{FrontSocket, UdpInlet};
-use crate::stats_desk::StatsDesk;
-use crate::stats_rows::FrontCounts;
-use crate::telling::Teller;
 use crate::watching::SystemWatch;
+use bridge_monitor::{LaneCounts, StatsDesk, Teller};
 use event_lines::{Cause, Event, LaneDrops};
 use front_rounds::Rounds;
 use lane_wire::WireSink;
@@ -71,6 +68,11 @@ impl<
         self.rounds.begin_round()
     }
 
+    /// The moment at which ticks were given last, in nanoseconds since 1970.
+    pub(crate) fn moment(&self) -> u64 {
+        self.rounds.ticked
+    }
+
     /// Ends a round: takes in what has come and what is due.
     pub(crate) fn end_round(&mut self, rt: &R, notice: Notice) -> Result<(), FrontFault>
         requires { notice.publisher ≡ H.publisher }
@@ -94,21 +96,9 @@ impl<
 
     /// Answers the operators' threads that ask what the bridge counts. Where none asks, it does nothing.
     pub(crate) fn answer_stats(&mut self, rt: &R, desk: &StatsDesk) {
-        if !desk.is_asked() {
-            return;
-        }
         let lanes = &mut self.lanes;
-        show_lanes(&mut self.rounds.media, lanes);
-        let rounds = &self.rounds;
-        show_streams(rt, &rounds.stats, lanes);
-        let counts = FrontCounts {
-            moment: rounds.ticked,
-            stats: &rounds.stats,
-            intake: rounds.media.intake(),
-            limited: rounds.media.limited(),
-            lanes: &self.lanes.shown,
-        };
-        desk.answer(rt, &counts);
+        let rounds = &mut self.rounds;
+        desk.answer(rt, rounds.ticked, &rounds.stats, &mut rounds.media, lanes);
     }
 
     /// What failed last at its sockets and its clock.

@@ -110,20 +110,6 @@ impl LaneWire for LaneSocket {
     }
 }
 
-/// Counts of so many lanes. The only error is out of memory.
-pub(crate) fn counts_for(
-    alloc: Global,
-    count: usize,
-) -> Result<Vec<Arc<SharedCounts, Global>>, AllocError>
-    ensures { IfOk result (λ counts. vec_len counts ≡ count) }
-{
-    let mut counts = Vec::with_capacity(alloc, count)?;
-    for _ in 0..count {
-        counts.push_reserved(Arc::new(alloc, SharedCounts::new(alloc)?)?);
-    }
-    Ok(counts)
-}
-
 /// A sink over a wire, which shows its counts, and hands on what its lane handles, if there is a trace.
 fn sink_of(
     wire: LaneSocket,

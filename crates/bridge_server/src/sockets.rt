@@ -4,25 +4,18 @@ ghost use Rattle.std.specs.Prelude.{◌≡◌, ◌<◌, ◌≤◌, length, IfOk}
 ghost use Rattle.intake.specs.Readings.{most_octets};
 ghost use Rattle.front_rounds.specs.Came.{octets_read};
 
-use crate::causes::started;
-use crate::front::{Front, TCP, UDP, WAKER};
-use crate::listener::OperatorListener;
-use crate::stats_desk::StatsDesk;
-use crate::telling::Teller;
-use crate::trace_stream::TraceStream;
-use crate::waking::FrontWaker;
+use crate::front::{TCP, UDP};
 use event_lines::{Cause, ServerPart, WhyFailed};
 use front_rounds::{Inlet, Read, ReadLog, TryLog};
-use front_settings::FrontSettings;
 use mio::net::UdpSocket;
-use mio::{Events, Poll, Waker};
+use mio::{Events, Poll};
 use rtp_codec::Address;
 use std::alloc::{AllocError, Global};
 use std::io;
 use std::io::ErrorKind;
-use std::sync::{Arc, Wait};
+use std::sync::Arc;
 use std::time::Duration;
-use udp_wire::{FrontFault, Moments, Wire, address_of, socket_address};
+use udp_wire::{FrontFault, Wire, address_of, socket_address};
 
 /// How many of the system's events are taken at a time.
 const EVENTS: usize = 8;
@@ -63,10 +56,12 @@ impl UdpInlet {
         udp: &Arc<UdpSocket, Global>,
         at: Address,
     ) -> Result<Self, AllocError> {
+        let events = Events::with_capacity(alloc, EVENTS)?;
+        let udp = Arc::try_clone(udp)?;
         Ok(Self {
             poll,
-            events: Events::with_capacity(alloc, EVENTS)?,
-            udp: Arc::try_clone(udp)?,
+            events,
+            udp,
             at,
             has_datagrams: true,
             trouble: None,
@@ -213,53 +208,17 @@ pub(crate) struct Sockets {
     pub(crate) udp: Arc<UdpSocket, Global>,
 }
 
-/// The sockets of a front, what ends a wait at them, the clock, and the settings.
-pub(crate) fn sockets_of<R: Wait>(
-    rt: &R,
-    alloc: Global,
-    front: Front,
-    teller: &Teller,
-) -> Result<
-    (
-        Sockets,
-        OperatorListener,
-        FrontWaker,
-        Moments,
-        Option<TraceStream>,
-        FrontSettings,
-    ),
-    FrontFault,
->
-    ensures { IfOk result (λ parts. parts.5 ≡ front.settings) }
-{
-    let Front {
-        poll,
-        udp,
-        tcp,
-        moments,
-        trace,
-        settings,
-    } = front;
-    let waker = started(
-        rt,
-        teller,
-        ServerPart::Poll,
-        Waker::new(poll.registry(), WAKER),
-    )?;
-    let waker = FrontWaker {
-        waker: Arc::new(alloc, waker)?,
-        teller: teller.clone()?,
-        stats: Arc::new(alloc, StatsDesk::new(alloc)?)?,
-        seats: settings.operators,
-        trace: settings.trace,
-    };
-    let udp = Arc::new(alloc, udp)?;
-    let wire = FrontSocket::new(alloc, &udp)?;
-    let inlet = UdpInlet::new(alloc, poll, &udp, settings.udp)?;
-    let listener = OperatorListener {
-        tcp,
-        has_callers: true,
-    };
-    let sockets = Sockets { inlet, wire, udp };
-    Ok((sockets, listener, waker, moments, trace, settings))
+impl Sockets {
+    /// From these nothing was read yet. The only error is out of memory.
+    pub(crate) fn new(
+        alloc: Global,
+        poll: Poll,
+        udp: UdpSocket,
+        at: Address,
+    ) -> Result<Self, AllocError> {
+        let udp = Arc::new(alloc, udp)?;
+        let wire = FrontSocket::new(alloc, &udp)?;
+        let inlet = UdpInlet::new(alloc, poll, &udp, at)?;
+        Ok(Self { inlet, wire, udp })
+    }
 }

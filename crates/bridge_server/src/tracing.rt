@@ -3,9 +3,8 @@
 ghost use Rattle.std.specs.Prelude.{◌≡◌, [], IfOk};
 ghost use Rattle.lane_wire.specs.Handlings.{handed_on, HasAll};
 
-use crate::telling::Teller;
-use crate::trace_stream::TraceStream;
 use bridge_core::Settings;
+use bridge_monitor::{Teller, TraceStream};
 use event_lines::Event;
 use front_rounds::FrontTold;
 use lane_wire::{Handled, LaneTrace};

@@ -1,14 +1,18 @@
 //! How other threads wake the front, and what they ask it.
 
-use crate::stats_desk::StatsDesk;
-use crate::telling::Teller;
+ghost use Rattle.std.specs.Prelude.{◌≡◌, IfOk};
+
+use crate::causes::started;
+use crate::front::{Front, WAKER};
+use bridge_monitor::{StatsDesk, Teller};
 use bridge_stats::Seats;
-use event_lines::{Event, WhyFailed};
+use event_lines::{Event, ServerPart, WhyFailed};
 use mio::Waker;
 use operator_threads::Wake;
 use rtp_codec::Address;
 use std::alloc::{AllocError, Global};
 use std::sync::{Arc, Wait};
+use udp_wire::FrontFault;
 
 /// Ends the front's wait, and takes what there is to tell and to ask.
 #[derive(Drop)]
@@ -35,13 +39,32 @@ impl Clone for FrontWaker {
     }
 }
 
+/// What ends a wait of this front. The system's failure is told.
+pub(crate) fn front_waker<R: Wait>(
+    rt: &R,
+    alloc: Global,
+    front: &Front,
+    teller: &Teller,
+) -> Result<FrontWaker, FrontFault>
+    ensures { IfOk result (λ waker. waker.seats ≡ front.now.settings.operators) }
+{
+    let waker = Waker::new(front.poll.registry(), WAKER);
+    let waker = Arc::new(alloc, started(rt, teller, ServerPart::Poll, waker)?)?;
+    let teller = teller.clone()?;
+    let stats = Arc::new(alloc, StatsDesk::new(alloc)?)?;
+    Ok(FrontWaker {
+        waker,
+        teller,
+        stats,
+        seats: front.settings.operators,
+        trace: front.settings.trace,
+    })
+}
+
 impl FrontWaker {
-    /// Tells that a connection was refused since no thread could be started for it, unless one was.
-    pub(crate) fn note_talk<R: Wait>(&self, rt: &R, from: Address, is_started: bool) {
-        if !is_started {
-            let why = WhyFailed::NoThread;
-            self.teller.tell(rt, Event::Refused { from, why });
-        }
+    /// Tells that a connection is refused.
+    pub(crate) fn note_refused<R: Wait>(&self, rt: &R, from: Address, why: WhyFailed) {
+        self.teller.tell(rt, Event::Refused { from, why });
     }
 
     /// Tells that the trace is lost since no thread could be started for it, unless one was.
@@ -64,13 +87,12 @@ pub(crate) struct CallerWaker {
 impl CallerWaker {
     /// Tells that the connection is refused.
     pub(crate) fn note_refused<R: Wait>(&self, rt: &R, why: WhyFailed) {
-        let from = self.from;
-        self.front.teller.tell(rt, Event::Refused { from, why });
+        self.front.note_refused(rt, self.from, why);
     }
 }
 
 impl Wake for CallerWaker {
-    ghost use Rattle.bridge_server.specs.Told.{TellsCounts};
+    ghost use Rattle.bridge_monitor.specs.Told.{TellsCounts};
 
     ghost counts = { λ waker used text. TellsCounts (record { used = used; all = waker.front.seats }) text };
 

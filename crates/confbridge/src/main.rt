@@ -7,7 +7,8 @@ mod telling;
 
 use crate::ending::{ServeFault, serve_status};
 use crate::telling::{tell_cause, tell_causes, tell_counts, tell_fault, tell_file, write_lines};
-use bridge_server::{EventLines, Front, Stopped, Teller};
+use bridge_monitor::{EventLines, Teller};
+use bridge_server::{Front, Stopped};
 use event_lines::{Cause, ServerPart, WhyFailed};
 use front_settings::{FrontSettings, SettingsFault, settings};
 use script_text::{Ask, Exit, Reader, Writer, asked, exit_status, run, unread};

@@ -1,6 +1,7 @@
 //! What `confbridge serve` says on standard error.
 
-use bridge_server::{EventLines, Stopped, Teller};
+use bridge_monitor::{EventLines, Teller};
+use bridge_server::Stopped;
 use event_lines::{Cause, WhyFailed};
 use front_settings::{SettingsFault, faulty_part};
 use lane_wire::{SendCounts, SendFault};

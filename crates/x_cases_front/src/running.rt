@@ -1,7 +1,8 @@
 //! A bridge that runs on a thread.
 
 use crate::left::Left;
-use bridge_server::{Front, Teller};
+use bridge_monitor::Teller;
+use bridge_server::Front;
 use front_settings::{Listening, settings};
 use std::alloc::{Alloc, AllocGlobal, Global};
 use std::net::Net;

@@ -23,7 +23,7 @@ start-requires-clause-publisher g c κs within k d low =
 
 pub returns-in-Ok : goal.returns-in-Ok
 returns-in-Ok g c =
-    let here = c.args.settings in
+    let here = c.args.settings.now in
     let who = g.H.Setup.who in
     let many = g.H.Setup.lanes in
     let start = g.H.DeskBrand.start in
@@ -48,7 +48,7 @@ returns-in-Ok g c =
 
 pub new-requires-in-Ok : goal.new-requires-in-Ok
 new-requires-in-Ok g c =
-    let here = c.args.settings in
+    let here = c.args.settings.now in
     let copy = c.in_ok-try_clone.field-0 in
     let same : ◌≡◌ {A = Asker} (record { ssrc = copy.bridge_ssrc; cname = copy.cname })
     (record { ssrc = here.bridge_ssrc; cname = here.cname }) =

@@ -1,5 +1,5 @@
 use Rattle.std.proofs.Common.{◌≡◌, ◌≤◌, vec_len, vec_capacity}
-use Rattle.bridge_server.proofs.sinks.counts_for.Given as goal
+use Rattle.bridge_monitor.proofs.lane_counts.counts_for.Given as goal
 
 abbrev pub invariant-loop : goal.invariant-loop
 invariant-loop l = record {

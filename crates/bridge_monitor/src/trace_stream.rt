@@ -25,12 +25,12 @@ const CHUNK: usize = 65_536;
 
 /// The connection that a trace goes over, and what waits to be written.
 #[derive(Drop)]
-pub(crate) struct TraceStream {
+pub struct TraceStream {
     /// Where it goes to.
-    pub(crate) to: Address,
+    pub to: Address,
     stream: TcpStream,
     /// What is to be written.
-    pub(crate) text: Vec<u8>,
+    pub text: Vec<u8>,
     /// How much of the text was written.
     written: usize,
 }
@@ -55,7 +55,7 @@ fn connected<R: Net>(rt: &R, alloc: Global, to: Address) -> io::Result<TcpStream
 
 impl TraceStream {
     /// A connection to an address. An `Err` is the system's, or out of memory.
-    pub(crate) fn connect<R: Net>(rt: &R, alloc: Global, to: Address) -> io::Result<Self> {
+    pub fn connect<R: Net>(rt: &R, alloc: Global, to: Address) -> io::Result<Self> {
         Ok(Self {
             to,
             stream: connected(rt, alloc, to)?,
@@ -65,12 +65,12 @@ impl TraceStream {
     }
 
     /// Whether all was written.
-    pub(crate) fn is_clear(&self) -> bool {
+    pub fn is_clear(&self) -> bool {
         self.written >= self.text.len()
     }
 
     /// Whether the reader keeps up: less than 16 MiB wait for it.
-    pub(crate) fn has_room(&self) -> bool {
+    pub fn has_room(&self) -> bool {
         self.text.len() < MOST_WAITING
     }
 
@@ -105,7 +105,7 @@ impl TraceStream {
     }
 
     /// Writes what the system takes at once. `Err`: the connection is over.
-    pub(crate) fn write(&mut self) -> io::Result<()> {
+    pub fn write(&mut self) -> io::Result<()> {
         for _ in 0..=self.text.len() / CHUNK {
             if !self.write_once()? {
                 break;
@@ -116,12 +116,12 @@ impl TraceStream {
     }
 
     /// Appends the line that ends a whole trace.
-    pub(crate) fn end(&mut self) -> Result<(), AllocError> {
+    pub fn end(&mut self) -> Result<(), AllocError> {
         self.text.extend_from_slice(b"# end\n")
     }
 
     /// Appends the line that ends a trace which lacks what follows. Out of memory leaves it out.
-    pub(crate) fn lose(&mut self) -> Result<(), AllocError> {
+    pub fn lose(&mut self) -> Result<(), AllocError> {
         self.text.extend_from_slice(b"lost\n")
     }
 }

@@ -1,16 +1,14 @@
 //! What each lane did so far, and what was sent of each outgoing stream.
 
 ghost use Rattle.std.specs.Prelude.{◌≡◌, IfOk, vec_len};
-ghost use Rattle.bridge_server.specs.Told.{lane_row, report_row, stream_row};
+ghost use Rattle.bridge_monitor.specs.Told.{lane_row, report_row, stream_row};
 
-use crate::rounds::ServerMedia;
-use crate::sinks::counts_for;
 use bridge_stats::{BridgeStats, LaneRow, StreamReport, StreamRow};
 use lane_wire::{Reported, SendCounts, SharedCounts, StreamNumbers};
-use operator_desk::DeskBrand;
+use media_front::MediaFront;
+use media_workers::{Pace, PublisherName, Sink};
 use std::alloc::{AllocError, Global};
 use std::sync::{Arc, Wait};
-use std::time::Clock;
 
 /// How many lanes there are at most.
 const MOST_LANES: usize = 16;
@@ -49,19 +47,28 @@ impl LanesShown {
 
 /// What each lane has sent so far, and what not, with memory to show it.
 #[derive(Drop)]
-pub(crate) struct LaneCounts {
-    pub(crate) counts: Vec<Arc<SharedCounts, Global>>,
+pub struct LaneCounts {
+    /// Where each lane counts what it sends, from lane 0 on.
+    pub counts: Vec<Arc<SharedCounts, Global>>,
     /// The streams of a lane, as they were copied last.
     copied: Vec<(u32, StreamNumbers)>,
     /// What was shown last.
     pub(crate) shown: LanesShown,
 }
 
+/// Counts of so many lanes. The only error is out of memory.
+fn counts_for(alloc: Global, count: usize) -> Result<Vec<Arc<SharedCounts, Global>>, AllocError>
+    ensures { IfOk result (λ counts. vec_len counts ≡ count) }
+{
+    let mut counts = Vec::with_capacity(alloc, count)?;
+    for _ in 0..count {
+        counts.push_reserved(Arc::new(alloc, SharedCounts::new(alloc)?)?);
+    }
+    Ok(counts)
+}
+
 /// Counts of so many lanes, and of the datagrams that come: nothing was counted. The only error is out of memory.
-pub(crate) fn fresh_counts(
-    alloc: Global,
-    lanes: usize,
-) -> Result<(LaneCounts, BridgeStats), AllocError>
+pub fn fresh_counts(alloc: Global, lanes: usize) -> Result<(LaneCounts, BridgeStats), AllocError>
     ensures { IfOk result (λ r. vec_len r.0.counts ≡ lanes) }
 {
     let counts = counts_for(alloc, lanes)?;
@@ -100,8 +107,8 @@ fn lane_row(lane: u32, items: u64, dropped: u64, waiting: u64, sent: &SendCounts
 }
 
 /// Shows what each lane did so far, by what each has sent.
-pub(crate) fn show_lanes<H: DeskBrand, R: Wait + Clock + Drop>(
-    media: &mut ServerMedia<H, R>,
+pub(crate) fn show_lanes<N: PublisherName, P: Pace, S: Sink>(
+    media: &mut MediaFront<N, P, S>,
     lanes: &mut LaneCounts,
 )
     ensures media { media.new ≡ media.old }

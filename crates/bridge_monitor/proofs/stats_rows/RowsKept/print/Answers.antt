@@ -5,8 +5,8 @@ use Rattle.bridge_stats.specs.declared.others.OthersShown.{OthersShown}
 use Rattle.bridge_stats.specs.declared.shown.StatsShown.{StatsShown}
 use Rattle.bridge_stats.specs.Stats.{StatsOf}
 use Rattle.bridge_stats.specs.Shown.{IsShown, stats_text}
-use Rattle.bridge_server.specs.Told.{TellsCounts}
-use Rattle.bridge_server.proofs.stats_rows.RowsKept.print.Goals as goal
+use Rattle.bridge_monitor.specs.Told.{TellsCounts}
+use Rattle.bridge_monitor.proofs.stats_rows.RowsKept.print.Goals as goal
 
 -- what is printed of rows that show what was counted tells it
 told_by : {A B : Type 0} (r : Result A B) (in_use : Seats) (shown : StatsShown) (others : OthersShown)

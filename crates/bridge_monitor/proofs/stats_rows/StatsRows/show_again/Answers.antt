@@ -1,7 +1,7 @@
 use Rattle.std.proofs.Common.{◌≡◌, Bool, subst}
 use Rattle.std.specs.Bool.{OnTrue}
-use Rattle.bridge_server.specs.Told.{ShowsCounts}
-use Rattle.bridge_server.proofs.stats_rows.StatsRows.show_again.Goals as goal
+use Rattle.bridge_monitor.specs.Told.{ShowsCounts}
+use Rattle.bridge_monitor.proofs.stats_rows.StatsRows.show_again.Goals as goal
 
 pub invariant_of-self-in-Ok : goal.invariant_of-self-in-Ok
 invariant_of-self-in-Ok c =

@@ -57,7 +57,7 @@ impl Teller {
     }
 
     /// Tells an event.
-    pub(crate) fn tell<R: Wait>(&self, rt: &R, event: Event) {
+    pub fn tell<R: Wait>(&self, rt: &R, event: Event) {
         let mut tidings = self.0.tidings.lock(rt);
         tidings.queue.put(event);
         MutexGuard::unlock(tidings);
@@ -65,7 +65,7 @@ impl Teller {
     }
 
     /// Tells why the bridge ends.
-    pub(crate) fn note<R: Wait>(&self, rt: &R, cause: Cause) {
+    pub fn note<R: Wait>(&self, rt: &R, cause: Cause) {
         let mut tidings = self.0.tidings.lock(rt);
         tidings.causes.note(cause);
         MutexGuard::unlock(tidings);

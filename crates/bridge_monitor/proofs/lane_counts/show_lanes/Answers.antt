@@ -1,6 +1,6 @@
 use Rattle.std.proofs.Common.{◌≡◌, ◌∙◌, refl, length, arith}
-use Rattle.bridge_server.proofs.lane_counts.show_lanes.Goals.{in-Some, in_default}
-use Rattle.bridge_server.proofs.lane_counts.show_lanes.Goals as goal
+use Rattle.bridge_monitor.proofs.lane_counts.show_lanes.Goals.{in-Some, in_default}
+use Rattle.bridge_monitor.proofs.lane_counts.show_lanes.Goals as goal
 
 pub loop-lane-init : goal.loop-lane-init
 loop-lane-init g c = refl

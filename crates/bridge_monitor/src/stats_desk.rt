@@ -1,10 +1,13 @@
 //! Where operators' threads ask what the bridge counts, and the front answers.
 
 ghost use Rattle.std.specs.Prelude.{◌≡◌, ◌++◌, ℕ, List, OnOk, OnErr};
-ghost use Rattle.bridge_server.specs.Told.{TellsCounts};
+ghost use Rattle.bridge_monitor.specs.Told.{TellsCounts};
 
+use crate::lane_counts::{LaneCounts, show_lanes, show_streams};
 use crate::stats_rows::{FrontCounts, StatsRows};
-use bridge_stats::Seats;
+use bridge_stats::{BridgeStats, Seats};
+use media_front::MediaFront;
+use media_workers::{Pace, PublisherName, Sink};
 use std::alloc::{AllocError, Global};
 use std::sync::atomic::{AtomicBool, Ordering};
 use std::sync::{Condvar, Mutex, MutexGuard, Wait};
@@ -22,7 +25,7 @@ struct LastAnswer {
 /// Where operators' threads ask what the bridge counts, and the front answers once a round. While nobody asks, the
 /// front only looks at a flag. It waits for no thread that prints.
 #[derive(Drop)]
-pub(crate) struct StatsDesk {
+pub struct StatsDesk {
     asked: AtomicBool,
     answer: Mutex<LastAnswer>,
     /// The front has answered, or answers no more.
@@ -33,7 +36,7 @@ pub(crate) struct StatsDesk {
 
 impl StatsDesk {
     /// Nobody has asked. The only error is out of memory.
-    pub(crate) fn new(alloc: Global) -> Result<Self, AllocError> {
+    pub fn new(alloc: Global) -> Result<Self, AllocError> {
         let answer = LastAnswer {
             rows: StatsRows::new(alloc)?,
             answers: 0,
@@ -48,7 +51,7 @@ impl StatsDesk {
     }
 
     /// Asks the front, which has to be woken then. Returns how often it had answered.
-    pub(crate) fn ask<R: Wait>(&self, rt: &R) -> u64 {
+    pub fn ask<R: Wait>(&self, rt: &R) -> u64 {
         let answer = self.answer.lock(rt);
         let answers = answer.answers;
         MutexGuard::unlock(answer);
@@ -57,7 +60,7 @@ impl StatsDesk {
     }
 
     /// Waits until the front has answered, since it had answered so often, or answers no more.
-    pub(crate) fn wait<R: Wait>(&self, rt: &R, answers: u64) {
+    pub fn wait<R: Wait>(&self, rt: &R, answers: u64) {
         let answer = self
             .answered
             .wait_while(rt, self.answer.lock(rt), |answer| {
@@ -68,12 +71,7 @@ impl StatsDesk {
 
     /// Appends the lines of the front's last answer, with these seats. An `Err`, out of memory, appends nothing. It
     /// comes, too, where the front has never answered.
-    pub(crate) fn print<R: Wait>(
-        &self,
-        rt: &R,
-        seats: Seats,
-        out: &mut Vec<u8>,
-    ) -> Result<(), AllocError>
+    pub fn print<R: Wait>(&self, rt: &R, seats: Seats, out: &mut Vec<u8>) -> Result<(), AllocError>
         ensures ok { OnOk result ((text : List ℕ)
             × (out.new.items ≡ out.old.items ++ text) × TellsCounts seats text) }
         ensures err { OnErr result (out.new.items ≡ out.old.items) }
@@ -87,14 +85,36 @@ impl StatsDesk {
         done
     }
 
-    /// Whether a thread asks.
-    pub(crate) fn is_asked(&self) -> bool {
-        self.asked.load(Ordering::SeqCst)
+    /// Answers the threads that ask what the bridge counts, as of a moment in nanoseconds since 1970: what its front
+    /// counted, and what its lanes did. Where none asks, it does nothing.
+    pub fn answer<N: PublisherName, P: Pace, S: Sink, R: Wait>(
+        &self,
+        rt: &R,
+        moment: u64,
+        stats: &BridgeStats,
+        media: &mut MediaFront<N, P, S>,
+        lanes: &mut LaneCounts,
+    )
+        ensures media { media.new ≡ media.old }
+    {
+        if !self.asked.load(Ordering::SeqCst) {
+            return;
+        }
+        show_lanes(media, lanes);
+        show_streams(rt, stats, lanes);
+        let counts = FrontCounts {
+            moment,
+            stats,
+            intake: media.intake(),
+            limited: media.limited(),
+            lanes: &lanes.shown,
+        };
+        self.show(rt, &counts);
     }
 
     /// Answers all threads that ask: what the front counted.
     // A thread that asks from here on is answered in the next round, too.
-    pub(crate) fn answer<R: Wait>(&self, rt: &R, counts: &FrontCounts<'_>) {
+    fn show<R: Wait>(&self, rt: &R, counts: &FrontCounts<'_>) {
         self.asked.store(false, Ordering::SeqCst);
         let mut answer = self.answer.lock(rt);
         answer.rows.show(counts);
@@ -104,7 +124,7 @@ impl StatsDesk {
     }
 
     /// Answers no more: threads that ask get the last answer.
-    pub(crate) fn close<R: Wait>(&self, rt: &R) {
+    pub fn close<R: Wait>(&self, rt: &R) {
         let mut answer = self.answer.lock(rt);
         answer.is_over = true;
         MutexGuard::unlock(answer);

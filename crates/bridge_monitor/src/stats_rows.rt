@@ -4,11 +4,11 @@ ghost use Rattle.std.specs.Prelude.{◌≡◌, ◌++◌, ℕ, List, false, OnOk,
 ghost use Rattle.intake.specs.inner.Holding.{IntakeOf};
 ghost use Rattle.bridge_stats.specs.Stats.{StatsOf};
 ghost use Rattle.bridge_stats.specs.Shown.{IsShown};
-ghost use Rattle.bridge_server.specs.Told.{TellsCounts};
+ghost use Rattle.bridge_monitor.specs.Told.{TellsCounts};
 
 use crate::lane_counts::LanesShown;
-use bridge_core::Intake;
 use bridge_stats::{BridgeStats, Limited, OthersShown, Seats, StatsShown, print_stats};
+use intake::Intake;
 use std::alloc::{AllocError, Global};
 use std::marker::Model;
 
@@ -108,7 +108,7 @@ pub(crate) struct StatsRows {
 impl Model for StatsRows {
     ghost use Rattle.std.specs.Prelude.{Bool};
     ghost use Rattle.std.specs.Bool.{OnTrue};
-    ghost use Rattle.bridge_server.specs.Told.{ShowsCounts};
+    ghost use Rattle.bridge_monitor.specs.Told.{ShowsCounts};
 
     ghost Value = { Bool };
 
