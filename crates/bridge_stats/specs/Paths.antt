@@ -1,7 +1,14 @@
 -- What receivers report of the way of a stream to them (RFC 3550 section 6.4.1).
-use Rattle.std.specs.Prelude.{◌≡◌, ◌⊎◌, ℕ, ◌+◌, ◌-◌, ◌*◌, ◌/◌, ◌%◌, ◌^◌, nat_eq, nat_le, if◌then◌else◌, List, []}
+use Rattle.std.specs.Prelude.{◌≡◌, ◌⊎◌, ℕ, ◌+◌, ◌-◌, ◌*◌, ◌/◌, ◌%◌, ◌^◌, nat_eq, nat_le, Bool, false, List, []}
+use Rattle.std.specs.Prelude.{if◌then◌else◌}
 use Rattle.std.specs.Prelude.{◌∷◌, codes, Option, None, Some}
+use Rattle.std.specs.Bool.{MatchBool}
 use Rattle.std.specs.List.{FoldsTo}
+use Rattle.desk_rows.specs.Desk.{Desk}
+use Rattle.desk_rows.specs.Getters.{member_at, slot_at}
+use Rattle.rtp_codec.specs.Address.{same_address}
+use Rattle.desk_rows.specs.declared.row.Member.{Member}
+use Rattle.desk_rows.specs.declared.row.Slot.{Slot}
 use Rattle.rtp_codec.specs.declared.address.Address.{Address}
 use Rattle.rtcp_codec.specs.declared.report.ReportBlock.{ReportBlock}
 use Rattle.rtcp_codec.specs.Packet.{Packet, Sender as SenderReport, Receiver, Sdes, Bye, App, Nack, Pli, Other}
@@ -54,10 +61,25 @@ path_of moment block = record { jitter = block.jitter; round_trip = round_trip m
 abbrev pub stream_at : Address → (ssrc : ℕ) → Sender
 stream_at from ssrc = record { ip = from.ip; port = from.port; ssrc = ssrc }
 
--- A block was noted that came from an address at a moment.
-abbrev pub IsBlockNoted : Address → ℕ → TableOf PathReport → ReportBlock → TableOf PathReport → Type 0
-IsBlockNoted from moment old block new =
-    IsKept most_paths (stream_at from block.ssrc) (path_of moment block) old new
+-- the member is at this address
+abbrev pub is_at : Option Member → Address → Bool
+is_at None from = false
+is_at (Some member) from = same_address member.address from
+
+-- the slot's member is at this address
+abbrev pub goes_to : Desk → Option Slot → Address → Bool
+goes_to desk None from = false
+goes_to desk (Some slot) from = is_at (member_at desk slot.member) from
+
+-- the desk sends the stream of this slot to this address
+abbrev pub is_received : Desk → Address → (ssrc : ℕ) → Bool
+is_received desk from ssrc = goes_to desk (slot_at desk ssrc) from
+
+-- A block was noted that came from an address at a moment, if the desk sends its stream there, and otherwise nothing.
+abbrev pub IsBlockNoted : Desk → Address → ℕ → TableOf PathReport → ReportBlock → TableOf PathReport → Type 0
+IsBlockNoted desk from moment old block new =
+    MatchBool (is_received desk from block.ssrc)
+    (IsKept most_paths (stream_at from block.ssrc) (path_of moment block) old new) (new ≡ old)
 
 -- the report blocks of a packet
 abbrev pub blocks_of : Packet → List ReportBlock
@@ -71,33 +93,33 @@ blocks_of (Pli sender media) = []
 blocks_of (Other pt count body) = []
 
 -- The blocks of a packet were noted, one after another.
-abbrev pub IsPacketNoted : Address → ℕ → TableOf PathReport → Packet → TableOf PathReport → Type 0
-IsPacketNoted from moment old packet new = FoldsTo (IsBlockNoted from moment) old (blocks_of packet) new
+abbrev pub IsPacketNoted : Desk → Address → ℕ → TableOf PathReport → Packet → TableOf PathReport → Type 0
+IsPacketNoted desk from moment old packet new = FoldsTo (IsBlockNoted desk from moment) old (blocks_of packet) new
 
 -- All blocks of a compound that came from an address at a moment were noted, or memory ran out, and it was left out and
 -- counted. What is no compound has no blocks.
-abbrev pub HasReported : Address → ℕ → List ℕ → TableOf PathReport → TableOf PathReport → Type 0
-HasReported from moment octets old new =
-    ((packets : List Packet) × IsCompound packets octets × FoldsTo (IsPacketNoted from moment) old packets new)
+abbrev pub HasReported : Desk → Address → ℕ → List ℕ → TableOf PathReport → TableOf PathReport → Type 0
+HasReported desk from moment octets old new =
+    ((packets : List Packet) × IsCompound packets octets × FoldsTo (IsPacketNoted desk from moment) old packets new)
     ⊎ (((new ≡ with_left_out old) × ((packets : List Packet) × IsCompound packets octets))
     ⊎ ((new ≡ old) × ((packets : List Packet) → IsCompound packets octets → ⊥)))
 
 -- The blocks of a datagram with this outcome were noted, if it is a compound from a member.
-abbrev pub AreReported : Outcome → Address → ℕ → List ℕ → TableOf PathReport → TableOf PathReport → Type 0
-AreReported TooLong from moment octets old new = new ≡ old
-AreReported Neither from moment octets old new = new ≡ old
-AreReported (BadRtp fault) from moment octets old new = new ≡ old
-AreReported (BadRtcp fault) from moment octets old new = new ≡ old
-AreReported Unknown from moment octets old new = new ≡ old
-AreReported BadPayload from moment octets old new = new ≡ old
-AreReported Spent from moment octets old new = new ≡ old
-AreReported Probation from moment octets old new = new ≡ old
-AreReported (Accepted ext) from moment octets old new = new ≡ old
-AreReported (Late ext) from moment octets old new = new ≡ old
-AreReported (Duplicate ext) from moment octets old new = new ≡ old
-AreReported Jump from moment octets old new = new ≡ old
-AreReported (Restarted ext) from moment octets old new = new ≡ old
-AreReported (Rtcp packets) from moment octets old new = HasReported from moment octets old new
+abbrev pub AreReported : Desk → Outcome → Address → ℕ → List ℕ → TableOf PathReport → TableOf PathReport → Type 0
+AreReported desk TooLong from moment octets old new = new ≡ old
+AreReported desk Neither from moment octets old new = new ≡ old
+AreReported desk (BadRtp fault) from moment octets old new = new ≡ old
+AreReported desk (BadRtcp fault) from moment octets old new = new ≡ old
+AreReported desk Unknown from moment octets old new = new ≡ old
+AreReported desk BadPayload from moment octets old new = new ≡ old
+AreReported desk Spent from moment octets old new = new ≡ old
+AreReported desk Probation from moment octets old new = new ≡ old
+AreReported desk (Accepted ext) from moment octets old new = new ≡ old
+AreReported desk (Late ext) from moment octets old new = new ≡ old
+AreReported desk (Duplicate ext) from moment octets old new = new ≡ old
+AreReported desk Jump from moment octets old new = new ≡ old
+AreReported desk (Restarted ext) from moment octets old new = new ≡ old
+AreReported desk (Rtcp packets) from moment octets old new = HasReported desk from moment octets old new
 
 -- ---- the parts of a stream's line
 

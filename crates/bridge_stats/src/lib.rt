@@ -9,7 +9,7 @@
 //! ```rust
 //! let mut stats = BridgeStats::new(alloc)?;
 //! let taken = TakenIn::of(from, moment, &octets, outcome);
-//! stats.note(alloc, &taken, &octets); // for each datagram
+//! stats.note(alloc, &rows, &taken, &octets, passed); // for each datagram, by the rows of the desk
 //! let mut shown = StatsShown::new(alloc)?;
 //! stats.show(now, &intake, &mut shown)?; // now: nanoseconds since 1970
 //! print_stats(&shown, &others, &mut out)?; // datagrams 0 octets 0 dropped TooLong, and so on

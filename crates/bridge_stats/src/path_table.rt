@@ -6,13 +6,14 @@ ghost use Rattle.std.specs.List.{FoldsTo};
 ghost use Rattle.rtcp_codec.specs.View.{packet_of, packets_of};
 ghost use Rattle.bridge_stats.specs.Senders.{same_sender};
 ghost use Rattle.bridge_stats.specs.Tables.{IsKept};
-ghost use Rattle.bridge_stats.specs.Paths.{most_paths, stream_at};
+ghost use Rattle.bridge_stats.specs.Paths.{most_paths, stream_at, is_at, is_received};
 ghost use Rattle.bridge_stats.specs.inner.LeftOut.{IsLeftOut};
 ghost use Rattle.bridge_stats.specs.Paths.{IsBlockNoted, IsPacketNoted, HasReported, AreReported};
 
 use crate::path::{PathReport, stream_at};
 use crate::sender::Sender;
 use crate::taken::TakenIn;
+use desk_rows::{Member, Rows};
 use intake::Outcome;
 use lru::LruCache;
 use rtcp_codec::{ReportBlock, Rtcp, RtcpFault, read_compound};
@@ -29,8 +30,9 @@ const MOST_PATHS: usize = 5_120;
 pub(crate) type PathCache<A> = LruCache<Sender, PathReport, BuildHasherDefault<FoldHasher>, A>;
 
 /// What the last report block says of the way of each stream: of the 5,120 streams, at the addresses of their
-/// receivers, of which blocks came last. Only a stream that isn't kept takes memory. Where that is refused, its block
-/// is left out, and counted.
+/// receivers, of which blocks came last. A block is kept only of a slot's stream that the desk sends to the address
+/// from which the block came, so that no member can push out what others report. Only a stream that isn't kept takes
+/// memory. Where that is refused, its block is left out, and counted.
 ///
 /// Contracts see what was reported of each, that of the latest block first.
 #[derive(Drop)]
@@ -50,6 +52,27 @@ impl<A: Allocator + Copy> Model for PathTable<A> {
     ghost view = { λ s. record { entries = s.cache.entries; left_out = s.left_out } };
 
     ghost invariant = { λ s. s.cache.cap ≡ most_paths };
+}
+
+/// Whether a member was found, and has this address.
+fn is_at(member: Option<Member>, from: &Address) -> bool
+    ensures { result ≡ is_at member from.now }
+{
+    match member {
+        None => false,
+        Some(member) => member.address == *from,
+    }
+}
+
+/// Whether the desk sends the stream of a slot to an address: that of the slot's member.
+// Lanes keep no reports on mixes.
+fn is_received(rows: &Rows, from: &Address, ssrc: u32) -> bool
+    ensures { result ≡ is_received rows.now from.now ssrc }
+{
+    match rows.slot(ssrc) {
+        None => false,
+        Some(slot) => is_at(rows.member(slot.member), from),
+    }
 }
 
 impl<A: Allocator + Copy> PathTable<A> {
@@ -81,31 +104,34 @@ impl<A: Allocator + Copy> PathTable<A> {
         }
     }
 
-    /// Notes a block that came from an address at a moment.
-    fn note_block(&mut self, from: &Address, moment: u64, block: &ReportBlock)
-        ensures { IsBlockNoted from.now moment self.old block.now self.new }
+    /// Notes a block that came from an address at a moment, if the desk sends the block's stream there.
+    fn note_block(&mut self, rows: &Rows, from: &Address, moment: u64, block: &ReportBlock)
+        ensures { IsBlockNoted rows.now from.now moment self.old block.now self.new }
     {
+        if !is_received(rows, from, block.ssrc) {
+            return;
+        }
         let stream = stream_at(from, block.ssrc);
         let path = PathReport::of(moment, block);
         self.keep(stream, path);
     }
 
     /// Notes blocks, one after another.
-    fn note_blocks(&mut self, from: &Address, moment: u64, blocks: &[ReportBlock])
-        ensures { FoldsTo (IsBlockNoted from.now moment) self.old blocks.now self.new }
+    fn note_blocks(&mut self, rows: &Rows, from: &Address, moment: u64, blocks: &[ReportBlock])
+        ensures { FoldsTo (IsBlockNoted rows.now from.now moment) self.old blocks.now self.new }
     {
         for block in blocks {
-            self.note_block(from, moment, block);
+            self.note_block(rows, from, moment, block);
         }
     }
 
     /// Notes the blocks of a packet.
-    fn note_packet(&mut self, from: &Address, moment: u64, packet: &Rtcp<A>)
-        ensures { IsPacketNoted from.now moment self.old (packet_of packet.now) self.new }
+    fn note_packet(&mut self, rows: &Rows, from: &Address, moment: u64, packet: &Rtcp<A>)
+        ensures { IsPacketNoted rows.now from.now moment self.old (packet_of packet.now) self.new }
     {
         match packet {
-            Rtcp::Sender(report) => self.note_blocks(from, moment, &report.blocks),
-            Rtcp::Receiver(report) => self.note_blocks(from, moment, &report.blocks),
+            Rtcp::Sender(report) => self.note_blocks(rows, from, moment, &report.blocks),
+            Rtcp::Receiver(report) => self.note_blocks(rows, from, moment, &report.blocks),
             Rtcp::Sdes(_)
             | Rtcp::Bye(_)
             | Rtcp::App(_)
@@ -116,11 +142,11 @@ impl<A: Allocator + Copy> PathTable<A> {
     }
 
     /// Notes the blocks of packets, one after another.
-    fn note_packets(&mut self, from: &Address, moment: u64, packets: &[Rtcp<A>])
-        ensures { FoldsTo (IsPacketNoted from.now moment) self.old (packets_of packets.now) self.new }
+    fn note_packets(&mut self, rows: &Rows, from: &Address, moment: u64, packets: &[Rtcp<A>])
+        ensures { FoldsTo (IsPacketNoted rows.now from.now moment) self.old (packets_of packets.now) self.new }
     {
         for packet in packets {
-            self.note_packet(from, moment, packet);
+            self.note_packet(rows, from, moment, packet);
         }
     }
 
@@ -141,21 +167,24 @@ impl<A: Allocator + Copy> PathTable<A> {
 
     /// Notes the blocks of a compound that came from an address at a moment. Where memory runs out it is left out, and
     /// counted.
-    fn note_compound(&mut self, alloc: A, from: &Address, moment: u64, octets: &[u8])
-        ensures { HasReported from.now moment octets.now self.old self.new }
+    fn note_compound(&mut self, alloc: A, rows: &Rows, from: &Address, moment: u64, octets: &[u8])
+        ensures { HasReported rows.now from.now moment octets.now self.old self.new }
     {
         match read_compound(alloc, octets) {
-            Ok(packets) => self.note_packets(from, moment, &packets),
+            Ok(packets) => self.note_packets(rows, from, moment, &packets),
             Err(fault) => self.leave_out(fault),
         }
     }
 
     /// Notes the blocks of a datagram that was taken in and has these octets, if it is a compound from a member.
-    pub(crate) fn note(&mut self, alloc: A, taken: &TakenIn, octets: &[u8])
-        ensures { AreReported taken.now.outcome taken.now.from taken.now.moment octets.now self.old self.new }
+    pub(crate) fn note(&mut self, alloc: A, rows: &Rows, taken: &TakenIn, octets: &[u8])
+        ensures { AreReported rows.now taken.now.outcome taken.now.from taken.now.moment octets.now
+            self.old self.new }
     {
         match taken.outcome {
-            Outcome::Rtcp { .. } => self.note_compound(alloc, &taken.from, taken.moment, octets),
+            Outcome::Rtcp { .. } => {
+                self.note_compound(alloc, rows, &taken.from, taken.moment, octets);
+            }
             Outcome::TooLong
             | Outcome::Neither
             | Outcome::BadRtp(_)

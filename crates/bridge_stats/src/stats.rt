@@ -1,6 +1,7 @@
 //! What a bridge counts.
 
 ghost use Rattle.std.specs.Prelude.{◌≡◌, IfOk};
+ghost use Rattle.std.specs.Bool.{MatchBool};
 ghost use Rattle.std.specs.Map.{lookup};
 ghost use Rattle.bridge_stats.specs.Senders.{same_sender};
 ghost use Rattle.bridge_stats.specs.Stats.{no_stats, HasNoted};
@@ -13,6 +14,7 @@ use crate::source_table::SourceTable;
 use crate::stranger::Strangers;
 use crate::taken::TakenIn;
 use crate::tally::OutcomeTally;
+use desk_rows::Rows;
 use rtp_codec::Address;
 use std::alloc::{AllocError, Allocator, Global};
 use std::marker::Model;
@@ -58,18 +60,21 @@ impl<A: Allocator + Copy> BridgeStats<A> {
         })
     }
 
-    /// Notes a datagram that was taken in, which has these octets. A compound from a member is read once more, for what
-    /// its blocks report of the way of streams.
+    /// Notes a datagram that was taken in by these rows, and has these octets. `passed`: whether the rate limiter left
+    /// out none of its report blocks. If so, a compound from a member is read once more, for what its blocks report of
+    /// the way of streams that the desk sends to that member.
     ///
     /// Only a sender or a stream that isn't kept takes memory, and a compound. Where that is refused, a datagram isn't
     /// counted for its sender, and a block or a compound not for its stream. It counts as one that was left out.
-    pub fn note(&mut self, alloc: A, taken: &TakenIn, octets: &[u8])
+    pub fn note(&mut self, alloc: A, rows: &Rows, taken: &TakenIn, octets: &[u8], passed: bool)
         ensures noted { HasNoted taken.now self.old self.new }
-        ensures reports { AreReported taken.now.outcome taken.now.from taken.now.moment octets.now
-            self.old.reports self.new.reports }
+        ensures reports { MatchBool passed
+            (AreReported rows.now taken.now.outcome taken.now.from taken.now.moment octets.now
+            self.old.reports self.new.reports)
+            (self.new.reports ≡ self.old.reports) }
     {
         self.tally.note(taken);
-        self.paths.note(alloc, taken, octets);
+        self.note_reports(alloc, rows, taken, octets, passed);
         let Some(header) = taken.header else {
             return;
         };
@@ -78,6 +83,19 @@ impl<A: Allocator + Copy> BridgeStats<A> {
             Whom::Nobody => {}
             Whom::Source => self.sources.note(sender, taken),
             Whom::Stranger => self.strangers.note(sender, header.pt),
+        }
+    }
+
+    /// Notes what its blocks report, if the rate limiter let all of them pass.
+    fn note_reports(&mut self, alloc: A, rows: &Rows, taken: &TakenIn, octets: &[u8], passed: bool)
+        ensures reports { MatchBool passed
+            (AreReported rows.now taken.now.outcome taken.now.from taken.now.moment octets.now
+            self.old.reports self.new.reports)
+            (self.new.reports ≡ self.old.reports) }
+        ensures same { self.new ≡ record self.old { reports = self.new.reports } }
+    {
+        if passed {
+            self.paths.note(alloc, rows, taken, octets);
         }
     }
 

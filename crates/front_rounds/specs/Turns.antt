@@ -16,7 +16,7 @@ use Rattle.media_front.specs.Waits.{HaveWaited, HaveWaitedInPart, video_origins}
 use Rattle.media_front.specs.Pictures.{HasAsked}
 use Rattle.media_front.specs.Probations.{EndsProbation}
 use Rattle.front_rounds.specs.Came.{Came, datagram}
-use Rattle.front_rounds.specs.Counted.{IsCounted}
+use Rattle.front_rounds.specs.Counted.{all_pass, IsCounted}
 
 -- A front and its history, oldest first: what was read where its datagrams come in, the moments that its watch told,
 -- and what was tried on its wire, if that is known. The moment at which the ticks that were due were given last. And
@@ -108,7 +108,7 @@ pub record TakesArrival {P S : Type 0} (late : Bool) (arrival : Arrival) (outcom
         limited = new.front.limited;
       }
   pub asker : new.front.intake.asker ≡ mid.intake.asker
-  pub counted : IsCounted arrival outcome old.stats new.stats
+  pub counted : IsCounted (all_pass mid.limited new.front.limited) arrival outcome old.stats new.stats
 
 -- A datagram was read, and memory ran out: nothing was sent, given or counted, though the intake may have taken it in.
 pub record LosesArrival {P S : Type 0} (late : Bool) (arrival : Arrival) (old new : History P S) : Type 0 where

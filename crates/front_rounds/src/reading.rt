@@ -3,12 +3,13 @@
 ghost use Rattle.std.specs.Prelude.{◌≡◌, ◌∷◌, [], ℕ, List, IfOk, OnOk};
 ghost use Rattle.front_rounds.specs.Turns.{Turn, HaveDone, history};
 ghost use Rattle.front_rounds.specs.Shapes.{IsTaken, IsPassed, AreAllRead};
+ghost use Rattle.front_rounds.specs.Counted.{all_pass};
 ghost use Rattle.front_rounds.specs.inner.Reading.{IsReadOnce};
 
 use crate::inlet::{Inlet, Read};
 use crate::rounds::Rounds;
 use crate::watch::Watch;
-use bridge_stats::TakenIn;
+use bridge_stats::{Limited, TakenIn};
 use desk_rows::Rows;
 use media_workers::{Pace, PublisherName, Sink};
 use udp_wire::{FrontFault, Wire};
@@ -16,6 +17,13 @@ use udp_wire::{FrontFault, Wire};
 /// How many datagrams are taken in under one entry into the published desk, so that neither a tick nor an operator's
 /// call waits long for them.
 const DATAGRAMS: u32 = 64;
+
+/// Whether the rate limiter left out no report block, by what it had left out before and afterwards.
+fn all_pass(before: Limited, after: Limited) -> bool
+    ensures { result ≡ all_pass before after }
+{
+    after.blocks == before.blocks
+}
 
 impl<N: PublisherName, P: Pace, S: Sink, I: Inlet, W: Wire, C: Watch> Rounds<N, P, S, I, W, C> {
     /// Takes in the datagrams that wait.
@@ -54,12 +62,16 @@ impl<N: PublisherName, P: Pace, S: Sink, I: Inlet, W: Wire, C: Watch> Rounds<N, 
         let moment = self.watch.now()?;
         self.catch_up(moment);
         let octets = &self.chunk[..octets];
+        let before = self.media.limited();
         let taken = self
             .media
             .take_in(self.alloc, rows, &from, moment, octets, &mut self.wire)?;
         self.trace.tell_datagram(self.alloc, moment, &from, octets);
         let counted = TakenIn::of(from, moment, octets, taken.0);
-        self.stats.note(self.alloc, &counted, octets);
+        let after = self.media.limited();
+        let all_pass = all_pass(before, after);
+        self.stats
+            .note(self.alloc, rows, &counted, octets, all_pass);
         self.ask_first(&from, taken.1, moment)?;
         Ok(true)
     }

@@ -3,19 +3,20 @@ use Rattle.std.proofs.lemmas.Bool.Decides.{nat_tests}
 use Rattle.std.proofs.Math.Seq.{take-length}
 use Rattle.std.proofs.Common.{◌≡◌, ◌<◌, ◌-◌, ◌∙◌, ℕ, nat_lt, true, List, [], ◌∷◌, ◌++◌, length, take, drop, length-drop}
 use Rattle.std.proofs.Common.{arith, rules, false, map, Option, Some, None, is_some, Result, Ok, Err, OnErr, refl, sym}
-use Rattle.std.proofs.Common.{ap, subst}
+use Rattle.std.proofs.Common.{ap, subst, Bool, not}
 use Rattle.operator_lines.specs.Operators.{Replying, Showing}
-use Rattle.operator_connection.specs.declared.greeting.Greeted.{Greeted}
-use Rattle.operator_connection.specs.declared.greeting.Greeted.TheVariants as greeted
 use Rattle.operator_connection.specs.declared.talking.Standing.{Standing}
 use Rattle.operator_connection.specs.declared.talking.Standing.TheVariants.{Open, Ending, Lost, Stopping}
-use Rattle.operator_connection.specs.declared.heard.HeardLines.{HeardLines}
+use Rattle.operator_lines.specs.declared.feeding.Fed.{Fed}
+use Rattle.std.specs.declared.alloc.Global.{Global}
 use Rattle.operator_connection.specs.Connection.{Connection, heeded_of}
 use Rattle.operator_connection.specs.Deeds.{Deed, SeatedDeed, alone, AreDeeds, AreSeatedDeeds, HasHeard, HasWritten}
 use Rattle.operator_connection.specs.Deeds.{HasToldNews}
 use Rattle.operator_connection.specs.Deeds.{Beginning, deeds_begun, moment_of, greeted_at, heard_at, round_alone}
 use Rattle.operator_connection.specs.Deeds.{round_seated, first_seated}
-use Rattle.operator_connection.specs.Greeting.{GreetsFirst, GreetsSome}
+use Rattle.operator_connection.specs.Greeting.{GreetsFirst, has_none}
+use Rattle.operator_connection.specs.declared.greeting.Greeted.{Greeted}
+use Rattle.operator_connection.specs.declared.greeting.Greeted.TheVariants as greeted
 use Rattle.operator_connection.specs.Talking.{since_stop}
 use Rattle.operator_connection.specs.Talks.{IsTurn}
 
@@ -43,6 +44,21 @@ pub on_err : {A B C : Type 0} (r : Result A B) → C → OnErr r C
 on_err (Ok a) k = tt {0}
 on_err (Err b) k = k
 
+both_false : (b : Bool) → b ≡ false → not b ≡ false → false ≡ true
+both_false true e n = sym e
+both_false false e n = sym n
+
+-- where there was no line, nothing was told
+pub same_by_none : (lines : List (List ℕ)) (g : Greeted) (before after : List ℕ) (from to : Standing) (none : Bool)
+    → none ≡ has_none g → not none ≡ false → GreetsFirst lines g before after from to → after ≡ before
+same_by_none lines greeted.Nothing before after from to none is goes h = h.1
+same_by_none lines greeted.Good before after from to none is goes h =
+    absurd (let x : false ≡ true = both_false none is goes in cc)
+same_by_none lines greeted.Faulty before after from to none is goes h =
+    absurd (let x : false ≡ true = both_false none is goes in cc)
+same_by_none lines greeted.Stopped before after from to none is goes h =
+    absurd (let x : false ≡ true = both_false none is goes in cc)
+
 -- what is left of a list, as a slice gives it
 pub rest_is : {X : Type 0} (n : ℕ) (xs : List X) → take (length xs - n) (drop n xs) ≡ drop n xs
 rest_is n xs = ap (λ (k : ℕ). take k (drop n xs)) (sym (length-drop n xs)) ∙ take-length (drop n xs)
@@ -57,21 +73,14 @@ stopped_at Ending now since e = refl
 stopped_at Lost now since e = e
 stopped_at Stopping now since e = e
 
--- some of the lines were dealt with
-pub first_some : (lines : List (List ℕ)) (before after : List ℕ) (to : Standing) (g : Greeted)
-    → GreetsFirst lines before after to g → GreetsSome lines before after
-first_some lines before after to (greeted.Good at) h = (at, to, h.0)
-first_some lines before after to greeted.All h = (h.0, to, h.1)
-first_some lines before after to greeted.Stopped h = (h.0, to, h.1)
-
 -- ---- rounds
 
-pub heard_turn : (h : Option HeardLines) (moment : Option ℕ) → is_some h ≡ true
+pub heard_turn : (h : Option (Fed Global)) (moment : Option ℕ) → is_some h ≡ true
     → IsTurn (heeded_of h) (first_seated moment)
 heard_turn None moment e = search rules
 heard_turn (Some heard) moment e = (moment, refl)
 
-pub other_turn : (h : Option HeardLines) (beginning : Beginning) → is_some h ≡ false
+pub other_turn : (h : Option (Fed Global)) (beginning : Beginning) → is_some h ≡ false
     → IsTurn (heeded_of h) (round_seated beginning)
 other_turn None beginning e = (beginning, refl)
 other_turn (Some heard) beginning e = search rules

@@ -19,7 +19,8 @@ use Rattle.operator_connection.specs.Deeds.{AnswersPiece, LosesPiece, HasHeard, 
 use Rattle.operator_connection.specs.Deeds.{Deed, waits, looks, stops, greets, refuses, writes, IsDeed, AreDeeds}
 use Rattle.operator_connection.specs.Deeds.{SeatedDeed, alone, answers, hears, tells, IsSeatedDeed, AreSeatedDeeds}
 use Rattle.operator_connection.specs.Deeds.{TellsOpen, HasToldNews}
-use Rattle.operator_connection.specs.Greeting.{GreetsLines, GreetsFirst, GreetsAll, BreaksGreeting}
+use Rattle.operator_lines.specs.Openings.{greeting_of}
+use Rattle.operator_connection.specs.Greeting.{GreetsFirst, GreetsAll}
 use Rattle.operator_connection.specs.Talking.{AnswersLines, AnswersAll, AnswersOctets, AnswersSome, BreaksOff, Refuses}
 use Rattle.operator_connection.specs.Talking.{after_stop, after_read, after_write, left_after, is_open}
 use Rattle.operator_connection.specs.Talks.{Grown, all_appended, IsStream, GoesOn, StaysEnded}
@@ -121,27 +122,19 @@ taken k most xs few =
     (sym (take-append-le k (take most xs) (drop most xs) few) ∙ ap (take k) (take-append-drop most xs))
     ∙ take-append-drop k xs
 
-pub greetings_grow : (lines : List (List ℕ)) (before after : List ℕ) (from to : Standing)
-    → GreetsLines lines before after from to → Grown before after
-greetings_grow [] before after from to h = grown_none before after h.0
-greetings_grow (line ∷ lines) before after from to h =
-    grown_both before h.1 after (_, h.3.0) (greetings_grow lines h.1 after _ to h.4)
+first_greeting_grows : (lines : List (List ℕ)) (g : Greeted) (before after : List ℕ) (from to : Standing)
+    → GreetsFirst lines g before after from to → Grown before after
+first_greeting_grows lines greeted.Nothing before after from to h = grown_none before after h.1
+first_greeting_grows lines greeted.Good before after from to h = grown_none before after h.3.1
+first_greeting_grows lines greeted.Faulty before after from to h = (greeting_of h.0, h.3.1)
+first_greeting_grows lines greeted.Stopped before after from to h = grown_none before after h.0
 
-first_greetings_grow : (lines : List (List ℕ)) (before after : List ℕ) (to : Standing) (g : Greeted)
-    → GreetsFirst lines before after to g → Grown before after
-first_greetings_grow lines before after to (greeted.Good at) h = greetings_grow _ before after _ to h.0
-first_greetings_grow lines before after to greeted.All h = greetings_grow _ before after _ to h.1
-first_greetings_grow lines before after to greeted.Stopped h = greetings_grow _ before after _ to h.1
-
-pub all_greetings_grow : (lines : List (List ℕ)) (long : Bool) (before after : List ℕ) (to : Standing) (g : Greeted)
-    → GreetsAll lines long before after to g → Grown before after
-all_greetings_grow lines long before after to g h =
-    grown_both before h.0 after (first_greetings_grow lines before h.0 h.1 g h.2) (refusal_grows _ h.0 after h.1 to h.3)
-
-pub broken_greeting_grows : (stream octets : List ℕ) (before after : List ℕ)
-    → BreaksGreeting stream octets before after → Grown before after
-broken_greeting_grows stream octets before after (inl same) = grown_none before after same
-broken_greeting_grows stream octets before after (inr h) = greetings_grow _ before after _ h.3.1 h.3.2
+pub all_greetings_grow : (lines : List (List ℕ)) (long : Bool) (g : Greeted) (before after : List ℕ)
+    (from to : Standing)
+    → GreetsAll lines long g before after from to → Grown before after
+all_greetings_grow lines long g before after from to h =
+    grown_both before h.0 after (first_greeting_grows lines g before h.0 from h.1 h.2)
+    (refusal_grows _ h.0 after h.1 to h.3)
 
 -- ---- one thing that is done
 
@@ -274,20 +267,19 @@ answered_goes_on replies shows octets moment d d' old mid new b opened at (inr l
 
 greeted_goes_on : (octets : List ℕ) (moment : ℕ) (old mid new : Connection)
     → Brought octets old mid → old.standing ≡ Open → IsHeardAt moment mid new
-    → GreetsPiece octets mid new ⊎ LosesGreeting octets mid new → GoesOn old new
+    → GreetsPiece octets mid new ⊎ LosesGreeting mid new → GoesOn old new
 greeted_goes_on octets moment old mid new b opened at (inl a) = record {
   stream = λ still.
       subst (λ (l : List ℕ). StandsFor new.kept l) (sym (ap all_read at.acts ∙ b.read))
       (a.stands (all_read old.acts) (b.stands opened));
   grown =
       grown_from old mid new b.told at.acts
-      (all_greetings_grow a.lines a.too_long mid.waiting new.waiting a.standing a.greeted a.greets);
+      (all_greetings_grow a.lines a.too_long a.greeted mid.waiting new.waiting mid.standing a.standing a.greets);
 }
 greeted_goes_on octets moment old mid new b opened at (inr l) = record {
   stream = λ still. not_open new.standing still l.lost;
   grown = grown_from old mid new b.told at.acts
-      (broken_greeting_grows (all_read old.acts) octets mid.waiting new.waiting
-      (l.broke (all_read old.acts) (b.stands opened)));
+      (grown_none mid.waiting new.waiting l.waiting);
 }
 
 greets_goes_on : (moment : ℕ) (old new : Connection) → IsStream old → HasGreeted moment old new → GoesOn old new

@@ -31,6 +31,9 @@ waited_both a b c g h = (
 pub had_one : (deeds : List Deed) (a b : Connection) → IsRoundAlone deeds → AreDeeds deeds a b → HasHadRounds a b
 had_one deeds a b is done = (deeds, [], is, tt, deeds_both deeds [] a b b done refl)
 
+pub had_waits : (a b : Connection) → HasHadRounds a b → HasWaitedFor a b
+had_waits a b g = (g.0 ∷ g.1, (g.2, g.3), g.4)
+
 pub had_more : (a b c : Connection) → HasHadRounds a b → HasWaitedFor b c → HasHadRounds a c
 had_more a b c g h = (
   g.0,

@@ -1,13 +1,14 @@
 -- An operator's connection, and what changes in it (own).
 use Rattle.std.specs.Prelude.{◌≡◌, ◌-◌, ℕ, nat_eq, Bool, true, not, ◌&&◌, List, [], ◌∷◌, ◌++◌}
-use Rattle.std.specs.Prelude.{length, drop, if◌then◌else◌, Option, Some, None, is_none}
+use Rattle.std.specs.Prelude.{length, if◌then◌else◌, Option, Some, None, is_none}
 use Rattle.operator_lines.specs.Fed.{Kept, StandsFor, texts}
+use Rattle.operator_lines.specs.declared.feeding.Fed.{Fed}
+use Rattle.std.specs.declared.alloc.Global.{Global}
 use Rattle.operator_connection.specs.declared.talking.Came.{Came}
 use Rattle.operator_connection.specs.declared.talking.Standing.{Standing}
 use Rattle.operator_connection.specs.declared.talking.Standing.TheVariants.{Open, Lost}
 use Rattle.operator_connection.specs.declared.talking.Talk.{Talk}
 use Rattle.operator_connection.specs.declared.readiness.Readiness.{Readiness}
-use Rattle.operator_connection.specs.declared.heard.HeardLines.{HeardLines}
 use Rattle.operator_connection.specs.Acts.{Act, waited, looked, read, octet_count}
 use Rattle.operator_connection.specs.Readiness.{after_events, longest_wait, not_after}
 use Rattle.operator_connection.specs.Talking.{is_open, is_over, after_stop, since_stop, after_read, since_read}
@@ -28,17 +29,17 @@ pub record Connection : Type 0 where
   pub ready : Readiness
   pub heeded : Option Heeded
 
--- the lines that were heard, from the first good one on
-abbrev pub heeded_in : HeardLines → Heeded
-heeded_in heard = record { lines = drop heard.at (texts heard.fed.lines.items); too_long = heard.fed.too_long }
+-- the lines that were heard
+abbrev pub heeded_in : Fed Global → Heeded
+heeded_in heard = record { lines = texts heard.lines.items; too_long = heard.too_long }
 
 -- the same where any were
-abbrev pub heeded_of : Option HeardLines → Option Heeded
+abbrev pub heeded_of : Option (Fed Global) → Option Heeded
 heeded_of None = None
 heeded_of (Some heard) = Some (heeded_in heard)
 
 -- a connection of its parts
-abbrev pub connection : List Act → Talk → Readiness → Option HeardLines → Connection
+abbrev pub connection : List Act → Talk → Readiness → Option (Fed Global) → Connection
 connection acts talk ready heard =
     record {
       acts = acts;
@@ -50,10 +51,8 @@ connection acts talk ready heard =
       heeded = heeded_of heard;
     }
 
--- An operator's connection with its number among those without a seat, the last moment that its clock told, and what
--- was read last.
+-- An operator's connection with the last moment that its clock told, and what was read last.
 pub record CallerOf : Type 0 where
-  pub number : ℕ
   pub looked : ℕ
   pub connection : Connection
   pub chunk : List ℕ
@@ -63,8 +62,7 @@ abbrev pub is_seat_over : CallerOf → Bool
 is_seat_over c = is_over c.connection.standing true c.connection.waiting (c.looked - c.connection.since)
 
 -- Nothing was said on it yet, behind what was done before its clock told a moment.
-pub record IsNew (number : ℕ) (before : List Act) (c : CallerOf) : Type 0 where
-  pub same : c.number ≡ number
+pub record IsNew (before : List Act) (c : CallerOf) : Type 0 where
   pub acts : c.connection.acts ≡ before ++ looked c.looked ∷ []
   pub kept : StandsFor c.connection.kept []
   pub waiting : c.connection.waiting ≡ []

@@ -1,6 +1,6 @@
 -- What is done on an operator's connection, one thing after another (own).
 use Rattle.std.specs.Prelude.{◌≡◌, ◌⊎◌, ◌≤◌, ℕ, nat_lt, Bool, true, false, ◌&&◌, List, [], ◌∷◌, ◌++◌}
-use Rattle.std.specs.Prelude.{length, take, drop, map, Option, Some, None}
+use Rattle.std.specs.Prelude.{length, take, map, Option, Some, None}
 use Rattle.std.specs.Bool.{MatchBool}
 use Rattle.std.specs.List.{FoldsTo}
 use Rattle.operator_lines.specs.Fed.{StandsFor, Brings}
@@ -19,7 +19,7 @@ use Rattle.operator_connection.specs.Connection.{HasWaited, HasLooked, NotesStop
 use Rattle.operator_connection.specs.Readiness.{not_after}
 use Rattle.operator_connection.specs.Talking.{is_open, after_line, after_write, since_write, left_after}
 use Rattle.operator_connection.specs.Talking.{AnswersOctets, AnswersAll, AnswersSome, BreaksOff}
-use Rattle.operator_connection.specs.Greeting.{GreetsAll, BreaksGreeting}
+use Rattle.operator_connection.specs.Greeting.{GreetsAll}
 
 -- what waits was offered to the socket, 65,536 octets at most
 pub record HasOffered (moment : ℕ) (old new : Connection) : Type 0 where
@@ -39,17 +39,19 @@ HasWritten moment old new = MatchBool (old.ready.writable && is_owed old) (HasOf
 
 -- the lines that wait for a seat after octets were heard without one
 abbrev pub heeded_by : Greeted → List (List ℕ) → Bool → Option Heeded → Option Heeded
-heeded_by (greeted.Good at) lines too_long before = Some (record { lines = drop at lines; too_long = too_long })
-heeded_by greeted.All lines too_long before = before
+heeded_by greeted.Nothing lines too_long before = before
+heeded_by greeted.Good lines too_long before = Some (record { lines = lines; too_long = too_long })
+heeded_by greeted.Faulty lines too_long before = before
 heeded_by greeted.Stopped lines too_long before = before
 
 -- the bridge was found to be stopped
 abbrev pub was_stopped : Greeted → Bool
-was_stopped (greeted.Good at) = false
-was_stopped greeted.All = false
+was_stopped greeted.Nothing = false
+was_stopped greeted.Good = false
+was_stopped greeted.Faulty = false
 was_stopped greeted.Stopped = true
 
--- The lines that octets end were dealt with without a seat, up to the first good one.
+-- The first line that octets end was dealt with without a seat.
 pub record GreetsPiece (octets : List ℕ) (old new : Connection) : Type 0 where
   pub greeted : Greeted
   pub lines : List (List ℕ)
@@ -57,20 +59,19 @@ pub record GreetsPiece (octets : List ℕ) (old new : Connection) : Type 0 where
   pub standing : Standing
   pub brings : (before : List ℕ) → StandsFor old.kept before → Brings before octets lines too_long
   pub stands : (before : List ℕ) → StandsFor old.kept before → StandsFor new.kept (before ++ octets)
-  pub greets : GreetsAll lines too_long old.waiting new.waiting standing greeted
+  pub greets : GreetsAll lines too_long greeted old.waiting new.waiting old.standing standing
   pub after : new.standing ≡ unless_stopped (was_stopped greeted) standing
   pub heeded : new.heeded ≡ heeded_by greeted lines too_long old.heeded
 
--- Memory ran out behind some of them.
-pub record LosesGreeting (octets : List ℕ) (old new : Connection) : Type 0 where
+-- Memory ran out. Nothing was answered.
+pub record LosesGreeting (old new : Connection) : Type 0 where
   pub lost : new.standing ≡ Lost
-  pub broke : (before : List ℕ) → StandsFor old.kept before
-      → BreaksGreeting before octets old.waiting new.waiting
+  pub waiting : new.waiting ≡ old.waiting
   pub heeded : new.heeded ≡ old.heeded
 
 -- Octets were heard without a seat.
 pub record GreetsOctets (moment : ℕ) (octets : List ℕ) (old new : Connection) : Type 0 where
-  pub greeted : GreetsPiece octets old new ⊎ LosesGreeting octets old new
+  pub greeted : GreetsPiece octets old new ⊎ LosesGreeting old new
   pub at : IsHeardAt moment old new
 
 -- A read was made, and if it brought octets, they were heard without a seat.

@@ -5,7 +5,7 @@ use Rattle.std.specs.IoError.{error_kind}
 use Rattle.std.specs.declared.io.Error.{Error}
 use Rattle.std.specs.declared.io.ErrorKind.{ErrorKind}
 use Rattle.std.specs.declared.io.ErrorKind.TheVariants as kinds
-use Rattle.script_text.specs.declared.fault.Fault.TheVariants.{LineTooLong}
+use Rattle.desk_text.specs.declared.fault.Fault.TheVariants.{LineTooLong}
 use Rattle.operator_lines.specs.Fed.{Brings}
 use Rattle.operator_lines.specs.Outbound.{is_too_much}
 use Rattle.operator_lines.specs.Operators.{Replying, Showing, AnswersLine, fault_line}

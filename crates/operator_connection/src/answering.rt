@@ -1,6 +1,6 @@
 //! What a connection with a seat is answered.
 
-ghost use Rattle.std.specs.Prelude.{◌≡◌, ◌≤◌, ◌++◌, ℕ, List, drop, IfOk, OnOk, OnErr, vec_len};
+ghost use Rattle.std.specs.Prelude.{◌≡◌, ◌++◌, ℕ, false, List, IfOk, OnOk, OnErr};
 ghost use Rattle.operator_lines.specs.Fed.{StandsFor, texts};
 ghost use Rattle.operator_lines.specs.DeskAsk.{news};
 ghost use Rattle.operator_lines.specs.Operators.{AnswersLine, AppendsReply};
@@ -75,6 +75,7 @@ impl Talk {
         ensures refused { OnOk result (Refuses (refuses is_too_long stops self.old.standing)
             self.old.outgoing self.new.outgoing self.old.standing self.new.standing) }
         ensures err { OnErr result (self.new ≡ self.old) }
+        ensures goes_on { OnErr result (stops ≡ false) }
         ensures lines { self.new.lines ≡ self.old.lines }
     {
         if is_too_long && !stops && self.is_open() {
@@ -165,28 +166,25 @@ impl Talk {
         Ok(())
     }
 
-    /// Answers what was heard before the connection had its seat, from the good line at this place on. Returns whether
-    /// the bridge was found to be stopped. An `Err` loses the connection, and a call may have been carried out.
-    pub fn answer_from<D: LineDesk>(
+    /// Answers the lines that were heard before the connection had its seat. Returns whether the bridge was found to be
+    /// stopped. An `Err` loses the connection, and a call may have been carried out.
+    pub fn answer_heard<D: LineDesk>(
         &mut self,
         alloc: Global,
         desk: &mut D,
-        fed: &Fed,
-        at: usize,
+        heard: &Fed,
         text: &mut Vec<u8>,
         stopped: &AtomicBool,
     ) -> Result<bool, AllocError>
         requires stands { self.old.standing ≡ Standing.Open }
-        requires within { at ≤ vec_len fed.now.lines }
-        ensures rest { IfOk result (λ stops. AnswersAll D.replies D.shows (texts (drop at fed.now.lines.items))
-            fed.now.too_long desk.old desk.new self.old.outgoing self.new.outgoing self.new.standing stops) }
+        ensures all { IfOk result (λ stops. AnswersAll D.replies D.shows (texts heard.now.lines.items)
+            heard.now.too_long desk.old desk.new self.old.outgoing self.new.outgoing self.new.standing stops) }
         ensures lines { self.new.lines ≡ self.old.lines }
         ensures lost { OnErr result (self.new.standing ≡ Standing.Lost) }
-        ensures broke { OnErr result (AnswersSome D.replies D.shows (texts (drop at fed.now.lines.items))
+        ensures broke { OnErr result (AnswersSome D.replies D.shows (texts heard.now.lines.items)
             desk.old self.old.outgoing self.new.outgoing) }
     {
-        let rest = &fed.lines[at..];
-        let said = self.answer_all(alloc, desk, rest, fed.too_long, text, stopped);
+        let said = self.answer_all(alloc, desk, &heard.lines, heard.too_long, text, stopped);
         self.or_lost(said)
     }
 }

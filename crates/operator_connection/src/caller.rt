@@ -6,11 +6,10 @@ ghost use Rattle.operator_connection.specs.Deeds.{SeatedDeed, AreDeeds, AreSeate
 ghost use Rattle.operator_connection.specs.Deeds.{RefusesSeat, Beginning, deeds_begun, moment_of, round_alone, refused};
 ghost use Rattle.operator_connection.specs.Talks.{IsTurn};
 
-use crate::heard::HeardLines;
 use crate::line::CallerLine;
 use crate::readiness::Readiness;
 use crate::talking::{Standing, Talk};
-use operator_lines::LineDesk;
+use operator_lines::{Fed, LineDesk};
 use std::alloc::Global;
 use std::io;
 use std::marker::Model;
@@ -30,19 +29,17 @@ pub enum Heed {
     Over,
 }
 
-/// An operator's connection. Contracts see what was done on it, and what was said, as a `Connection`; and its number,
-/// the last moment that its clock told, and what was read last.
+/// An operator's connection. Contracts see what was done on it, and what was said, as a `Connection`; and the last
+/// moment that its clock told, and what was read last.
 #[derive(Drop)]
 pub struct Caller<L: CallerLine + Drop> {
-    /// Its number among the connections without a seat.
-    number: u64,
     pub(crate) line: L,
     pub(crate) talk: Talk,
     pub(crate) ready: Readiness,
     /// The last moment that its clock told.
     looked: u64,
     /// What waits for a seat.
-    pub(crate) heard: Option<HeardLines>,
+    pub(crate) heard: Option<Fed>,
     /// What was read last.
     pub(crate) chunk: Vec<u8>,
     /// The answer to the last line.
@@ -55,7 +52,6 @@ impl<L: CallerLine + Drop> Model for Caller<L> {
     ghost Value = { CallerOf };
 
     ghost view = { λ c. record {
-      number = c.number;
       looked = c.looked;
       connection = connection (L.acts c.line) c.talk c.ready c.heard;
       chunk = c.chunk.items;
@@ -63,16 +59,14 @@ impl<L: CallerLine + Drop> Model for Caller<L> {
 }
 
 impl<L: CallerLine + Drop> Caller<L> {
-    /// A connection on which nothing was said, by its number among those without a seat. An `Err` is the system's or
-    /// out of memory, and closes the connection.
-    pub fn new(alloc: Global, number: u64, mut line: L) -> io::Result<Self>
-        ensures { IfOk result (λ caller. IsNew number (L.acts line) caller) }
+    /// A connection on which nothing was said. An `Err` is the system's or out of memory, and closes the connection.
+    pub fn new(alloc: Global, mut line: L) -> io::Result<Self>
+        ensures { IfOk result (λ caller. IsNew (L.acts line) caller) }
     {
         let mut chunk = Vec::new(alloc);
         chunk.resize(CHUNK, 0)?;
         let start = line.now()?;
         Ok(Self {
-            number,
             line,
             talk: Talk::new(alloc, start),
             ready: Readiness::untried(),
@@ -81,13 +75,6 @@ impl<L: CallerLine + Drop> Caller<L> {
             chunk,
             text: Vec::new(alloc),
         })
-    }
-
-    /// Its number among the connections without a seat.
-    pub fn number(&self) -> u64
-        ensures { result ≡ self.now.number }
-    {
-        self.number
     }
 
     /// What the system gives it.
@@ -220,7 +207,8 @@ impl<L: CallerLine + Drop> Caller<L> {
         }
     }
 
-    /// One round without a seat: the same, but only faulty lines are answered, and nothing is told.
+    /// One round without a seat: the same, but only the first line is dealt with. A faulty one is answered, and ends
+    /// the connection. Nothing is told.
     pub fn round_without_seat(&mut self, alloc: Global, stopped: &AtomicBool) -> Heed
         ensures { (beginning : Beginning) × AreDeeds (round_alone beginning) self.old.connection self.new.connection }
     {

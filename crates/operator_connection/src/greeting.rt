@@ -1,24 +1,25 @@
 //! What a connection without a seat is answered.
 
-ghost use Rattle.std.specs.Prelude.{◌≡◌, ◌++◌, ℕ, List, IfOk, OnOk, OnErr, vec_len};
+ghost use Rattle.std.specs.Prelude.{◌≡◌, ◌++◌, ℕ, List, IfOk, OnOk, OnErr};
 ghost use Rattle.operator_lines.specs.Fed.{Brings, StandsFor, texts};
 ghost use Rattle.operator_lines.specs.Operators.{busy_line};
-ghost use Rattle.operator_connection.specs.Greeting.{GreetsLine, GreetsFirst, GreetsAll, is_all};
-ghost use Rattle.operator_connection.specs.Greeting.{GreetsSome, BreaksGreeting, IsPlaceIn};
+ghost use Rattle.operator_connection.specs.Greeting.{GreetsLine, GreetsFirst, GreetsAll, has_none};
 
 use crate::talking::{Standing, Talk};
 use operator_lines::{Fed, Next, Opening, busy, greet};
 use std::alloc::{AllocError, Global};
 use std::sync::atomic::{AtomicBool, Ordering};
 
-/// How far the lines of a connection without a seat were dealt with.
+/// What came of the lines of a connection without a seat.
 #[derive(Clone, Copy, Debug, PartialEq, Eq)]
 pub(crate) enum Greeted {
-    /// Up to the first good line, which is at this place. It wants a seat.
-    Good(usize),
-    /// All of them, or those before the end of the connection.
-    All,
-    /// Those before the bridge was found to be stopped.
+    /// There is none.
+    Nothing,
+    /// The first one is good, and wants a seat.
+    Good,
+    /// The first one is faulty. It was answered, and ends the connection.
+    Faulty,
+    /// The bridge was found to be stopped.
     Stopped,
 }
 
@@ -27,26 +28,25 @@ pub(crate) enum Greeted {
 pub(crate) struct Brought {
     /// The lines that they ended.
     pub fed: Fed,
-    /// How far these were dealt with.
+    /// What came of these.
     pub greeted: Greeted,
 }
 
 impl Greeted {
-    /// Whether all lines were dealt with without a seat.
-    fn is_all(self) -> bool
-        ensures { result ≡ is_all self }
+    /// Whether there was no line.
+    fn has_none(self) -> bool
+        ensures { result ≡ has_none self }
     {
         match self {
-            Greeted::All => true,
-            Greeted::Good(_) | Greeted::Stopped => false,
+            Greeted::Nothing => true,
+            Greeted::Good | Greeted::Faulty | Greeted::Stopped => false,
         }
     }
 }
 
 impl Talk {
-    /// Deals with a line of a connection without a seat, and returns whether it is a good one, which changes nothing.
-    /// The only error is out of memory.
-    #[tactic(auto, using(crate::proofs::TalkLemmas::foreign_closes, crate::proofs::TalkLemmas::faulty_ends))]
+    /// Deals with the first line of a connection, and returns whether it is a good one, which changes nothing. A faulty
+    /// one is answered, and ends the connection. The only error is out of memory, and appends nothing.
     fn greet_line(
         &mut self,
         alloc: Global,
@@ -59,49 +59,47 @@ impl Talk {
         ensures lines { self.new.lines ≡ self.old.lines }
     {
         text.clear();
-        let next = match greet(alloc, line, text)? {
-            Opening::Good => return Ok(true),
-            Opening::Foreign => Next::Quit,
-            Opening::Faulty(next) => next,
-        };
-        self.outgoing.append(text)?;
-        self.standing = self.after(next);
-        Ok(false)
+        match greet(alloc, line, text)? {
+            Opening::Good => Ok(true),
+            Opening::Faulty => {
+                self.outgoing.append(text)?;
+                self.standing = self.after(Next::Quit);
+                Ok(false)
+            }
+        }
     }
 
-    /// Deals with these lines of a connection without a seat, up to the first good one. After an `Err` the connection
+    /// Deals with the first of these lines. On out of memory, the only error, nothing is appended, and the connection
     /// is of no use.
-    fn greet_lines(
+    fn greet_first(
         &mut self,
         alloc: Global,
         lines: &[Vec<u8>],
         text: &mut Vec<u8>,
         stopped: &AtomicBool,
     ) -> Result<Greeted, AllocError>
-        requires open { self.old.standing ≡ Standing.Open }
-        ensures first { IfOk result (λ greeted. GreetsFirst (texts lines.now)
-            self.old.outgoing self.new.outgoing self.new.standing greeted) }
-        ensures broke { OnErr result (GreetsSome (texts lines.now) self.old.outgoing self.new.outgoing) }
+        ensures first { IfOk result (λ greeted. GreetsFirst (texts lines.now) greeted
+            self.old.outgoing self.new.outgoing self.old.standing self.new.standing) }
+        ensures err { OnErr result (self.new.outgoing ≡ self.old.outgoing) }
         ensures lines { self.new.lines ≡ self.old.lines }
     {
-        let mut at = 0;
-        for line in lines {
-            if stopped.load(Ordering::SeqCst) {
-                return Ok(Greeted::Stopped);
+        match lines {
+            [] => Ok(Greeted::Nothing),
+            [first, ..] => {
+                if stopped.load(Ordering::SeqCst) {
+                    return Ok(Greeted::Stopped);
+                }
+                if self.greet_line(alloc, first, text)? {
+                    Ok(Greeted::Good)
+                } else {
+                    Ok(Greeted::Faulty)
+                }
             }
-            if self.greet_line(alloc, line, text)? {
-                return Ok(Greeted::Good(at));
-            }
-            if !self.is_open() {
-                return Ok(Greeted::All);
-            }
-            at += 1;
         }
-        Ok(Greeted::All)
     }
 
-    /// Deals with these lines of a connection without a seat up to the first good one, and refuses one that is too long
-    /// where there is none. After an `Err` the connection is of no use.
+    /// Deals with the first of these lines, and refuses one that is too long where there is none. On out of memory, the
+    /// only error, nothing is appended, and the connection is of no use.
     fn greet_all(
         &mut self,
         alloc: Global,
@@ -110,19 +108,18 @@ impl Talk {
         text: &mut Vec<u8>,
         stopped: &AtomicBool,
     ) -> Result<Greeted, AllocError>
-        requires stands { self.old.standing ≡ Standing.Open }
-        ensures all { IfOk result (λ greeted. GreetsAll (texts lines.now) is_too_long
-            self.old.outgoing self.new.outgoing self.new.standing greeted) }
-        ensures broke { OnErr result (GreetsSome (texts lines.now) self.old.outgoing self.new.outgoing) }
+        ensures all { IfOk result (λ greeted. GreetsAll (texts lines.now) is_too_long greeted
+            self.old.outgoing self.new.outgoing self.old.standing self.new.standing) }
+        ensures err { OnErr result (self.new.outgoing ≡ self.old.outgoing) }
         ensures lines { self.new.lines ≡ self.old.lines }
     {
-        let greeted = self.greet_lines(alloc, lines, text, stopped)?;
-        self.refuse_too_long(alloc, is_too_long, !greeted.is_all(), text)?;
+        let greeted = self.greet_first(alloc, lines, text, stopped)?;
+        self.refuse_too_long(alloc, is_too_long, !greeted.has_none(), text)?;
         Ok(greeted)
     }
 
-    /// Takes the next octets of a connection without a seat, and deals with the lines that they end, up to the first
-    /// good one. An `Err` loses the connection.
+    /// Takes the next octets of a connection without a seat, and deals with the first line that they end. An `Err`
+    /// appends nothing, and loses the connection.
     pub fn hear_without_seat(
         &mut self,
         alloc: Global,
@@ -131,18 +128,15 @@ impl Talk {
         now: u64,
         stopped: &AtomicBool,
     ) -> Result<Brought, AllocError>
-        requires stands { self.old.standing ≡ Standing.Open }
         ensures brought { IfOk result (λ heard. (before : List ℕ) → StandsFor self.old.lines before
             → Brings before octets.now (texts heard.fed.lines.items) heard.fed.too_long) }
-        ensures heard { IfOk result (λ heard. GreetsAll (texts heard.fed.lines.items) heard.fed.too_long
-            self.old.outgoing self.new.outgoing self.new.standing heard.greeted) }
+        ensures heard { IfOk result (λ heard. GreetsAll (texts heard.fed.lines.items) heard.fed.too_long heard.greeted
+            self.old.outgoing self.new.outgoing self.old.standing self.new.standing) }
         ensures kept { IfOk result (λ heard. (before : List ℕ) → StandsFor self.old.lines before
             → StandsFor self.new.lines (before ++ octets.now)) }
-        ensures place { IfOk result (λ heard. IsPlaceIn heard.greeted (vec_len heard.fed.lines)) }
         ensures since { self.new.since ≡ now }
         ensures lost { OnErr result (self.new.standing ≡ Standing.Lost) }
-        ensures broke { OnErr result ((before : List ℕ) → StandsFor self.old.lines before
-            → BreaksGreeting before octets.now self.old.outgoing self.new.outgoing) }
+        ensures err { OnErr result (self.new.outgoing ≡ self.old.outgoing) }
     {
         match self.lines.feed(alloc, octets) {
             Ok(fed) => {

@@ -8,10 +8,9 @@ ghost use Rattle.operator_connection.specs.Deeds.{HearsPiece, HasHeard, AnswersH
 
 use crate::caller::Caller;
 use crate::greeting::{Brought, Greeted};
-use crate::heard::HeardLines;
 use crate::line::CallerLine;
 use crate::talking::{Came, Standing};
-use operator_lines::LineDesk;
+use operator_lines::{Fed, LineDesk};
 use std::alloc::Global;
 use std::sync::atomic::AtomicBool;
 
@@ -82,7 +81,8 @@ impl<L: CallerLine + Drop> Caller<L> {
         }
     }
 
-    /// Deals with the lines that end in so many octets of what was read last, up to the first good one.
+    /// Deals with the first line that ends in so many octets of what was read last. A good one and those behind it wait
+    /// for a seat.
     fn hear_without_seat(&mut self, alloc: Global, count: usize, now: u64, stopped: &AtomicBool)
         requires stands { self.old.connection.standing ≡ Standing.Open }
         requires few { count ≤ length self.old.chunk }
@@ -97,13 +97,13 @@ impl<L: CallerLine + Drop> Caller<L> {
             return;
         };
         match greeted {
-            Greeted::Good(at) => self.heard = Some(HeardLines { fed, at }),
-            Greeted::All => {}
+            Greeted::Nothing | Greeted::Faulty => {}
+            Greeted::Good => self.heard = Some(fed),
             Greeted::Stopped => self.talk.note_stop(now),
         }
     }
 
-    /// Reads a piece, if one may have come, and deals with the lines that it ends, up to the first good one.
+    /// Reads a piece, if one may have come, and deals with the first line that it ends.
     #[tactic(auto, using(crate::proofs::TalkLemmas::open_is))]
     pub(crate) fn read_without_seat(&mut self, alloc: Global, now: u64, stopped: &AtomicBool)
         ensures { HasGreeted now self.old.connection self.new.connection }
@@ -117,12 +117,12 @@ impl<L: CallerLine + Drop> Caller<L> {
         }
     }
 
-    /// Answers lines that waited for a seat, from the first good one on.
+    /// Answers lines that waited for a seat.
     fn answer_taken<D: LineDesk>(
         &mut self,
         alloc: Global,
         desk: &mut D,
-        heard: HeardLines,
+        heard: Fed,
         now: u64,
         stopped: &AtomicBool,
     )
@@ -135,10 +135,9 @@ impl<L: CallerLine + Drop> Caller<L> {
         ensures ready { self.new.connection.ready ≡ self.old.connection.ready }
         ensures heeded { self.new.connection.heeded ≡ self.old.connection.heeded }
     {
-        let HeardLines { fed, at } = heard;
         let said = self
             .talk
-            .answer_from(alloc, desk, &fed, at, &mut self.text, stopped);
+            .answer_heard(alloc, desk, &heard, &mut self.text, stopped);
         self.talk.since = now;
         match said {
             Ok(true) => self.talk.note_stop(now),

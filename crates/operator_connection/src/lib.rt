@@ -10,7 +10,7 @@
 //! number of rounds. Who implements a `CallerLine` notes what was done in a [`LineLog`], which takes no memory.
 //!
 //! ```rust
-//! let mut caller = Caller::new(alloc, number, line)?; // line: a `CallerLine`
+//! let mut caller = Caller::new(alloc, line)?; // line: a `CallerLine`
 //! // desk: a `LineDesk`; stopped: whether the bridge is to end
 //! while !caller.is_over() {
 //!     caller.round(alloc, &mut desk, &stopped);
@@ -23,7 +23,6 @@
 mod answering;
 mod caller;
 mod greeting;
-mod heard;
 mod hearing;
 mod laws;
 mod line;

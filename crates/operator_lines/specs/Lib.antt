@@ -1,7 +1,7 @@
 pub mod Cut
 pub mod DeskAsk
 pub mod Fed
-pub mod Foreign
+pub mod Inbound
 pub mod Openings
 pub mod Operators
 pub mod Outbound

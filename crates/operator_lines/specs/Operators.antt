@@ -1,17 +1,17 @@
 -- What operators' lines ask for, and how they are answered (own).
-use Rattle.std.specs.Prelude.{◌≡◌, ℕ, nat_eq, Bool, not, if◌then◌else◌, List, [], ◌∷◌, ◌++◌}
+use Rattle.std.specs.Prelude.{◌≡◌, ℕ, Bool, not, if◌then◌else◌, List, [], ◌∷◌, ◌++◌}
 use Rattle.std.specs.Prelude.{take, codes, decimal, Option, Some, None, Result, Ok, Err}
-use Rattle.std.specs.List.{list_all, ends_with}
+use Rattle.std.specs.List.{list_all}
 use Rattle.std.specs.Str.{bytes_eq}
 use Rattle.desk_edit.specs.Asked.{CallOf, asked_by}
-use Rattle.script_text.specs.declared.fault.Fault.{Fault}
-use Rattle.script_text.specs.declared.fault.Fault.TheVariants.{LineTooLong, BadByte, UnknownWord, MissingWord}
-use Rattle.script_text.specs.declared.fault.Fault.TheVariants.{ExtraWord, BadNumber, BadAddress, BadHex, BadFrame}
-use Rattle.script_text.specs.Words.{cut_of, value_or}
-use Rattle.script_text.specs.Numbers.{decimal_of}
-use Rattle.script_text.specs.Calls.{spoken_call, spoken_words}
-use Rattle.script_text.specs.Requests.{is_printable}
-use Rattle.script_text.specs.Text.{fault_text}
+use Rattle.desk_text.specs.declared.fault.Fault.{Fault}
+use Rattle.desk_text.specs.declared.fault.Fault.TheVariants.{LineTooLong, BadByte, UnknownWord, MissingWord}
+use Rattle.desk_text.specs.declared.fault.Fault.TheVariants.{ExtraWord, BadNumber, BadAddress, BadHex, BadFrame}
+use Rattle.desk_text.specs.Words.{cut_of, value_or}
+use Rattle.desk_text.specs.Numbers.{decimal_of}
+use Rattle.desk_text.specs.Calls.{spoken_call, spoken_words}
+use Rattle.desk_text.specs.Lines.{is_printable}
+use Rattle.desk_text.specs.Text.{fault_text}
 use Rattle.operator_lines.specs.DeskAsk.{DeskAsk, calls, watches}
 use Rattle.operator_lines.specs.declared.asking.LineAsk.{LineAsk}
 use Rattle.operator_lines.specs.declared.asking.LineAsk.TheVariants as variants
@@ -95,16 +95,10 @@ asked_in line (Some parts) otherwise = behind_or (alone_of parts.0) parts.1 othe
 abbrev pub is_printed : List ℕ → Bool
 is_printed line = list_all is_printable line
 
--- the line is the first one of a browser's request: it ends in the version of HTTP (RFC 9112 section 3)
-abbrev pub is_request : List ℕ → Bool
-is_request line = ends_with nat_eq line (codes " HTTP/1.1")
-
--- What a line asks for, or its first fault and the place of its word; place 0 is the whole line. A browser's request
--- asks for the end of the connection, so that the lines of its body are not read.
+-- what a line asks for, or its first fault and the place of its word; place 0 is the whole line
 unfoldable pub asked_of : List ℕ → Result AskOf (ℕ × Fault)
 asked_of line =
     if not (is_printed line) then Err (0, BadByte)
-    else if is_request line then Ok (alone Quit)
     else asked_in line (cut_of 32 line) (asked_call (spoken_call line))
 
 -- the first word of a line is `group`

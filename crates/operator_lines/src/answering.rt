@@ -1,12 +1,12 @@
 //! Answers operators' lines.
 
 ghost use Rattle.std.specs.Prelude.{◌≡◌, ◌++◌, Ok, IfOk, OnOk, OnErr};
-ghost use Rattle.script_text.specs.declared.fault.Fault.TheVariants.{LineTooLong};
+ghost use Rattle.desk_text.specs.declared.fault.Fault.TheVariants.{LineTooLong};
 ghost use Rattle.operator_lines.specs.Operators.{fault_line, after_fault, busy_line, alone, AppendsAnswer, AnswersLine};
 
 use crate::asking::{LineAsk, Verb, parse_line};
 use crate::line_desk::LineDesk;
-use script_text::{Fault, ParseFault};
+use desk_text::{Fault, ParseFault};
 use std::alloc::{AllocError, Allocator, Global};
 
 /// What happens to a connection after a line.
@@ -43,7 +43,7 @@ pub(crate) fn print_fault<A: Allocator + Copy>(
 
 /// What happens to a connection behind a faulty line. Who sends an octet that no line may hold speaks another protocol,
 /// and what follows may be lines that somebody else chose.
-pub(crate) fn after_fault(fault: Fault) -> Next
+fn after_fault(fault: Fault) -> Next
     ensures { result ≡ after_fault fault }
 {
     match fault {

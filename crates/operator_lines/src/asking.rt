@@ -1,8 +1,8 @@
 //! What an operator's line asks for.
 
 ghost use Rattle.std.specs.Prelude.{◌≡◌, ◌≢◌, Err};
-ghost use Rattle.script_text.specs.Words.{Gives, cut_of};
-ghost use Rattle.script_text.specs.Calls.{spoken_call};
+ghost use Rattle.desk_text.specs.Words.{Gives, cut_of};
+ghost use Rattle.desk_text.specs.Calls.{spoken_call};
 ghost use Rattle.operator_lines.specs.Operators.AskOf.{alone};
 ghost use Rattle.operator_lines.specs.Operators.{
   alone_of,
@@ -18,7 +18,7 @@ ghost use Rattle.operator_lines.specs.Operators.{
 use crate::counting::most;
 use crate::line_desk::View;
 use desk_edit::Call;
-use script_text::{Fault, ParseFault, cut, parse_desk};
+use desk_text::{Fault, ParseFault, cut, parse_desk};
 use std::alloc::{Allocator, Global};
 
 /// What a line of an operator asks for.
@@ -120,9 +120,6 @@ fn words<A: Allocator + Copy>(alloc: A, line: &[u8]) -> Result<LineAsk<A>, Parse
 }
 
 /// What a line asks for, or its first fault. Only a group takes memory.
-///
-/// A browser's request asks for the end of the connection: a page that is open on the bridge's machine can send one,
-/// and the lines of its body would be calls.
 #[tactic(auto, unfolding(crate::specs::Operators::asked_of))]
 pub(crate) fn parse_line<A: Allocator + Copy>(
     alloc: A,
@@ -136,10 +133,6 @@ pub(crate) fn parse_line<A: Allocator + Copy>(
             word: 0,
             fault: Fault::BadByte,
         });
-    }
-    // The first line of a browser's request ends in the version of HTTP (RFC 9112 section 3).
-    if line.ends_with(b" HTTP/1.1".as_slice()) {
-        return Ok(LineAsk::Verb(Verb::Quit));
     }
     words(alloc, line)
 }

@@ -4,11 +4,11 @@ ghost use Rattle.std.specs.Prelude.{◌≡◌, ◌≢◌, ◌^◌, true, Err};
 ghost use Rattle.std.specs.List.{list_all};
 ghost use Rattle.std.specs.Char.{is_ascii_digit};
 ghost use Rattle.std.specs.Str.Parse.{digits_value};
-ghost use Rattle.script_text.specs.Numbers.{is_number, below, decimal_of};
-ghost use Rattle.script_text.specs.Words.{Gives, cut_of};
+ghost use Rattle.desk_text.specs.Numbers.{is_number, below, decimal_of};
+ghost use Rattle.desk_text.specs.Words.{Gives, cut_of};
 ghost use Rattle.operator_lines.specs.Operators.{every_call, most_in};
 
-use script_text::{Fault, ParseFault, cut};
+use desk_text::{Fault, ParseFault, cut};
 
 /// Whether each octet is a digit.
 fn all_digits(word: &[u8]) -> bool

@@ -1,9 +1,9 @@
 //! Operators' lines: how a stream of octets is cut into lines, what a line asks, how it is answered, and what waits to
 //! be written.
 //!
-//! Begin with [`Lines::feed`], which cuts what an operator sends into lines. [`greet`] deals with those before the
-//! first good one, which takes a seat, and [`answer`] asks a [`LineDesk`]. [`Outgoing`] keeps what the socket hasn't
-//! taken yet.
+//! Begin with [`Lines::feed`], which cuts what an operator sends into lines. [`greet`] judges the first one, which
+//! takes a seat if it is good, and [`answer`] asks a [`LineDesk`]. [`Incoming`] keeps what has come and isn't heard
+//! yet, and [`Outgoing`] what the socket hasn't taken yet.
 //!
 //! Contracts see a stream as its lines, and what waits for an operator as octets. No function here has a socket.
 //!
@@ -26,15 +26,16 @@ mod answering;
 mod asking;
 mod counting;
 mod feeding;
-mod foreign;
 mod greeting;
+mod incoming;
 mod laws;
 mod line_desk;
 mod outgoing;
 
 pub use answering::{Next, answer, busy, print_too_long};
 pub use feeding::{Fed, Lines};
-pub use greeting::{Opening, greet};
+pub use greeting::{Beginning, Opening, greet, greet_octets};
+pub use incoming::Incoming;
 pub use laws::{cuts_are_whole, too_long_for_good};
 pub use line_desk::{LineDesk, View};
 pub use outgoing::Outgoing;

@@ -9,7 +9,7 @@ use Rattle.logbook.specs.Pages.{Book}
 use Rattle.desk_rows.specs.Desk.{Desk}
 use Rattle.desk_edit.specs.Asked.{CallOf}
 use Rattle.call_history.specs.AcceptedCall.{AcceptedOf}
-use Rattle.call_text.specs.NewsText.{news_line, news_text}
+use Rattle.desk_text.specs.NewsText.{news_line, news_text}
 use Rattle.operator_lines.specs.DeskAsk.{DeskAsk, calls, watches, news}
 use Rattle.operator_desk.specs.declared.answer.Answer.{Answer}
 use Rattle.operator_desk.specs.declared.answer.Answer.TheVariants.{Accepted, Refused}

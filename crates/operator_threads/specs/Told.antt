@@ -4,12 +4,12 @@ use mathlib.Core.List.{IsPrefix}
 use Rattle.logbook.specs.Pages.{Book}
 use Rattle.desk_rows.specs.Desk.{Desk}
 use Rattle.desk_edit.specs.Asked.{CallOf}
-use Rattle.bridge_core.specs.declared.reply.Reply.TheVariants as replies
-use Rattle.call_text.specs.HistoryText.{history_text}
+use Rattle.desk_calls.specs.declared.reply.Reply.TheVariants as replies
+use Rattle.desk_text.specs.HistoryText.{history_text}
 use Rattle.operator_lines.specs.declared.line_desk.View.{View}
 use Rattle.operator_lines.specs.declared.line_desk.View.TheVariants.{Rows, History, Stats}
-use Rattle.script_text.specs.RowLines.{show_text}
-use Rattle.script_text.specs.Text.{reply_text, refused_text}
+use Rattle.desk_text.specs.RowLines.{show_text}
+use Rattle.desk_text.specs.Text.{reply_text, refused_text}
 use Rattle.versions.specs.Published.{NoticeOf}
 use Rattle.operator_desk.specs.declared.answer.Answer.{Answer}
 use Rattle.operator_desk.specs.declared.answer.Answer.TheVariants.{Accepted, Refused}

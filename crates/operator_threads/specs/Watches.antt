@@ -3,8 +3,8 @@ use Rattle.std.specs.Prelude.{◌≡◌, ℕ, ◌≤◌, max, List, [], ◌++◌
 use Rattle.std.specs.List.{FoldsTo, flat_map}
 use Rattle.logbook.specs.Pages.{Book}
 use Rattle.desk_rows.specs.Desk.{Desk}
-use Rattle.call_text.specs.HistoryText.{end_line}
-use Rattle.call_text.specs.NewsText.{news_text}
+use Rattle.desk_text.specs.HistoryText.{end_line}
+use Rattle.desk_text.specs.NewsText.{news_text}
 use Rattle.operator_lines.specs.DeskAsk.{DeskAsk, calls, watches, news}
 use Rattle.versions.specs.Published.{NoticeOf}
 use Rattle.operator_desk.specs.Answers.{HasCaughtUp}

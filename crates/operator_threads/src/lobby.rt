@@ -1,75 +1,230 @@
-//! The connections that have no seat yet.
+//! The connections whose first line has not come.
 
-ghost use Rattle.std.specs.Prelude.{◌≡◌, ◌<◌, ◌++◌, ◌∷◌, [], nat_eq, IfOk, OnErr};
-ghost use Rattle.std.specs.List.{All, list_any};
-ghost use Rattle.operator_threads.specs.Lobby.{latest, others};
+ghost use Rattle.std.specs.Prelude.{◌≡◌, ◌+◌, ◌≤◌, ◌<◌, IfOk, IfSome};
+ghost use Rattle.operator_threads.specs.Lobby.{most_guests};
 
+use mio::net::TcpStream;
+use operator_connection::{Came, meaning};
+use operator_lines::{Beginning, Incoming, busy, greet_octets};
+use rtp_codec::Address;
 use std::alloc::{AllocError, Global};
+use std::io::{Read, Write};
 use std::marker::Model;
 
-/// How many connections without a seat there are at most.
-const WITHOUT_SEAT: usize = 16;
+/// How many connections wait for their first line at most.
+const MOST_GUESTS: usize = 16;
 
-/// The connections that have no seat yet, each by a number of its own. Contracts see the numbers, oldest first.
+/// For how many nanoseconds nothing may come from one: 30 s.
+const LONGEST_SILENCE: u64 = 30_000_000_000;
+
+/// How many nanoseconds lie between two looks at connections of which none is new: 5 ms.
+const LOOK_GAP: u64 = 5_000_000;
+
+/// How many octets are read at a time.
+const CHUNK: usize = 9_000;
+
+/// A connection without a seat, and what has come from it.
 #[derive(Drop)]
-pub(crate) struct Lobby {
-    numbers: Vec<u64>,
-    /// The number of the next connection.
-    next: u64,
+pub struct Guest {
+    pub(crate) stream: TcpStream,
+    /// Where it comes from.
+    pub from: Address,
+    pub(crate) incoming: Incoming,
+    /// When octets came last, or the connection.
+    since: u64,
+}
+
+/// What becomes of a connection that waits for its first line.
+#[derive(Clone, Copy, Debug, PartialEq, Eq)]
+enum Fate {
+    /// It waits on.
+    Waits,
+    /// It is to be closed.
+    Over,
+    /// Its first line is a good one.
+    Good,
+}
+
+impl Guest {
+    /// Keeps what has come, and looks how it begins. A first line that is no good one is answered.
+    fn hear(
+        &mut self,
+        alloc: Global,
+        octets: &[u8],
+        text: &mut Vec<u8>,
+    ) -> Result<Fate, AllocError> {
+        self.incoming.append(octets)?;
+        text.clear();
+        Ok(match greet_octets(alloc, self.incoming.next(), text)? {
+            Beginning::Waits => Fate::Waits,
+            Beginning::Good => Fate::Good,
+            Beginning::Faulty => {
+                // A socket on which nothing was written takes the whole line.
+                let _ = self.stream.write(text);
+                Fate::Over
+            }
+        })
+    }
+
+    /// Reads what has come, and looks what becomes of the connection.
+    fn look(&mut self, alloc: Global, chunk: &mut Vec<u8>, text: &mut Vec<u8>, now: u64) -> Fate {
+        match meaning(&self.stream.read(chunk)).at_most(chunk.len()) {
+            Came::Octets(count) => {
+                self.since = now;
+                match self.hear(alloc, &chunk[..count], text) {
+                    Ok(fate) => fate,
+                    Err(_) => Fate::Over,
+                }
+            }
+            Came::End | Came::Failed => Fate::Over,
+            Came::Later | Came::Again => {
+                if now.saturating_sub(self.since) >= LONGEST_SILENCE {
+                    Fate::Over
+                } else {
+                    Fate::Waits
+                }
+            }
+        }
+    }
+
+    /// Tells it that no seat is free, and closes it.
+    pub fn turn_away(self) {
+        turn_away(self.stream);
+    }
+}
+
+/// Tells a caller that no seat is free, and closes the connection.
+pub fn turn_away(mut stream: TcpStream) {
+    let _ = stream.write(busy());
+}
+
+/// The connections whose first line has not come, the oldest first. They have neither a thread nor a seat. Contracts
+/// see how many there are: at most 16.
+#[derive(Drop)]
+pub struct Lobby {
+    guests: Vec<Guest>,
+    /// What was read last.
+    chunk: Vec<u8>,
+    /// The answer to a first line.
+    text: Vec<u8>,
+    /// Whether one came since they were looked at last.
+    has_new: bool,
+    /// When they were looked at last.
+    looked: u64,
 }
 
 impl Model for Lobby {
-    ghost use Rattle.std.specs.Prelude.{◌<◌, ◌≤◌, ℕ, List, length};
-    ghost use Rattle.std.specs.List.{All};
-    ghost use Rattle.operator_threads.specs.Lobby.{without_seat};
+    ghost use Rattle.std.specs.Prelude.{◌≤◌, ℕ, length};
+    ghost use Rattle.operator_threads.specs.Lobby.{most_guests};
 
-    ghost Value = { List ℕ };
+    ghost Value = { ℕ };
 
-    ghost view = { λ l. l.numbers.items };
+    ghost view = { λ l. length l.guests.items };
 
-    ghost invariant = { λ l.
-        (length l.numbers.items ≤ without_seat) × All (λ number. number < l.next) l.numbers.items };
+    ghost invariant = { λ l. length l.guests.items ≤ most_guests };
 }
 
 impl Lobby {
-    /// No connection. It takes no memory.
-    pub fn new(alloc: Global) -> Self
-        ensures { result ≡ [] }
+    /// Nobody waits. The only error is out of memory.
+    pub fn new(alloc: Global) -> Result<Self, AllocError>
+        ensures { IfOk result (λ lobby. lobby ≡ 0) }
     {
-        Self {
-            numbers: Vec::new(alloc),
-            next: 0,
+        let mut chunk = Vec::new(alloc);
+        chunk.resize(CHUNK, 0)?;
+        Ok(Self {
+            guests: Vec::with_capacity(alloc, MOST_GUESTS)?,
+            chunk,
+            text: Vec::new(alloc),
+            has_new: false,
+            looked: 0,
+        })
+    }
+
+    /// Whether the connections are to be looked at: one is new, or 5 ms have passed since the last look.
+    // A round of the front with a single datagram takes no longer than a look at sixteen connections.
+    pub fn is_due(&mut self, now: u64) -> bool
+        ensures { self.new ≡ self.old }
+    {
+        let is_due = self.has_new || now.saturating_sub(self.looked) >= LOOK_GAP;
+        if is_due {
+            self.has_new = false;
+            self.looked = now;
+        }
+        is_due
+    }
+
+    /// Closes the oldest connection, if as many wait as may.
+    fn make_space(&mut self)
+        ensures few { self.new + 1 ≤ most_guests }
+        ensures left { self.new ≤ self.old }
+    {
+        if self.guests.len() >= MOST_GUESTS {
+            self.guests.remove(0);
         }
     }
 
-    /// Enters a connection, and returns its number. Of more than 16 the oldest goes. An `Err` changes nothing: memory
-    /// ran out, or 2^64 - 1 connections have come.
-    pub fn enter(&mut self) -> Result<u64, AllocError>
-        ensures entered { IfOk result (λ number. self.new ≡ latest (self.old ++ number ∷ [])) }
-        ensures fresh { IfOk result (λ number. All (λ other. other < number) self.old) }
-        ensures err { OnErr result (self.new ≡ self.old) }
+    /// A connection comes, at a moment in nanoseconds. Of more than 16 the oldest is closed. On out of memory, the only
+    /// error, the new one is closed.
+    pub fn enter(
+        &mut self,
+        alloc: Global,
+        stream: TcpStream,
+        from: Address,
+        now: u64,
+    ) -> Result<(), AllocError>
+        ensures few { self.new ≤ most_guests }
     {
-        let number = self.next;
-        let next = number.checked_add(1).ok_or(AllocError)?;
-        self.numbers.push(number)?;
-        self.next = next;
-        if self.numbers.len() > WITHOUT_SEAT {
-            self.numbers.remove(0);
+        self.make_space();
+        self.has_new = true;
+        self.guests.push(Guest {
+            stream,
+            from,
+            incoming: Incoming::new(alloc),
+            since: now,
+        })?;
+        Ok(())
+    }
+
+    /// Looks what becomes of the connection at this place.
+    fn look_at(&mut self, alloc: Global, at: usize, now: u64) -> Fate
+        requires { at < self.old }
+        ensures { self.new ≡ self.old }
+    {
+        self.guests[at].look(alloc, &mut self.chunk, &mut self.text, now)
+    }
+
+    /// Where the first connection is that waits no longer, and what becomes of it.
+    fn first_decided(&mut self, alloc: Global, now: u64) -> Option<(usize, Fate)>
+        ensures place { IfSome result (λ decided. decided.0 < self.new) }
+        ensures same { self.new ≡ self.old }
+    {
+        for at in 0..self.guests.len() {
+            let fate = self.look_at(alloc, at, now);
+            if fate != Fate::Waits {
+                return Some((at, fate));
+            }
         }
-        Ok(number)
+        None
     }
 
-    /// Takes a connection out: it has a seat, or has ended. A number that isn't there changes nothing.
-    pub fn leave(&mut self, number: u64)
-        ensures { self.new ≡ others number self.old }
+    /// Takes the connection at this place out.
+    fn take(&mut self, at: usize) -> Guest
+        requires { at < self.old }
+        ensures { self.new + 1 ≡ self.old }
     {
-        self.numbers.retain(|other| *other != number);
+        self.guests.remove(at)
     }
 
-    /// Whether a connection is there. One that made way for a newer one is not.
-    pub fn has(&self, number: u64) -> bool
-        ensures { result ≡ list_any (nat_eq number) self.now }
-    {
-        self.numbers.iter().any(|other| number == *other)
+    /// The next connection whose first line is a good one, if any is. It waits no longer. Others are closed whose first
+    /// line isn't good, which is answered, or that have ended, or said nothing for 30 s.
+    pub fn next_good(&mut self, alloc: Global, now: u64) -> Option<Guest> {
+        for _ in 0..MOST_GUESTS {
+            let (at, fate) = self.first_decided(alloc, now)?;
+            let guest = self.take(at);
+            if fate == Fate::Good {
+                return Some(guest);
+            }
+        }
+        None
     }
 }

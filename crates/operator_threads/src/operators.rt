@@ -7,13 +7,13 @@ ghost use Rattle.operator_desk.specs.Opening.{most_operators};
 
 use crate::at_desk::AtDesk;
 use crate::latest::Latest;
-use crate::lobby::Lobby;
 use crate::printed::Printed;
 use crate::printed_past::PrintedPast;
 use crate::seats::{FreeSeats, TakenSeat};
+use crate::threads::ThreadCount;
 use crate::wake::Wake;
 use operator_desk::{DeskBrand, MAX_OPERATORS, Seat, SharedDesk};
-use std::alloc::{AllocError, Global};
+use std::alloc::Global;
 use std::sync::atomic::{AtomicBool, Ordering};
 use std::sync::{Mutex, MutexGuard, Wait};
 use versions::Notice;
@@ -26,7 +26,7 @@ pub struct Operators<'a, H: DeskBrand> {
     /// How many seats there are.
     all: usize,
     seats: Mutex<FreeSeats<'a, H>>,
-    lobby: Mutex<Lobby>,
+    threads: Mutex<ThreadCount>,
     latest: Mutex<Latest<H>>,
     /// Held while the rows are printed, which takes milliseconds for a full desk, or copied as they were printed last.
     /// Operators who keep asking take one processor together, and the others' calls have the rest.
@@ -46,11 +46,12 @@ impl<'a, H: DeskBrand> Operators<'a, H> {
         seats: Vec<Seat<'a, H>>,
     ) -> Self {
         let latest = Latest::new(desk.notice(rt));
+        let all = seats.len();
         Self {
             desk,
-            all: seats.len(),
+            all,
             seats: Mutex::new(FreeSeats { seats }),
-            lobby: Mutex::new(Lobby::new(alloc)),
+            threads: Mutex::new(ThreadCount::new(all)),
             latest: Mutex::new(latest),
             printed: Mutex::new(Printed::nothing(alloc)),
             printed_past: Mutex::new(PrintedPast::nothing(alloc)),
@@ -78,28 +79,20 @@ impl<'a, H: DeskBrand> Operators<'a, H> {
         used.min(MAX_OPERATORS as usize) as u32
     }
 
-    /// Enters a new connection among those that have no seat, and returns its number there. Of more than 16 the oldest
-    /// makes way: its thread closes it within a round. An `Err` is out of memory, and closes the new one.
-    pub fn enter<R: Wait>(&self, rt: &R) -> Result<u64, AllocError> {
-        let mut lobby = self.lobby.lock(rt);
-        let number = lobby.enter();
-        MutexGuard::unlock(lobby);
-        number
+    /// Asks for a thread for a connection. Returns whether it may have one: no more connections have one than there are
+    /// seats. End it by [`Operators::end_thread`].
+    pub fn begin_thread<R: Wait>(&self, rt: &R) -> bool {
+        let mut threads = self.threads.lock(rt);
+        let begins = threads.begin();
+        MutexGuard::unlock(threads);
+        begins
     }
 
-    /// Whether a connection without a seat is there, and has not made way for a newer one.
-    pub(crate) fn is_there<R: Wait>(&self, rt: &R, number: u64) -> bool {
-        let lobby = self.lobby.lock(rt);
-        let is_there = lobby.has(number);
-        MutexGuard::unlock(lobby);
-        is_there
-    }
-
-    /// Takes a connection out of those that have no seat.
-    pub(crate) fn leave<R: Wait>(&self, rt: &R, number: u64) {
-        let mut lobby = self.lobby.lock(rt);
-        lobby.leave(number);
-        MutexGuard::unlock(lobby);
+    /// The thread of a connection has ended.
+    pub fn end_thread<R: Wait>(&self, rt: &R) {
+        let mut threads = self.threads.lock(rt);
+        threads.end();
+        MutexGuard::unlock(threads);
     }
 
     /// Takes the lowest free seat.
@@ -195,7 +188,7 @@ impl<'a, H: DeskBrand> Operators<'a, H> {
             desk,
             all: _,
             seats,
-            lobby: _,
+            threads: _,
             latest: _,
             printed: _,
             printed_past: _,

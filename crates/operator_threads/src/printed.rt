@@ -4,8 +4,8 @@ ghost use Rattle.std.specs.Prelude.{◌≡◌, ◌++◌, [], IfOk, OnOk, OnErr};
 ghost use Rattle.std.specs.Bool.{OnTrue};
 ghost use Rattle.operator_threads.specs.Told.{SeatShows};
 
+use desk_text::print_rows;
 use operator_desk::{DeskBrand, SharedDesk};
-use script_text::print_rows;
 use std::alloc::{AllocError, Global};
 use std::marker::{Model, PhantomData};
 use std::sync::Wait;

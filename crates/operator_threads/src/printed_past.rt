@@ -4,7 +4,7 @@ ghost use Rattle.std.specs.Prelude.{◌≡◌, ◌++◌, [], IfOk, OnOk, OnErr};
 ghost use Rattle.std.specs.Bool.{OnTrue};
 ghost use Rattle.operator_threads.specs.Told.{SeatTellsPast};
 
-use call_text::print_history;
+use desk_text::print_history;
 use operator_desk::{DeskBrand, Past, Seat, SharedDesk};
 use std::alloc::{AllocError, Global};
 use std::marker::Model;

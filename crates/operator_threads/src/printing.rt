@@ -3,9 +3,9 @@
 ghost use Rattle.std.specs.Prelude.{◌≡◌, ◌+◌, ◌<◌, ◌++◌, length, OnOk, OnErr, vec_len, vec_capacity};
 ghost use Rattle.operator_threads.specs.Told.{answer_text};
 
-use bridge_core::Reply;
+use desk_calls::Reply;
+use desk_text::{print_refused, print_reply};
 use operator_desk::Answer;
-use script_text::{print_refused, print_reply};
 use std::alloc::{AllocError, Allocator};
 
 /// Appends the line of an answer. On out of memory, the only error, nothing changes.

@@ -82,8 +82,8 @@ impl<'a, H: DeskBrand> Operators<'a, H> {
         }
     }
 
-    /// A round of a connection without a seat: waits 50 ms at most, and deals with its lines up to the first good one,
-    /// which takes the lowest free seat. If none is free, it is answered `busy`.
+    /// A round of a connection without a seat: waits 50 ms at most, and deals with its first line. A good one takes the
+    /// lowest free seat. If none is free, it is answered `busy`.
     pub fn greet<'b, R: Wait, F: Wake, L: CallerLine + Drop>(
         &'b self,
         rt: &'b R,
@@ -91,21 +91,12 @@ impl<'a, H: DeskBrand> Operators<'a, H> {
         caller: &mut Caller<L>,
         front: &'b F,
     ) -> Seating<'b, 'a, H, R, F>
-        ensures waited { HasWaitedFor caller.old.connection caller.new.connection }
-        ensures some { (result ≡ Seating.Over → ⊥)
-            → HasHadRounds caller.old.connection caller.new.connection }
+        ensures { HasHadRounds caller.old.connection caller.new.connection }
     {
-        let number = caller.number();
-        if !self.is_there(rt, number) {
-            return Seating::Over;
-        }
         match caller.round_without_seat(alloc, &self.stopped) {
-            Heed::Over => {
-                self.leave(rt, number);
-                Seating::Over
-            }
+            Heed::Over => Seating::Over,
             Heed::Waits => Seating::Waits,
-            Heed::Good => self.admit(rt, number, caller, front),
+            Heed::Good => self.admit(rt, caller, front),
         }
     }
 
@@ -113,17 +104,13 @@ impl<'a, H: DeskBrand> Operators<'a, H> {
     fn admit<'b, R: Wait, F: Wake, L: CallerLine + Drop>(
         &'b self,
         rt: &'b R,
-        number: u64,
         caller: &mut Caller<L>,
         front: &'b F,
     ) -> Seating<'b, 'a, H, R, F>
         ensures { HasWaitedFor caller.old.connection caller.new.connection }
     {
         match self.take(rt) {
-            Some(taken) => {
-                self.leave(rt, number);
-                Seating::Seated(self.at_desk(rt, front, taken))
-            }
+            Some(taken) => Seating::Seated(self.at_desk(rt, front, taken)),
             None => {
                 caller.refuse_seat();
                 front.note_busy(rt);

@@ -8,7 +8,7 @@ ghost use Rattle.operator_threads.specs.Watches.{AppendsWatch, AppendsNews};
 
 use crate::at_desk::AtDesk;
 use crate::wake::Wake;
-use call_text::{print_end, print_news};
+use desk_text::{print_end, print_news};
 use operator_desk::DeskBrand;
 use std::alloc::{AllocError, Global};
 use std::sync::Wait;

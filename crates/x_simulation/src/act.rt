@@ -1,7 +1,7 @@
 //! The lines of a script.
 
+use desk_text::parse_address;
 use rtp_codec::Address;
-use script_text::parse_address;
 
 /// The most lanes of a bridge.
 pub const MOST_LANES: u32 = 4;

@@ -1,9 +1,10 @@
 //! The desk of the model.
 
-use bridge_core::{Core, Reply};
+use bridge_core::Core;
+use desk_calls::Reply;
 use desk_edit::Call;
+use desk_text::{print_reply, print_rows};
 use operator_lines::{LineDesk, View};
-use script_text::{print_reply, print_rows};
 use std::alloc::{AllocError, Global};
 
 /// The desk and the lanes of the model: a bridge of one thread.

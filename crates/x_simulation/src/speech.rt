@@ -58,22 +58,21 @@ impl Speech {
         self.is_over = true;
     }
 
-    /// Deals with the lines up to the first good one, which stays. Returns whether there is one.
+    /// Deals with the first line. A good one stays. Returns whether it is one.
     pub fn greet(&mut self) -> Result<bool, AllocError> {
-        for _ in 0..self.waiting.len() {
-            let Some(line) = self.next() else {
-                break;
-            };
-            match greet(self.alloc, &line, &mut self.wanted)? {
-                Opening::Good => {
-                    self.waiting.push_front(line)?;
-                    return Ok(true);
-                }
-                Opening::Foreign => self.is_over = true,
-                Opening::Faulty(next) => self.is_over = next != Next::Stay,
+        let Some(line) = self.next() else {
+            return Ok(false);
+        };
+        match greet(self.alloc, &line, &mut self.wanted)? {
+            Opening::Good => {
+                self.waiting.push_front(line)?;
+                Ok(true)
+            }
+            Opening::Faulty => {
+                self.is_over = true;
+                Ok(false)
             }
         }
-        Ok(false)
     }
 
     /// No seat is free for the first good line.

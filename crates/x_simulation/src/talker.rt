@@ -84,8 +84,7 @@ impl Link {
     fn open<'b, 'a, H: DeskBrand, R: Wait>(
         place: &Place<'b, 'a, H, R>,
     ) -> Result<Self, Difference> {
-        let number = place.operators.enter(place.rt)?;
-        match Caller::new(place.alloc, number, ScriptLine::new(place.alloc)) {
+        match Caller::new(place.alloc, ScriptLine::new(place.alloc)) {
             Ok(caller) => Ok(Self {
                 caller,
                 speech: Speech::new(place.alloc),

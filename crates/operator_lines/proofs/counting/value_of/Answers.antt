@@ -1,5 +1,5 @@
 use Rattle.std.proofs.Common.{◌∙◌}
-use Rattle.script_text.proofs.NumberLemmas.{parsed, text_of_number}
+use Rattle.desk_text.proofs.NumberLemmas.{parsed, text_of_number}
 use Rattle.operator_lines.proofs.counting.value_of.Goals as goal
 
 pub returns-in-Ok : goal.returns-in-Ok

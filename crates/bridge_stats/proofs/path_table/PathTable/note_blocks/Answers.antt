@@ -7,7 +7,7 @@ loop-block-init g c = λ end h. h
 
 pub loop-block-preserved : goal.loop-block-preserved
 loop-block-preserved g c =
-    let step = IsBlockNoted c.args.from.now c.args.moment in
+    let step = IsBlockNoted c.args.rows.now c.args.from.now c.args.moment in
     let xs = c.args.blocks.now in
     let old = c.loop-block.self in
     let new = c.note_block.new.self in
@@ -17,5 +17,5 @@ loop-block-preserved g c =
 pub returns : goal.returns
 returns g c =
     c.loop-block.invariant c.loop-block.self
-    (none_left (IsBlockNoted c.args.from.now c.args.moment) c.args.blocks.now c.loop-block.block-index c.loop-block.self
-    c.loop-block-test.false)
+    (none_left (IsBlockNoted c.args.rows.now c.args.from.now c.args.moment) c.args.blocks.now
+    c.loop-block.block-index c.loop-block.self c.loop-block-test.false)

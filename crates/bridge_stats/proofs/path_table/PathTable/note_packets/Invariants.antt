@@ -10,6 +10,7 @@ use Rattle.bridge_stats.proofs.path_table.PathTable.note_packets.Given as goal
 abbrev pub invariant-loop-packet : goal.invariant-loop-packet
 invariant-loop-packet g l =
     (end : TableOf PathReport)
-    → FoldsTo (λ old packet new. IsPacketNoted l.from l.moment old (packet_of packet) new) l.self
+    → FoldsTo (λ old packet new. IsPacketNoted l.rows l.from l.moment old (packet_of packet) new) l.self
     (drop l.packet-index l.packets) end
-    → FoldsTo (λ old packet new. IsPacketNoted l.from l.moment old (packet_of packet) new) l.fn.self l.packets end
+    → FoldsTo (λ old packet new. IsPacketNoted l.rows l.from l.moment old (packet_of packet) new) l.fn.self l.packets
+    end

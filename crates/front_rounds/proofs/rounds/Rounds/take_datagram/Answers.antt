@@ -1,7 +1,10 @@
-use Rattle.std.proofs.Common.{◌≡◌, ◌∷◌, [], ◌++◌, ℕ, List, take, Option, refl, ap, sym, subst, ◌∙◌, inl, inr}
+use Rattle.std.proofs.Common.{◌≡◌, Bool, ◌∷◌, [], ◌++◌, ℕ, List, take, Option, refl, ap, sym, subst, ◌∙◌, inl, inr}
 use Rattle.udp_wire.specs.Attempts.{Attempt}
 use Rattle.bridge_stats.specs.Stats.{StatsOf, HasNoted}
+use Rattle.std.specs.Bool.{MatchBool}
+use Rattle.bridge_stats.specs.declared.others.Limited.{Limited}
 use Rattle.bridge_stats.specs.Paths.{AreReported}
+use Rattle.front_rounds.specs.Counted.{all_pass}
 use Rattle.media_front.specs.Fronts.{Arrival, HasTaken}
 use Rattle.front_rounds.specs.Came.{datagram, other, nothing, came_by}
 use Rattle.front_rounds.specs.Turns.{TakesArrival, history, passed, took, lost}
@@ -145,9 +148,20 @@ returns-in_err-ask_first g c =
                 c.note.ensures.noted;
             reports =
                 subst (λ (s : StatsOf).
-                AreReported counted.outcome counted.from counted.moment arrival.octets s.reports
+                MatchBool (all_pass b.media.limited c.take_in.new.self.limited)
+                (AreReported arrival.desk counted.outcome counted.from counted.moment arrival.octets s.reports
                 c.note.new.self.reports)
-                (ap (λ s. s.stats) same) c.note.ensures.reports;
+                (c.note.new.self.reports ≡ s.reports))
+                (ap (λ s. s.stats) same)
+                (subst (λ (p : Bool).
+                MatchBool p
+                (AreReported arrival.desk counted.outcome counted.from counted.moment arrival.octets b.stats.reports
+                c.note.new.self.reports)
+                (c.note.new.self.reports ≡ b.stats.reports))
+                (c.all_pass-all_pass.ensures
+                ∙ (ap (λ (l : Limited). all_pass l c.limited-after.result) c.limited-before.ensures
+                ∙ ap (λ (l : Limited). all_pass b.media.limited l) c.limited-after.ensures))
+                c.note.ensures.reports);
           };
     } in
     let k = c.ask_first.ensures in (
@@ -208,9 +222,20 @@ returns g c =
                 c.note.ensures.noted;
             reports =
                 subst (λ (s : StatsOf).
-                AreReported counted.outcome counted.from counted.moment arrival.octets s.reports
+                MatchBool (all_pass b.media.limited c.take_in.new.self.limited)
+                (AreReported arrival.desk counted.outcome counted.from counted.moment arrival.octets s.reports
                 c.note.new.self.reports)
-                (ap (λ s. s.stats) same) c.note.ensures.reports;
+                (c.note.new.self.reports ≡ s.reports))
+                (ap (λ s. s.stats) same)
+                (subst (λ (p : Bool).
+                MatchBool p
+                (AreReported arrival.desk counted.outcome counted.from counted.moment arrival.octets b.stats.reports
+                c.note.new.self.reports)
+                (c.note.new.self.reports ≡ b.stats.reports))
+                (c.all_pass-all_pass.ensures
+                ∙ (ap (λ (l : Limited). all_pass l c.limited-after.result) c.limited-before.ensures
+                ∙ ap (λ (l : Limited). all_pass b.media.limited l) c.limited-after.ensures))
+                c.note.ensures.reports);
           };
     } in
     let k = c.ask_first.ensures in (

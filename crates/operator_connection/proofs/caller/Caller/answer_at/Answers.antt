@@ -2,7 +2,8 @@ use Rattle.std.proofs.Common.{Option, Some, Bool, ◌≡◌, sym, ap, subst, ◌
 use Rattle.std.specs.Bool.{MatchBool}
 use Rattle.operator_connection.specs.Connection.{CallerOf, connection, heeded_in, heeded_of}
 use Rattle.operator_connection.specs.Deeds.{AnswersHeeded, HasAnswered}
-use Rattle.operator_connection.specs.declared.heard.HeardLines.{HeardLines}
+use Rattle.operator_lines.specs.declared.feeding.Fed.{Fed}
+use Rattle.std.specs.declared.alloc.Global.{Global}
 use Rattle.operator_connection.proofs.caller.Caller.answer_at.Goals as goal
 
 pub returns-then-is_open : goal.returns-then-is_open
@@ -18,7 +19,7 @@ returns-then-is_open g c =
     subst (λ (v : CallerOf). HasAnswered replies shows c.args.now v.connection.heeded desk desk' v.connection new)
     c.self.view_is
     (subst
-    (λ (h : Option HeardLines).
+    (λ (h : Option (Fed Global)).
     HasAnswered replies shows c.args.now (heeded_of h) desk desk' (connection acts was.talk was.ready h) new)
     (sym (sym c.take.ensures.value ∙ c.in-Some.is))
     (record {

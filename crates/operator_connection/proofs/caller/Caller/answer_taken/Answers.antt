@@ -1,9 +1,8 @@
-use Rattle.std.proofs.Common.{ℕ, Bool, true, false, List, drop, inl, inr, refl, sym, ap, subst}
-use Rattle.std.proofs.lemmas.List.{drop-map}
+use Rattle.std.proofs.Common.{ℕ, Bool, true, false, List, inl, inr, refl, sym, ap, subst}
 use Rattle.operator_lines.specs.Fed.{texts}
 use Rattle.operator_connection.specs.Connection.{CallerOf, Connection, connection, heeded_in}
 use Rattle.operator_connection.specs.Deeds.{AnswersHeeded}
-use Rattle.operator_connection.specs.Talking.{AnswersAll, AnswersSome}
+use Rattle.operator_connection.specs.Talking.{AnswersAll}
 use Rattle.operator_connection.proofs.caller.Caller.answer_taken.Goals as goal
 
 pub returns-in-Ok-true-clause-said : goal.returns-in-Ok-true-clause-said
@@ -12,9 +11,9 @@ returns-in-Ok-true-clause-said g c =
     let shows = g.D.LineDesk.shows in
     let heard = c.args.heard in
     let desk = c.args.desk.now in
-    let desk' = c.answer_from-said.new.desk in
+    let desk' = c.answer_heard-said.new.desk in
     let was = c.self.inside in
-    let said = c.answer_from-said.new.self in
+    let said = c.answer_heard-said.new.self in
     let new = connection (g.L.CallerLine.acts was.line) c.note_stop.new.self was.ready was.heard in
     subst (λ (s : Connection). AnswersHeeded replies shows (heeded_in heard) desk desk' s new)
     (ap (λ (v : CallerOf). v.connection) c.self.view_is)
@@ -23,20 +22,14 @@ returns-in-Ok-true-clause-said g c =
       said.standing,
       subst
           (λ (o : List ℕ).
-          AnswersAll replies shows (drop heard.at (texts heard.fed.lines.items)) heard.fed.too_long desk desk'
+          AnswersAll replies shows (texts heard.lines.items) heard.too_long desk desk'
           was.talk.outgoing o said.standing true)
           (sym c.note_stop.ensures.outgoing)
           (subst
           (λ (b : Bool).
-          AnswersAll replies shows (drop heard.at (texts heard.fed.lines.items)) heard.fed.too_long desk desk'
+          AnswersAll replies shows (texts heard.lines.items) heard.too_long desk desk'
           was.talk.outgoing said.outgoing said.standing b)
-          c.in-Ok-true.field-0-test
-          (subst
-          (λ (ls : List (List ℕ)).
-          AnswersAll replies shows ls heard.fed.too_long desk desk' was.talk.outgoing said.outgoing said.standing
-          c.in-Ok-true.field-0)
-          (sym (drop-map (λ line. line.items) heard.at heard.fed.lines.items))
-          c.in-Ok-true.ensures.rest)),
+          c.in-Ok-true.field-0-test c.in-Ok-true.ensures.all),
       c.note_stop.ensures.standing,
     ))
 
@@ -46,9 +39,9 @@ returns-in-Ok-false-clause-said g c =
     let shows = g.D.LineDesk.shows in
     let heard = c.args.heard in
     let desk = c.args.desk.now in
-    let desk' = c.answer_from-said.new.desk in
+    let desk' = c.answer_heard-said.new.desk in
     let was = c.self.inside in
-    let said = c.answer_from-said.new.self in
+    let said = c.answer_heard-said.new.self in
     let new = connection (g.L.CallerLine.acts was.line) (record said { since = c.args.now }) was.ready was.heard in
     subst (λ (s : Connection). AnswersHeeded replies shows (heeded_in heard) desk desk' s new)
     (ap (λ (v : CallerOf). v.connection) c.self.view_is)
@@ -57,15 +50,9 @@ returns-in-Ok-false-clause-said g c =
       said.standing,
       subst
           (λ (b : Bool).
-          AnswersAll replies shows (drop heard.at (texts heard.fed.lines.items)) heard.fed.too_long desk desk'
+          AnswersAll replies shows (texts heard.lines.items) heard.too_long desk desk'
           was.talk.outgoing said.outgoing said.standing b)
-          c.in-Ok-false.field-0-test
-          (subst
-          (λ (ls : List (List ℕ)).
-          AnswersAll replies shows ls heard.fed.too_long desk desk' was.talk.outgoing said.outgoing said.standing
-          c.in-Ok-false.field-0)
-          (sym (drop-map (λ line. line.items) heard.at heard.fed.lines.items))
-          c.in-Ok-false.ensures.rest),
+          c.in-Ok-false.field-0-test c.in-Ok-false.ensures.all,
       refl,
     ))
 
@@ -73,18 +60,11 @@ pub returns-clause-said : goal.returns-clause-said
 returns-clause-said g c =
     let heard = c.args.heard in
     let was = c.self.inside in
-    let said = c.answer_from-said.new.self in
+    let said = c.answer_heard-said.new.self in
     let new = connection (g.L.CallerLine.acts was.line) (record said { since = c.args.now }) was.ready was.heard in
     subst
     (λ (s : Connection).
-    AnswersHeeded g.D.LineDesk.replies g.D.LineDesk.shows (heeded_in heard) c.args.desk.now c.answer_from-said.new.desk
+    AnswersHeeded g.D.LineDesk.replies g.D.LineDesk.shows (heeded_in heard) c.args.desk.now c.answer_heard-said.new.desk
     s new)
     (ap (λ (v : CallerOf). v.connection) c.self.view_is)
-    (inr (
-      subst
-          (λ (ls : List (List ℕ)).
-          AnswersSome g.D.LineDesk.replies g.D.LineDesk.shows ls c.args.desk.now was.talk.outgoing said.outgoing)
-          (sym (drop-map (λ line. line.items) heard.at heard.fed.lines.items))
-          c.in-Err.ensures.broke,
-      c.in-Err.ensures.lost,
-    ))
+    (inr (c.in-Err.ensures.broke, c.in-Err.ensures.lost))

@@ -37,11 +37,13 @@ returns-in-Stopped g c =
             greets =
                 subst
                 (λ (o : List ℕ).
-                GreetsAll lines c.in-Ok.field-0.fed.too_long was.talk.outgoing o said.standing greeted.Stopped)
+                GreetsAll lines c.in-Ok.field-0.fed.too_long greeted.Stopped was.talk.outgoing o was.talk.standing
+                said.standing)
                 (sym stop.outgoing)
                 (subst
                 (λ (how : Greeted).
-                GreetsAll lines c.in-Ok.field-0.fed.too_long was.talk.outgoing said.outgoing said.standing how)
+                GreetsAll lines c.in-Ok.field-0.fed.too_long how was.talk.outgoing said.outgoing was.talk.standing
+                said.standing)
                 c.in-Stopped.is heard.heard);
             after = stop.standing;
             heeded = refl;

@@ -8,19 +8,23 @@ use Rattle.operator_connection.proofs.talking.Talk.hear_without_seat.Goals as go
 pub returns-in-Ok-or_lost-clause-heard : goal.returns-in-Ok-or_lost-clause-heard
 returns-in-Ok-or_lost-clause-heard c =
     let before = c.args.self.now.outgoing in
+    let from = c.args.self.now.standing in
     let said = c.greet_all-said.new.self in
     let is_too_long = c.in-Ok.fed.too_long in
     let greeted = c.in-Ok-or_lost.greeted in
     let same = c.in-Ok-or_lost.ensures.ok in
-    let all : GreetsAll (texts c.deref.result.now) is_too_long before said.outgoing said.standing greeted =
+    let all : GreetsAll (texts c.deref.result.now) is_too_long greeted before said.outgoing from said.standing =
     subst (λ r.
-    IfOk r (λ (g : Greeted). GreetsAll (texts c.deref.result.now) is_too_long before said.outgoing said.standing g))
+    IfOk r (λ (g : Greeted).
+    GreetsAll (texts c.deref.result.now) is_too_long g before said.outgoing from said.standing))
     (sym c.or_lost.ensures.same ∙ c.in-Ok-or_lost.is) c.greet_all-said.ensures.all in
     subst
     (λ (st : Standing).
-    GreetsAll (texts c.in-Ok.fed.lines.items) is_too_long before c.or_lost.new.self.outgoing st greeted)
+    GreetsAll (texts c.in-Ok.fed.lines.items) is_too_long greeted before c.or_lost.new.self.outgoing from st)
     (sym (ap (λ t. t.standing) same))
-    (subst (λ (o : List ℕ). GreetsAll (texts c.in-Ok.fed.lines.items) is_too_long before o said.standing greeted)
+    (subst
+    (λ (o : List ℕ).
+    GreetsAll (texts c.in-Ok.fed.lines.items) is_too_long greeted before o from said.standing)
     (sym (ap (λ t. t.outgoing) same))
-    (subst (λ ls. GreetsAll (texts ls) is_too_long before said.outgoing said.standing greeted) c.deref.ensures.value
-    all))
+    (subst (λ ls. GreetsAll (texts ls) is_too_long greeted before said.outgoing from said.standing)
+    c.deref.ensures.value all))
