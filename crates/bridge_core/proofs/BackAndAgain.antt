@@ -14,8 +14,8 @@ use Rattle.desk_calls.specs.Desk.{Does, DoesEdit, UndoesEdit, RedoesEdit}
 use Rattle.desk_edit.specs.Asked.{CallOf as Call}
 use Rattle.desk_edit.specs.Asked.CallOf.{Apply, Group, Undo, Redo}
 use Rattle.desk_edit.specs.Calls.{call_limit, refusal_at}
-use Rattle.bridge_core.specs.declared.reply.Reply.{Reply}
-use Rattle.bridge_core.specs.declared.reply.Reply.TheVariants.{Accepted, Refused}
+use Rattle.desk_calls.specs.declared.reply.Reply.{Reply}
+use Rattle.desk_calls.specs.declared.reply.Reply.TheVariants.{Accepted, Refused}
 use Rattle.bridge_core.specs.Steps.{CoreOf, core_desk}
 use Rattle.bridge_core.specs.Calls.{Answers}
 use Rattle.bridge_core.specs.UndoRuns.{AnswersAll, HasCommands, AcceptsAll, UndoesInARow, RedoesInARow, IsAsWas, undos}

@@ -8,7 +8,7 @@ use Rattle.desk_calls.specs.Desk.{DeskOf, call_refused, Does, IsReason, IsReady}
 use Rattle.desk_calls.specs.Following.{HasCalled as DeskHasCalled, IsTold}
 use Rattle.desk_calls.specs.declared.prepared.Prepared.{Prepared}
 use Rattle.intake.specs.inner.Holding.{IntakeOf}
-use Rattle.bridge_core.specs.declared.reply.Reply.TheVariants.{Accepted, Refused}
+use Rattle.desk_calls.specs.declared.reply.Reply.TheVariants.{Accepted, Refused}
 use Rattle.bridge_core.specs.LaneState.{LaneOf}
 use Rattle.bridge_core.specs.Steps.{CoreOf}
 use Rattle.bridge_core.specs.Calls.{Answers}

@@ -3,7 +3,7 @@ use Rattle.std.specs.Prelude.{◌≡◌, ℕ, true, List, [], ◌∷◌, length}
 use Rattle.desk_rows.specs.Desk.{good}
 use Rattle.desk_edit.specs.Asked.{CallOf as Call}
 use Rattle.desk_edit.specs.Calls.{CallHistory, desk_now, after_call}
-use Rattle.bridge_core.specs.declared.reply.Reply.TheVariants.{Accepted}
+use Rattle.desk_calls.specs.declared.reply.Reply.TheVariants.{Accepted}
 use Rattle.media_items.specs.Inputs.{Input}
 use Rattle.bridge_core.specs.Sent.{Sent}
 use Rattle.bridge_core.specs.Steps.{Step, CoreOf, Takes}

@@ -19,8 +19,7 @@ ghost use Rattle.bridge_core.specs.Calls.{core_fault, most_lanes, Answers, OnAcc
 use crate::egress::Egress;
 use crate::fault::{CoreFault, LaneFault};
 use crate::lane::{LANES, LaneState};
-use crate::reply::Reply;
-use desk_calls::Desk;
+use desk_calls::{Desk, Reply};
 use desk_edit::Call;
 use desk_rows::Rows;
 use intake::{Ingest, Intake, Settings, WaitAnswer};

@@ -23,7 +23,7 @@ ghost use Rattle.media_items.specs.Inputs.{Input, Request, Told, Loss};
 ghost use Rattle.bridge_core.specs.Sent.{Sent};
 ghost use Rattle.bridge_core.specs.Lanes.{packets, goes, routed_to, given_of, sends_at};
 ghost use Rattle.bridge_core.specs.Steps.{Step, sends, sent_at, visits, visit_after, desk_of, CoreOf, HasTaken};
-ghost use Rattle.bridge_core.specs.declared.reply.Reply.{Reply};
+ghost use Rattle.desk_calls.specs.declared.reply.Reply.{Reply};
 ghost use Rattle.bridge_core.specs.Following.{HasCalled};
 ghost use Rattle.bridge_core.specs.UndoRuns.{AcceptsAll, UndoesInARow, RedoesInARow, IsAsWas, all_accepted};
 ghost use Rattle.bridge_core.specs.Runs.{Runs};

@@ -28,7 +28,6 @@ mod lane;
 mod laws;
 mod parts;
 mod preparing;
-mod reply;
 mod reporting;
 mod video;
 mod visit;
@@ -44,7 +43,6 @@ pub use self::laws::{
     reports_count_first_sendings, resends_lead_back, streams_are_routed_lists, streams_have_no_gap,
     the_headline, undos_and_redos_are_accepted, undos_are_redone,
 };
-pub use self::reply::Reply;
 pub use feedback::LossNote;
 pub use frame_gate::{Frame, FrameFault, FramePacket};
 pub use intake::{Ingest, Intake, Outcome, Settings, WaitAnswer};

@@ -1,8 +1,8 @@
 //! The desk as operators call it: its rows, the edits that are done and undone, and how many calls were accepted.
 //!
 //! Begin with [`Desk::new`]. [`Desk::prepare`] judges a call and takes all its memory. [`Desk::commit`] then carries it
-//! out without memory. In between, a shared desk publishes what [`Desk::edit_of`] returns. A contract sees a desk as
-//! its version, its rows, and its lists of edits done and undone.
+//! out without memory. In between, a shared desk publishes what [`Desk::edit_of`] returns. What an operator is answered
+//! is a [`Reply`]. A contract sees a desk as its version, its rows, and its lists of edits done and undone.
 //!
 //! ```rust
 //! let mut desk = Desk::new(alloc, Rows::new(alloc, 1)?); // for a bridge of SSRC 1
@@ -18,7 +18,9 @@ mod desk;
 mod judging;
 mod laws;
 mod prepared;
+mod reply;
 
 pub use self::desk::Desk;
 pub use self::laws::{accepted_calls_are_legal, edits_lead_back};
 pub use self::prepared::Prepared;
+pub use self::reply::Reply;

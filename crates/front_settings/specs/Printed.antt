@@ -1,6 +1,6 @@
 -- How a bridge prints where it listens (own).
 use Rattle.std.specs.Prelude.{ℕ, List, ◌++◌, codes}
-use Rattle.script_text.specs.Addresses.{address_text}
+use Rattle.desk_text.specs.Addresses.{address_text}
 use Rattle.front_settings.specs.declared.listening.Listening.{Listening}
 
 -- where a bridge listens, as it is printed

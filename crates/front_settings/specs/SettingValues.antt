@@ -6,8 +6,8 @@ use Rattle.std.specs.Option.{option_and_then, option_map}
 use Rattle.toml.specs.Data.{Data, integer, as_str}
 use Rattle.rtp_codec.specs.declared.address.Address.{Address}
 use Rattle.intake.specs.Names.{is_name}
-use Rattle.script_text.specs.Addresses.{address_of}
-use Rattle.script_text.specs.Requests.{is_printable}
+use Rattle.desk_text.specs.Addresses.{address_of}
+use Rattle.desk_text.specs.Lines.{is_printable}
 
 -- the address that a text spells
 abbrev pub address_in : Data → Option Address

@@ -18,7 +18,7 @@ struct Shown(Address);
 
 impl fmt::Display for Shown {
     ghost use Rattle.std.specs.Prelude.{Some};
-    ghost use Rattle.script_text.specs.Addresses.{address_text};
+    ghost use Rattle.desk_text.specs.Addresses.{address_text};
 
     ghost output = { λ shown. Some (address_text shown.0) };
 

@@ -5,7 +5,7 @@ ghost use Rattle.std.specs.List.{list_all};
 ghost use Rattle.std.specs.Option.{option_map};
 ghost use Rattle.toml.specs.Data.{get_member};
 ghost use Rattle.toml.specs.View.{view, table_view};
-ghost use Rattle.script_text.specs.Requests.{is_printable};
+ghost use Rattle.desk_text.specs.Lines.{is_printable};
 ghost use Rattle.front_settings.specs.SettingValues.{address_in, loopback_in, number_in};
 ghost use Rattle.front_settings.specs.SettingValues.{is_cname, cname_in, is_word, trace_in};
 ghost use Rattle.front_settings.specs.Settings.{key_text, needed, given, is_known, unknown_in};
@@ -13,8 +13,8 @@ ghost use Rattle.front_settings.specs.SettingsTold.{Gives};
 
 use crate::fault::SettingsFault;
 use crate::setup::SettingKey;
+use desk_text::parse_address;
 use rtp_codec::Address;
-use script_text::parse_address;
 use toml::{Table, Value};
 
 /// The fewest seats of a bridge that is traced: one of them is the trace's.

@@ -9,8 +9,8 @@ use Rattle.desk_edit.specs.Asked.CallOf.{Apply, Group, Undo, Redo}
 use Rattle.desk_edit.specs.declared.refusal.Refusal.{Refusal}
 use Rattle.desk_edit.specs.declared.refusal.Refusal.TheVariants.{OutOfMemory}
 use Rattle.desk_edit.specs.Calls.{no_calls, desk_now, refusal_of, after_call as history_after}
-use Rattle.bridge_core.specs.declared.reply.Reply.{Reply}
-use Rattle.bridge_core.specs.declared.reply.Reply.TheVariants.{Accepted, Refused}
+use Rattle.desk_calls.specs.declared.reply.Reply.{Reply}
+use Rattle.desk_calls.specs.declared.reply.Reply.TheVariants.{Accepted, Refused}
 use Rattle.upward.specs.Upstream.{Asker}
 use Rattle.media_items.specs.Inputs.{Input, is_sized}
 use Rattle.media_items.specs.Inputs.Input.{report}
@@ -31,11 +31,12 @@ use Rattle.intake.specs.Taking.{taken_in}
 use Rattle.intake.specs.Waiting.{waited_for}
 use Rattle.intake.specs.Intakes.{Knows, TakesIn, WaitsFor, TellsSenders}
 use Rattle.intake.specs.Reported.{reported}
+use Rattle.desk_text.specs.Text.{reply_text}
+use Rattle.desk_text.specs.RowLines.{show_text}
 use Rattle.script_text.specs.Decodings.{Decoding, voice_of}
 use Rattle.script_text.specs.Requests.{Desk as DeskRequest, Rx, Wait, Report, Show}
 use Rattle.script_text.specs.Datagrams.{outcome_text, up_text}
-use Rattle.script_text.specs.Text.{reply_text, sent_text}
-use Rattle.script_text.specs.RowLines.{show_text}
+use Rattle.script_text.specs.SentLines.{sent_text}
 use Rattle.script_text.specs.Bridge.{answer_call, Bridge, first_desk, answer_text, bridge_after, text_of, begun_bridge}
 use Rattle.script_text.specs.Bridge.{item_sent, after_item, items_sent, items_text, after_items, knowing, taken_at}
 use Rattle.script_text.specs.Bridge.{waited_at, origin_at, reported_at}

@@ -9,16 +9,16 @@ use Rattle.std.proofs.lemmas.Slice.Eq.{bytes_eq-Decides}
 use Rattle.std.proofs.lemmas.List.Splits.{join_with_byte-slice_split}
 use Rattle.upward.specs.Upstream.{Asker}
 use Rattle.intake.specs.Names.{is_name}
-use Rattle.script_text.specs.declared.fault.Fault.{Fault}
-use Rattle.script_text.specs.declared.fault.Fault.TheVariants.{UnknownWord, BadNumber}
-use Rattle.script_text.specs.Numbers.{decimal_of}
-use Rattle.script_text.specs.Words.{words_of, word_at, none_left, value_or, Lacks}
+use Rattle.desk_text.specs.declared.fault.Fault.{Fault}
+use Rattle.desk_text.specs.declared.fault.Fault.TheVariants.{UnknownWord, BadNumber}
+use Rattle.desk_text.specs.Numbers.{decimal_of}
+use Rattle.desk_text.specs.Words.{words_of, word_at, none_left, value_or, Lacks}
+use Rattle.desk_text.proofs.NumberLemmas.{spelled, read}
+use Rattle.desk_text.proofs.Joined.{AllFree, all_free, free_test, free_number, parts_joined, parts_lack}
+use Rattle.desk_text.proofs.ValueLaws.{bind_ok, word_back, or_back}
 use Rattle.script_text.specs.Requests.{Request, Begin}
 use Rattle.script_text.specs.FirstLine.{bridge_word, renew_word, asker_of, renew_alone, renews_of, bridge_of}
 use Rattle.script_text.specs.FirstLine.{first_request, request_at, renew_words, bridge_words, bridge_line, IsNamed}
-use Rattle.script_text.proofs.NumberLemmas.{spelled, read}
-use Rattle.script_text.proofs.Joined.{AllFree, all_free, free_test, free_number, parts_joined, parts_lack}
-use Rattle.script_text.proofs.ValueLaws.{bind_ok, word_back, or_back}
 use Rattle.script_text.proofs.FirstLineLemmas.{later_words_never_begin, later_never_begins}
 
 -- ---- what is written is read

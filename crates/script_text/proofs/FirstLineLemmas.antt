@@ -9,24 +9,24 @@ use Rattle.frame_gate.specs.declared.frame.FrameFault.{FrameFault}
 use Rattle.frame_gate.specs.Frame.{fault_of}
 use Rattle.media_items.specs.Frame.{SourceFrame}
 use Rattle.upward.specs.Upstream.{Asker}
-use Rattle.script_text.specs.declared.fault.Fault.{Fault}
-use Rattle.script_text.specs.declared.fault.Fault.TheVariants.{LineTooLong, BadByte, UnknownWord, BadNumber}
-use Rattle.script_text.specs.declared.value.Value.{Value}
+use Rattle.desk_text.specs.declared.fault.Fault.{Fault}
+use Rattle.desk_text.specs.declared.fault.Fault.TheVariants.{LineTooLong, BadByte, UnknownWord, BadNumber}
+use Rattle.desk_text.specs.declared.value.Value.{Value}
+use Rattle.desk_text.specs.Lines.{limit_of, is_printable}
+use Rattle.desk_text.specs.Numbers.{decimal_of}
+use Rattle.desk_text.specs.Words.{◌>>=◌, words_of, word_at, none_left, value_or}
+use Rattle.desk_text.specs.Values.{values_of, number_at, address_at}
+use Rattle.desk_text.specs.Calls.{call_of}
+use Rattle.desk_text.proofs.ValueLaws.{bind_ok}
 use Rattle.script_text.specs.declared.name.LineKind.{LineKind}
 use Rattle.script_text.specs.declared.name.LineKind.TheVariants as kinds
-use Rattle.script_text.specs.Lines.{limit_of}
-use Rattle.script_text.specs.Numbers.{decimal_of}
-use Rattle.script_text.specs.Words.{◌>>=◌, words_of, word_at, none_left, value_or}
-use Rattle.script_text.specs.Values.{values_of, number_at, address_at}
-use Rattle.script_text.specs.Calls.{call_of}
 use Rattle.script_text.specs.Requests.{Request, Nothing, Begin, Desk, Item, Rx, Wait, Report, Show, line_kind_of}
 use Rattle.script_text.specs.Requests.{front_of, some_packets, sighted, framed, frame_of, some_octets, rx_of}
-use Rattle.script_text.specs.Requests.{request_with, words_request, is_printable, line_request}
+use Rattle.script_text.specs.Requests.{request_with, words_request, line_request}
 use Rattle.script_text.specs.ItemLines.{later_request, request_of}
 use Rattle.script_text.specs.FirstLine.{bridge_word, asker_of, renews_of, bridge_of, first_request, words_request_at}
 use Rattle.script_text.specs.FirstLine.{request_at}
 use Rattle.script_text.specs.Decodings.{Decoding, DecodesRequest}
-use Rattle.script_text.proofs.ValueLaws.{bind_ok}
 use Rattle.script_text.proofs.ItemLemmas.{not_item}
 
 -- what is read of a line that is too long, has a bad octet, or asks for nothing

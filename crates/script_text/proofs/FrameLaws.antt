@@ -11,25 +11,25 @@ use Rattle.frame_gate.specs.Frame.{SourcePacket, fault_of}
 use Rattle.media_items.specs.Frame.{SourceFrame}
 use Rattle.media_items.specs.Inputs.{Input}
 use Rattle.media_items.specs.Inputs.Input.{frame}
-use Rattle.script_text.specs.declared.fault.Fault.{Fault}
-use Rattle.script_text.specs.declared.fault.Fault.TheVariants.{UnknownWord}
-use Rattle.script_text.specs.declared.value.Value.{Value}
+use Rattle.desk_text.specs.declared.fault.Fault.{Fault}
+use Rattle.desk_text.specs.declared.fault.Fault.TheVariants.{UnknownWord}
+use Rattle.desk_text.specs.declared.value.Value.{Value}
+use Rattle.desk_text.specs.Words.{words_of, word_at, none_left, value_or}
+use Rattle.desk_text.specs.Numbers.{FitsExt}
+use Rattle.desk_text.specs.Values.{field_of, value_text, AllFit, values_of}
+use Rattle.desk_text.specs.Calls.{call_of}
+use Rattle.desk_text.proofs.Joined.{Free, AllFree, free_test, free_append, free_number, parts_joined}
+use Rattle.desk_text.proofs.ValueLaws.{found_text, free_values, bind_ok, word_back, or_back, values_back, values_again}
+use Rattle.desk_text.proofs.CommandLaws.{read_from, with_field, read_all}
 use Rattle.script_text.specs.declared.name.LineKind.{LineKind}
 use Rattle.script_text.specs.declared.name.LineKind.TheVariants as kinds
-use Rattle.script_text.specs.Words.{words_of, word_at, none_left, value_or}
-use Rattle.script_text.specs.Numbers.{FitsExt}
-use Rattle.script_text.specs.Values.{field_of, value_text, AllFit, values_of}
 use Rattle.script_text.specs.Packets.{marker_text, packet_text, packet_of, source_packets_of, IsReadable, AllReadable}
 use Rattle.script_text.specs.Packets.{SpellPackets}
-use Rattle.script_text.specs.Calls.{call_of}
 use Rattle.script_text.specs.Requests.{Request, Item, kind_text, line_kind_of, line_kinds, front_of, some_packets}
 use Rattle.script_text.specs.Requests.{some_octets, rx_of, sighted, framed, frame_of, request_with, words_request}
 use Rattle.script_text.specs.Requests.{front_values, frame_words, frame_line, IsFrame}
-use Rattle.script_text.proofs.Joined.{Free, AllFree, free_test, free_append, free_number, parts_joined}
-use Rattle.script_text.proofs.ValueLaws.{found_text, free_values, bind_ok, word_back, or_back, values_back}
-use Rattle.script_text.proofs.ValueLaws.{values_again}
 use Rattle.script_text.proofs.PacketLaws.{packet_read, packet_spelled}
-use Rattle.script_text.proofs.CommandLaws.{kind_free, read_from, with_field, read_all}
+use Rattle.script_text.proofs.KindLaws.{kind_free}
 
 -- ---- no space in a packet's word
 

@@ -24,9 +24,9 @@ use Rattle.bridge_core.specs.Headline.{IsGood, AreGood}
 use Rattle.media_items.specs.Inputs.{Input}
 use Rattle.media_items.specs.Inputs.Input.{report, renew}
 use Rattle.upward.specs.Upstream.{Asker}
+use Rattle.desk_text.specs.Lines.{lines_of}
 use Rattle.script_text.specs.Requests.{Request, Nothing, Begin, Desk, Item, Rx, Wait, Report, Show}
 use Rattle.script_text.specs.Decodings.{Decoding, script_asker}
-use Rattle.script_text.specs.Lines.{lines_of}
 use Rattle.script_text.specs.Bridge.{Bridge, first_desk, begun_bridge, opening_bridge, answer_begin, answer_call}
 use Rattle.script_text.specs.Bridge.{after_item, after_items, knowing, taken_at, waited_at, origin_at, reported_at}
 use Rattle.script_text.specs.Bridge.{bridge_after}

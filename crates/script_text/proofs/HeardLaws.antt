@@ -10,14 +10,12 @@ use Rattle.rtp_codec.specs.declared.address.Address.{Address}
 use Rattle.upward.specs.Upstream.{Asker}
 use Rattle.intake.specs.Readings.{Reading, too_long, IsReading}
 use Rattle.intake.specs.Taking.{Voice, IsVoice}
-use Rattle.script_text.specs.declared.fault.Fault.{Fault}
-use Rattle.script_text.specs.Lines.{limit_of}
-use Rattle.script_text.specs.Words.{words_of}
-use Rattle.script_text.specs.Requests.{Request, Nothing, Begin, Desk, Item, Rx, Wait, Report, Show, is_printable}
-use Rattle.script_text.specs.Requests.{line_request}
+use Rattle.desk_text.specs.declared.fault.Fault.{Fault}
+use Rattle.desk_text.specs.Lines.{limit_of, is_printable, lines_of}
+use Rattle.desk_text.specs.Words.{words_of}
+use Rattle.script_text.specs.Requests.{Request, Nothing, Begin, Desk, Item, Rx, Wait, Report, Show, line_request}
 use Rattle.script_text.specs.ItemLines.{later_request, request_of}
 use Rattle.script_text.specs.Decodings.{Decoding, script_asker, IsDecoded, DecodesRequest, DecodesLines, InEachDecoding}
-use Rattle.script_text.specs.Lines.{lines_of}
 use Rattle.script_text.proofs.FirstLineLemmas.{read_by}
 use Rattle.script_text.proofs.RxLaws.{rx_back}
 use Rattle.script_text.proofs.ItemLemmas.{not_item}

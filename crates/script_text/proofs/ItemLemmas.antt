@@ -11,16 +11,16 @@ use Rattle.rtp_codec.specs.declared.address.Address.{Address}
 use Rattle.media_items.specs.Frame.{SourceFrame}
 use Rattle.media_items.specs.Inputs.{Input}
 use Rattle.upward.specs.Upstream.{Asker}
-use Rattle.script_text.specs.declared.fault.Fault.{Fault}
-use Rattle.script_text.specs.declared.fault.Fault.TheVariants.{UnknownWord, BadNumber}
-use Rattle.script_text.specs.declared.value.Value.{Value}
-use Rattle.script_text.specs.declared.value.Field.TheVariants as fields
+use Rattle.desk_text.specs.declared.fault.Fault.{Fault}
+use Rattle.desk_text.specs.declared.fault.Fault.TheVariants.{UnknownWord, BadNumber}
+use Rattle.desk_text.specs.declared.value.Value.{Value}
+use Rattle.desk_text.specs.declared.value.Field.TheVariants as fields
+use Rattle.desk_text.specs.Lines.{limit_of}
+use Rattle.desk_text.specs.Words.{◌>>=◌, words_of, word_at, none_left, value_or}
+use Rattle.desk_text.specs.Numbers.{decimal_of}
+use Rattle.desk_text.specs.Values.{values_of, number_at, address_at}
 use Rattle.script_text.specs.declared.name.ItemKind.{ItemKind}
 use Rattle.script_text.specs.declared.name.ItemKind.TheVariants as kinds
-use Rattle.script_text.specs.Lines.{limit_of}
-use Rattle.script_text.specs.Words.{◌>>=◌, words_of, word_at, none_left, value_or}
-use Rattle.script_text.specs.Numbers.{decimal_of}
-use Rattle.script_text.specs.Values.{values_of, number_at, address_at}
 use Rattle.script_text.specs.Requests.{Request, Nothing, Begin, Desk, Item, Rx, Wait, Report, Show, some_packets}
 use Rattle.script_text.specs.Requests.{sighted, framed, frame_of, words_request}
 use Rattle.script_text.specs.ItemLines.{item_word, item_kind_of, item_front_of, clock_of, samples_at, spelt_sound}

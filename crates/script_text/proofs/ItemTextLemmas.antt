@@ -7,12 +7,13 @@ use Rattle.hex.specs.Hex.{encode_lower}
 use Rattle.frame_gate.specs.Frame.{SourcePacket}
 use Rattle.media_items.specs.Frame.{SourceFrame}
 use Rattle.media_items.specs.Inputs.Input.{frame}
-use Rattle.script_text.specs.Values.{value_text}
+use Rattle.desk_text.specs.Values.{value_text}
+use Rattle.desk_text.specs.Text.{Word, fixed, value, word_text, line_text}
+use Rattle.desk_text.specs.Shown.{slashed}
 use Rattle.script_text.specs.Packets.{marker_text, packet_text}
 use Rattle.script_text.specs.Requests.{front_values}
 use Rattle.script_text.specs.ItemLines.{item_text}
-use Rattle.script_text.specs.Text.{Word, fixed, value, word_text, line_text}
-use Rattle.script_text.specs.inner.Shown.{slashed, packet_word}
+use Rattle.script_text.specs.inner.Shown.{packet_word}
 
 flat : (a b c d e f g : List ℕ)
     → a ++ b ++ c ++ d ++ e ++ f ++ g ≡ a ++ (b ++ (c ++ (d ++ (e ++ (f ++ g)))))

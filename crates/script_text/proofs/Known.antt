@@ -1,10 +1,10 @@
 -- What is known of a writer's octets, step by step.
-use Rattle.std.proofs.lemmas.Grind.{common_steps}
 use Rattle.std.proofs.Math.Seq.{take-add}
 use Rattle.std.proofs.Common.{◌≡◌, ℕ, zero, suc, ◌+◌, ◌-◌, ◌<◌, List, [], ◌∷◌, ◌++◌, length, take, drop, Option, Some}
 use Rattle.std.proofs.Common.{None, refl, sym, ap, ◌∙◌, subst, append_assoc, arith}
 use Rattle.std.specs.Io.KnownBytes.{Appends, Keeps}
 use Rattle.std.proofs.lemmas.List.{append-nil}
+use Rattle.desk_text.proofs.PartLemmas.{tail_is}
 use Rattle.script_text.specs.Output.{IsCutOf}
 
 pub Appends-none : (a : Option (List ℕ)) → Appends a a []
@@ -28,10 +28,6 @@ Appends-same a b x y e h = subst (λ (t : List ℕ). Appends a b t) e h
 pub Appends-then_keeps : (a b c : Option (List ℕ)) (x : List ℕ) → Appends a b x → Keeps b c → Appends a c x
 Appends-then_keeps a b c x h k =
     Appends-same a c (x ++ []) x (append-nil x) (Appends-then a b c x [] h (Appends-keeps b c k))
-
--- the value of `&xs[i..]`
-pub tail_is : (i : ℕ) (xs : List ℕ) → take (length xs - i) (drop i xs) ≡ drop i xs
-tail_is i xs = grind (arith, common_steps)
 
 -- a front went out, and then n more
 pub Appends-more : (a b c : Option (List ℕ)) (xs : List ℕ) (i n : ℕ) → Appends a b (take i xs)

@@ -1,9 +1,5 @@
-pub mod Cuts
-pub mod PartLemmas
-pub mod GroupLemmas
-pub mod ValueSteps
-pub mod RateLemmas
-pub mod NumberLemmas
+pub mod KindLaws
+pub mod DeskLaws
 pub mod PacketLemmas
 pub mod Known
 pub mod PairLemmas
@@ -11,13 +7,6 @@ pub mod ItemLemmas
 pub mod FirstLineLemmas
 pub mod StepLemmas
 pub mod RunLemmas
-pub mod AddressLemmas
-pub mod Joined
-pub mod ValueLaws
-pub mod CommandLaws
-pub mod GroupLaws
-pub mod CallLaws
-pub mod ExtLemmas
 pub mod PacketLaws
 pub mod FrameLaws
 pub mod RxLaws
@@ -27,9 +16,6 @@ pub mod ReportLaws
 pub mod GoodDesks
 pub mod BridgeLemmas
 pub mod ScriptLaws
-pub mod JudgedLaws
 pub mod HeardLaws
 pub mod FirstLineLaws
-pub mod GrowLemmas
-pub mod RowLemmas
 pub mod ItemTextLemmas

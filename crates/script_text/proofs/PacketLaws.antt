@@ -15,16 +15,16 @@ use Rattle.hex.specs.declared.error.FromHexError.{FromHexError}
 use Rattle.hex.specs.Hex.{◌>>=◌, IsBytes, encode_lower, encode_with, lower_digits, decode_of, decode_pairs, pair_value}
 use Rattle.hex.specs.Hex.{value_at, digit_or_error, hex_digit_value}
 use Rattle.hex.proofs.HexLemmas.{decode_of-encode_lower, decode_of-even, decode_of-ok}
-use Rattle.script_text.specs.declared.fault.Fault.TheVariants.{BadNumber}
-use Rattle.script_text.specs.Words.{value_or}
+use Rattle.desk_text.specs.declared.fault.Fault.TheVariants.{BadNumber}
+use Rattle.desk_text.specs.Words.{value_or}
 use Rattle.frame_gate.specs.Frame.{SourcePacket}
-use Rattle.script_text.specs.Numbers.{FitsExt, decimal_of, ext_of}
+use Rattle.desk_text.specs.Numbers.{FitsExt, decimal_of, ext_of}
+use Rattle.desk_text.proofs.NumberLemmas.{read, spelled}
+use Rattle.desk_text.proofs.AddressLemmas.{digits_free}
+use Rattle.desk_text.proofs.ExtLemmas.{ext_read, ext_spelled}
+use Rattle.desk_text.proofs.ValueLaws.{bind_ok, or_back}
 use Rattle.script_text.specs.Packets.{packet_from, packet_of, packet_of_parts, packet_text, marker_text, octets_or}
 use Rattle.script_text.specs.Packets.{SpellsHex, SpellsPacket, IsReadable}
-use Rattle.script_text.proofs.NumberLemmas.{read, spelled}
-use Rattle.script_text.proofs.AddressLemmas.{digits_free}
-use Rattle.script_text.proofs.ExtLemmas.{ext_read, ext_spelled}
-use Rattle.script_text.proofs.ValueLaws.{bind_ok, or_back}
 
 -- no octet of this text is a stroke
 abbrev pub StrokeFree : List ℕ → Type 0

@@ -3,14 +3,13 @@ use Rattle.std.proofs.Common.{◌≡◌, ℕ, ◌+◌, List, [], ◌∷◌, ◌+
 use Rattle.std.proofs.Common.{append_assoc}
 use Rattle.std.proofs.lemmas.List.{append-nil}
 use Rattle.frame_gate.specs.Frame.{SourcePacket}
-use Rattle.script_text.specs.declared.fault.Fault.{Fault}
-use Rattle.script_text.specs.declared.fault.ParseFault.{ParseFault}
-use Rattle.script_text.specs.declared.fault.ParseFault.TheVariants as errors
+use Rattle.desk_text.specs.declared.fault.Fault.{Fault}
+use Rattle.desk_text.specs.declared.fault.ParseFault.{ParseFault}
+use Rattle.desk_text.specs.declared.fault.ParseFault.TheVariants as errors
 use Rattle.std.specs.Borrow.{Bor}
-use Rattle.script_text.specs.Words.{◌>>=◌, Fails}
-use Rattle.script_text.specs.inner.Cursor.{words_in}
+use Rattle.desk_text.specs.Words.{◌>>=◌, Fails, words_in}
+use Rattle.desk_text.proofs.Cuts.{parts_some}
 use Rattle.script_text.specs.Requests.{some_packets}
-use Rattle.script_text.proofs.Cuts.{parts_some}
 use Rattle.script_text.specs.Packets.{packet_of, source_packets_of}
 
 -- these packets, and then those that were read

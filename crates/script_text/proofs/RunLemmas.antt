@@ -4,10 +4,10 @@ use Rattle.std.proofs.Common.{subst, append_assoc}
 use Rattle.std.specs.Prelude.{IfSome}
 use Rattle.std.specs.Io.KnownBytes.{Appends, Consumes, IsAtEnd}
 use Rattle.std.proofs.lemmas.List.{append-nil}
+use Rattle.desk_text.specs.Lines.{lines_of, whole, ended}
 use Rattle.script_text.specs.declared.fault.RunFault.{RunFault}
 use Rattle.script_text.specs.declared.fault.RunFault.TheVariants as errors
 use Rattle.script_text.specs.Decodings.{Decoding, DecodesLines}
-use Rattle.script_text.specs.Lines.{lines_of, whole, ended}
 use Rattle.script_text.specs.Output.{RunOutput, nothing, told, stopped, outcome_of, output_of, ended_output_of, RunEnds}
 use Rattle.script_text.specs.Bridge.{Bridge, opening_bridge}
 use Rattle.script_text.specs.inner.Steps.{Stands}

@@ -7,16 +7,16 @@ use Rattle.desk_edit.specs.declared.refusal.Refusal.{Refusal}
 use Rattle.desk_edit.specs.Calls.{CallHistory, refusal_of, after_call as history_after}
 use Rattle.bridge_core.specs.Sent.{Sent}
 use Rattle.bridge_core.specs.Steps.{Step, along, sent_at, sends}
-use Rattle.script_text.specs.declared.fault.Fault.{Fault}
+use Rattle.desk_text.specs.declared.fault.Fault.{Fault}
 use Rattle.media_items.specs.Inputs.{Input}
 use Rattle.media_items.specs.Inputs.Input.{report, renew}
 use Rattle.upward.specs.Upstream.{Asker}
 use Rattle.std.proofs.lemmas.Bool.{ne_eqb}
 use Rattle.intake.specs.Ingested.{Ingested}
 use Rattle.intake.specs.Sources.{Sources}
+use Rattle.desk_text.specs.Lines.{lines_of}
 use Rattle.script_text.specs.Requests.{Request, Nothing, Begin, Desk, Item, Rx, Wait, Report, Show}
 use Rattle.script_text.specs.FirstLine.{request_at}
-use Rattle.script_text.specs.Lines.{lines_of}
 use Rattle.script_text.specs.Decodings.{Decoding}
 use Rattle.script_text.specs.Bridge.{Bridge, first_desk, begun_bridge, opening_bridge, Answer, silence, replied, sent}
 use Rattle.script_text.specs.Bridge.{heard, waited, reports, shown, text_of, answer_call, item_sent, after_item}

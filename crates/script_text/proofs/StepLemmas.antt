@@ -10,22 +10,22 @@ use Rattle.std.proofs.lemmas.Bool.{lt-ltb, ltb-true, cases_Bool, eqb-true}
 use Rattle.std.proofs.lemmas.List.{append-nil, length-append, length-take, take_more, take-append-drop}
 use Rattle.std.proofs.lemmas.List.Elements.{All-push}
 use Rattle.std.proofs.lemmas.List.Splits.{slice_split_at, slice_split_none}
-use Rattle.script_text.specs.declared.fault.Fault.TheVariants.{LineTooLong}
+use Rattle.desk_text.specs.declared.fault.Fault.TheVariants.{LineTooLong}
+use Rattle.desk_text.specs.Lines.{parts_of, lines_by, whole, ended, limit_of}
 use Rattle.script_text.specs.declared.fault.RunFault.{RunFault}
-use Rattle.script_text.specs.declared.fault.RunFault.TheVariants as errors
 use Rattle.desk_edit.specs.declared.refusal.Refusal.{Refusal}
 use Rattle.desk_edit.specs.Calls.{CallHistory, refusal_of, after_call as history_after}
 use Rattle.media_items.specs.Inputs.{Input}
+use Rattle.script_text.specs.declared.fault.RunFault.TheVariants as errors
 use Rattle.script_text.specs.Decodings.{Decoding, DecodesRequest, DecodesLines}
 use Rattle.script_text.specs.Bridge.{Bridge, begun_bridge, answer_begin, answer_call, after_item, after_items, knowing}
-use Rattle.script_text.specs.Bridge.{taken_at, waited_at, origin_at, answer_text, bridge_after}
 use Rattle.bridge_core.specs.Steps.{CoreOf}
+use Rattle.script_text.specs.Bridge.{taken_at, waited_at, origin_at, answer_text, bridge_after}
 use Rattle.script_text.proofs.ItemLemmas.{limit_least}
 use Rattle.script_text.proofs.FirstLineLemmas.{hears_at}
 use Rattle.script_text.specs.Requests.{Request, Nothing, Begin, Desk, Item, Rx, Wait, Report, Show, line_request}
 use Rattle.script_text.specs.ItemLines.{request_of}
 use Rattle.script_text.specs.FirstLine.{request_at}
-use Rattle.script_text.specs.Lines.{parts_of, lines_by, whole, ended, limit_of}
 use Rattle.script_text.specs.Output.{RunOutput, nothing, told, stopped, continues, outcome_of}
 use Rattle.script_text.specs.inner.Steps.{Held, place_of, Place, to_come, Goes, StepFails, DecodesComing, StepEnds}
 use Rattle.script_text.specs.inner.Steps.{LineEnds, FinishEnds}

@@ -6,20 +6,20 @@ use Rattle.rtp_codec.specs.declared.address.Address.{Address}
 use Rattle.frame_gate.specs.declared.frame.FrameFault.{FrameFault}
 use Rattle.frame_gate.specs.Frame.{fault_of}
 use Rattle.media_items.specs.Frame.{SourceFrame}
-use Rattle.script_text.specs.declared.fault.Fault.TheVariants.{UnknownWord}
-use Rattle.script_text.specs.declared.value.Value.{Value}
+use Rattle.desk_text.specs.declared.fault.Fault.TheVariants.{UnknownWord}
+use Rattle.desk_text.specs.declared.value.Value.{Value}
+use Rattle.desk_text.specs.Words.{words_of, word_at, none_left, value_or}
+use Rattle.desk_text.specs.Values.{field_of, value_text, AllFit, values_of, number_at, address_at}
+use Rattle.desk_text.specs.Calls.{call_of}
+use Rattle.desk_text.proofs.Joined.{free_test, parts_joined}
+use Rattle.desk_text.proofs.ValueLaws.{found_text, free_values, bind_ok, word_back, or_back, values_back, values_again}
+use Rattle.desk_text.proofs.CommandLaws.{read_from, with_field, read_all}
 use Rattle.script_text.specs.declared.name.LineKind.{LineKind}
 use Rattle.script_text.specs.declared.name.LineKind.TheVariants as kinds
-use Rattle.script_text.specs.Words.{words_of, word_at, none_left, value_or}
-use Rattle.script_text.specs.Values.{field_of, value_text, AllFit, values_of, number_at, address_at}
-use Rattle.script_text.specs.Calls.{call_of}
 use Rattle.script_text.specs.Requests.{Wait, kind_text, line_kind_of, line_kinds, front_of, some_packets, sighted}
 use Rattle.script_text.specs.Requests.{framed, frame_of, some_octets, rx_of, request_with, words_request, wait_values}
 use Rattle.script_text.specs.Requests.{wait_words, wait_line}
-use Rattle.script_text.proofs.Joined.{free_test, parts_joined}
-use Rattle.script_text.proofs.ValueLaws.{found_text, free_values, bind_ok, word_back, or_back, values_back}
-use Rattle.script_text.proofs.ValueLaws.{values_again}
-use Rattle.script_text.proofs.CommandLaws.{kind_free, read_from, with_field, read_all}
+use Rattle.script_text.proofs.KindLaws.{kind_free}
 use Rattle.script_text.proofs.RxLaws.{none_back}
 
 words_again : (moment : ℕ) (from : Address) (ssrc : ℕ) → AllFit (wait_values moment from ssrc)

@@ -5,8 +5,8 @@ use Rattle.std.specs.List.{flat_map}
 use Rattle.desk_rows.specs.Desk.{Desk, blank}
 use Rattle.desk_edit.specs.declared.refusal.Refusal.{Refusal}
 use Rattle.desk_edit.specs.Calls.{CallHistory, no_calls, desk_now, refusal_of, after_call as history_after}
-use Rattle.bridge_core.specs.declared.reply.Reply.{Reply}
-use Rattle.bridge_core.specs.declared.reply.Reply.TheVariants.{Accepted, Refused}
+use Rattle.desk_calls.specs.declared.reply.Reply.{Reply}
+use Rattle.desk_calls.specs.declared.reply.Reply.TheVariants.{Accepted, Refused}
 use Rattle.rtp_codec.specs.declared.address.Address.{Address}
 use Rattle.intake.specs.declared.outcome.Outcome.{Outcome}
 use Rattle.media_items.specs.Inputs.{Input}
@@ -20,11 +20,12 @@ use Rattle.intake.specs.Reported.{reported}
 use Rattle.bridge_core.specs.Sent.{Sent}
 use Rattle.bridge_core.specs.Lanes.{sends_at}
 use Rattle.bridge_core.specs.Steps.{Step, visits, visit_after}
+use Rattle.desk_text.specs.Text.{reply_text}
+use Rattle.desk_text.specs.RowLines.{show_text}
 use Rattle.script_text.specs.Requests.{Request, Nothing, Begin, Desk as DeskRequest, Item, Rx, Wait, Report, Show}
-use Rattle.script_text.specs.Text.{reply_text, sent_text}
+use Rattle.script_text.specs.SentLines.{sent_text}
 use Rattle.script_text.specs.Datagrams.{outcome_text, up_text}
 use Rattle.script_text.specs.Decodings.{Decoding, script_asker, voice_of}
-use Rattle.script_text.specs.RowLines.{show_text}
 
 -- the bridge between two lines: how it decodes datagrams, who it is, what its calls have led to, the accepted calls and
 -- the items so far, and the sources that it knows

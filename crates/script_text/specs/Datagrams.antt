@@ -9,8 +9,8 @@ use Rattle.intake.specs.declared.outcome.Outcome.{Outcome}
 use Rattle.intake.specs.declared.outcome.Outcome.TheVariants.{TooLong, Neither, BadRtp, BadRtcp, Unknown}
 use Rattle.intake.specs.declared.outcome.Outcome.TheVariants.{BadPayload, Spent, Probation, Accepted, Late}
 use Rattle.intake.specs.declared.outcome.Outcome.TheVariants.{Duplicate, Jump, Restarted, Rtcp}
-use Rattle.script_text.specs.declared.value.Value.TheVariants.{U64, Address}
-use Rattle.script_text.specs.Text.{Word, fixed, value, signed, hex, line_text}
+use Rattle.desk_text.specs.declared.value.Value.TheVariants.{U64, Address}
+use Rattle.desk_text.specs.Text.{Word, fixed, value, signed, hex, line_text}
 
 -- why a datagram is no RTP packet, by number and name
 abbrev pub rtp_fault_text : RtpFault → List ℕ

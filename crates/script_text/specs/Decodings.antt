@@ -4,8 +4,8 @@ use Rattle.rtcp_codec.specs.declared.nack.NackWord.{NackWord}
 use Rattle.upward.specs.Upstream.{Asker}
 use Rattle.intake.specs.Readings.{Reading, IsReading}
 use Rattle.intake.specs.Taking.{Voice, IsVoice}
+use Rattle.desk_text.specs.declared.fault.Fault.{Fault}
 use Rattle.script_text.specs.declared.script.TheConstants.{BRIDGE_SSRC}
-use Rattle.script_text.specs.declared.fault.Fault.{Fault}
 use Rattle.script_text.specs.Requests.{Request, Nothing, Begin, Desk, Item, Rx, Wait, Report, Show}
 use Rattle.script_text.specs.ItemLines.{request_of}
 

@@ -6,10 +6,10 @@ use Rattle.std.specs.Str.{bytes_eq}
 use Rattle.std.specs.Fmt.{decimal}
 use Rattle.upward.specs.Upstream.{Asker}
 use Rattle.intake.specs.Names.{is_name}
-use Rattle.script_text.specs.declared.fault.Fault.{Fault}
-use Rattle.script_text.specs.declared.fault.Fault.TheVariants.{UnknownWord, BadNumber}
-use Rattle.script_text.specs.Numbers.{decimal_of}
-use Rattle.script_text.specs.Words.{◌>>=◌, words_of, word_at, none_left, value_or, Lacks}
+use Rattle.desk_text.specs.declared.fault.Fault.{Fault}
+use Rattle.desk_text.specs.declared.fault.Fault.TheVariants.{UnknownWord, BadNumber}
+use Rattle.desk_text.specs.Numbers.{decimal_of}
+use Rattle.desk_text.specs.Words.{◌>>=◌, words_of, word_at, none_left, value_or, Lacks}
 use Rattle.script_text.specs.Requests.{Request, Begin, line_request}
 use Rattle.script_text.specs.ItemLines.{later_request}
 

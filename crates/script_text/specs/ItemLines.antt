@@ -1,8 +1,8 @@
 -- Lines that hand the lane an item (own).
-use Rattle.std.specs.Prelude.{◌≡◌, ◌≢◌, ℕ, ℤ, pos, negsuc, ◌+◌, ◌*◌, ◌/◌, ◌%◌, ◌<◌, ◌≤◌, Bool, ◌&&◌, List, [], ◌∷◌}
+use Rattle.std.specs.Prelude.{◌≡◌, ◌≢◌, ℕ, ℤ, pos, negsuc, ◌+◌, ◌*◌, ◌%◌, ◌<◌, ◌≤◌, Bool, ◌&&◌, List, [], ◌∷◌}
 use Rattle.std.specs.Prelude.{◌++◌, map, length, nat_eq, nat_lt, nat_le, codes, true, Option, Some, None, Result}
 use Rattle.std.specs.Prelude.{Ok, Err, if◌then◌else◌}
-use Rattle.std.specs.List.{find, flat_map, join_with_byte}
+use Rattle.std.specs.List.{find, join_with_byte}
 use Rattle.std.specs.Str.{bytes_eq}
 use Rattle.std.specs.Fmt.{decimal, signed_decimal}
 use Rattle.hex.specs.Hex.{encode_lower, decode_of}
@@ -11,17 +11,17 @@ use Rattle.rtcp_codec.specs.declared.report.ReportBlock.{ReportBlock}
 use Rattle.sample_codecs.specs.L16.{samples_of, octets_of}
 use Rattle.media_items.specs.Inputs.{Input, Sound, Request as Asked, Told, Loss, most_at}
 use Rattle.media_items.specs.Inputs.Input.{frame, audio, tick, nack, block, pli, report, renew}
-use Rattle.script_text.specs.declared.fault.Fault.{Fault}
-use Rattle.script_text.specs.declared.fault.Fault.TheVariants.{UnknownWord, BadNumber, BadHex}
-use Rattle.script_text.specs.declared.value.Field.{Field}
-use Rattle.script_text.specs.declared.value.Field.TheVariants as fields
-use Rattle.script_text.specs.declared.value.Value.{Value}
-use Rattle.script_text.specs.declared.value.Value.TheVariants.{U32, U64, Address}
+use Rattle.desk_text.specs.declared.fault.Fault.{Fault}
+use Rattle.desk_text.specs.declared.fault.Fault.TheVariants.{UnknownWord, BadNumber, BadHex}
+use Rattle.desk_text.specs.declared.value.Field.{Field}
+use Rattle.desk_text.specs.declared.value.Field.TheVariants as fields
+use Rattle.desk_text.specs.declared.value.Value.{Value}
+use Rattle.desk_text.specs.declared.value.Value.TheVariants.{U32, U64, Address}
+use Rattle.desk_text.specs.Words.{◌>>=◌, words_of, word_at, none_left, value_or}
+use Rattle.desk_text.specs.Numbers.{decimal_of, ext_of, pairs_octets}
+use Rattle.desk_text.specs.Values.{value_text, values_of, number_at, address_at}
 use Rattle.script_text.specs.declared.name.ItemKind.{ItemKind}
 use Rattle.script_text.specs.declared.name.ItemKind.TheVariants as kinds
-use Rattle.script_text.specs.Words.{◌>>=◌, words_of, word_at, none_left, value_or}
-use Rattle.script_text.specs.Numbers.{decimal_of, ext_of}
-use Rattle.script_text.specs.Values.{value_text, values_of, number_at, address_at}
 use Rattle.script_text.specs.Packets.{packet_text, octets_or}
 use Rattle.script_text.specs.Requests.{Request, Item, sighted, frame_of, front_values, words_request, line_request}
 
@@ -100,14 +100,6 @@ abbrev pub pair_numbers : List ℕ → List ℕ
 pair_numbers [] = []
 pair_numbers (over ∷ []) = []
 pair_numbers (high ∷ low ∷ octets) = pair_number high low ∷ pair_numbers octets
-
--- the two octets of a number
-abbrev pub pair_octets : ℕ → List ℕ
-pair_octets number = number / 256 ∷ number % 256 ∷ []
-
--- the octets of numbers
-abbrev pub pairs_octets : List ℕ → List ℕ
-pairs_octets numbers = flat_map pair_octets numbers
 
 -- the numbers that octets at this place are, if they are some
 abbrev pub numbers_or : ℕ → List ℕ → Result (List ℕ) (ℕ × Fault)

@@ -1,12 +1,12 @@
 -- The output function: what a script's octets give (own).
 use Rattle.std.specs.Prelude.{◌≡◌, ℕ, ◌+◌, List, [], ◌∷◌, ◌++◌, Option, Some, None, Result, Ok, Err}
 use Rattle.std.specs.Io.KnownBytes.{Appends, Consumes, IsAtEnd}
-use Rattle.script_text.specs.declared.fault.Fault.{Fault}
+use Rattle.desk_text.specs.declared.fault.Fault.{Fault}
+use Rattle.desk_text.specs.Lines.{lines_of, ended_lines}
 use Rattle.script_text.specs.declared.fault.RunFault.{RunFault}
 use Rattle.script_text.specs.declared.fault.RunFault.TheVariants as errors
 use Rattle.script_text.specs.Requests.{Request}
 use Rattle.script_text.specs.FirstLine.{request_at}
-use Rattle.script_text.specs.Lines.{lines_of, ended_lines}
 use Rattle.script_text.specs.Decodings.{Decoding}
 use Rattle.script_text.specs.Bridge.{Bridge, opening_bridge, answer_text, bridge_after}
 

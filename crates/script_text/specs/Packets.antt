@@ -1,5 +1,5 @@
 -- Words that spell a packet, EXT/M/PT/HEX, and octets in hexadecimal (own).
-use Rattle.std.specs.Prelude.{◌≡◌, ◌⊎◌, ◌≤◌, ℕ, ℤ, pos, ◌+◌, ◌==◌, List}
+use Rattle.std.specs.Prelude.{◌≡◌, ◌≤◌, ℕ, ◌+◌, ◌==◌, List}
 use Rattle.std.specs.Prelude.{[], ◌∷◌, Result, Ok, Err, ◌++◌, codes, Bool, if◌then◌else◌}
 use Rattle.std.specs.List.{slice_split}
 use Rattle.std.specs.Fmt.{decimal, signed_decimal}
@@ -7,10 +7,10 @@ use Rattle.std.specs.Str.{str_to_ascii_lowercase}
 use Rattle.hex.specs.Hex.{IsBytes, decode_of, encode_lower}
 use Rattle.hex.specs.declared.error.FromHexError.{FromHexError}
 use Rattle.frame_gate.specs.Frame.{SourcePacket}
-use Rattle.script_text.specs.declared.fault.Fault.{Fault}
-use Rattle.script_text.specs.declared.fault.Fault.TheVariants.{BadNumber, BadHex}
-use Rattle.script_text.specs.Words.{◌>>=◌, value_or}
-use Rattle.script_text.specs.Numbers.{decimal_of, ext_of, FitsExt}
+use Rattle.desk_text.specs.declared.fault.Fault.{Fault}
+use Rattle.desk_text.specs.declared.fault.Fault.TheVariants.{BadNumber, BadHex}
+use Rattle.desk_text.specs.Words.{◌>>=◌, value_or}
+use Rattle.desk_text.specs.Numbers.{decimal_of, ext_of, FitsExt, SpellsExt}
 
 -- how a marker is written
 abbrev pub marker_text : Bool → List ℕ
@@ -21,10 +21,6 @@ abbrev pub packet_text : SourcePacket → List ℕ
 packet_text p =
     signed_decimal p.ext ++ codes "/" ++ marker_text p.marker ++ codes "/" ++ decimal p.pt ++ codes "/"
     ++ encode_lower p.payload
-
--- how a sequence number may be written: `-0` is 0 too
-abbrev pub SpellsExt : List ℕ → ℤ → Type 0
-SpellsExt word z = (word ≡ signed_decimal z) ⊎ ((word ≡ codes "-0") × (z ≡ pos 0))
 
 -- how octets may be written: in hexadecimal of either case
 abbrev pub SpellsHex : List ℕ → List ℕ → Type 0

@@ -1,6 +1,6 @@
 -- What a line asks for (own).
-use Rattle.std.specs.Prelude.{◌≡◌, ◌≢◌, ℕ, Bool, ◌&&◌, ◌||◌, ◌==◌, not, List}
-use Rattle.std.specs.Prelude.{[], ◌∷◌, ◌++◌, map, length, nat_lt, nat_le, slice_index, codes}
+use Rattle.std.specs.Prelude.{◌≡◌, ◌≢◌, ℕ, Bool, ◌||◌, ◌==◌, not, List}
+use Rattle.std.specs.Prelude.{[], ◌∷◌, ◌++◌, map, length, nat_lt, slice_index, codes}
 use Rattle.std.specs.Prelude.{Option, Some, None, Result, Ok, Err, if◌then◌else◌}
 use Rattle.std.specs.List.{list_all, find, join_with_byte}
 use Rattle.std.specs.Str.{bytes_eq}
@@ -13,20 +13,20 @@ use Rattle.upward.specs.Upstream.{Asker}
 use Rattle.media_items.specs.Frame.{SourceFrame}
 use Rattle.media_items.specs.Inputs.{Input}
 use Rattle.media_items.specs.Inputs.Input.{frame, tick}
-use Rattle.script_text.specs.declared.fault.Fault.{Fault}
-use Rattle.script_text.specs.declared.fault.Fault.TheVariants.{LineTooLong, BadByte, UnknownWord}
-use Rattle.script_text.specs.declared.fault.Fault.TheVariants.{MissingWord, BadHex, BadFrame}
-use Rattle.script_text.specs.declared.value.Field.{Field}
-use Rattle.script_text.specs.declared.value.Field.TheVariants as fields
-use Rattle.script_text.specs.declared.value.Value.{Value}
-use Rattle.script_text.specs.declared.value.Value.TheVariants.{U32, U64, Operator, Address}
+use Rattle.desk_text.specs.declared.fault.Fault.{Fault}
+use Rattle.desk_text.specs.declared.fault.Fault.TheVariants.{LineTooLong, BadByte, UnknownWord}
+use Rattle.desk_text.specs.declared.fault.Fault.TheVariants.{MissingWord, BadHex, BadFrame}
+use Rattle.desk_text.specs.declared.value.Field.{Field}
+use Rattle.desk_text.specs.declared.value.Field.TheVariants as fields
+use Rattle.desk_text.specs.declared.value.Value.{Value}
+use Rattle.desk_text.specs.declared.value.Value.TheVariants.{U32, U64, Operator, Address}
+use Rattle.desk_text.specs.Lines.{limit_of, is_printable}
+use Rattle.desk_text.specs.Words.{◌>>=◌, words_of, word_at, none_left, value_or}
+use Rattle.desk_text.specs.Values.{value_text, values_of, number_at, address_at, AllFit}
+use Rattle.desk_text.specs.Calls.{call_of, call_words}
 use Rattle.script_text.specs.declared.name.LineKind.{LineKind}
 use Rattle.script_text.specs.declared.name.LineKind.TheVariants as kinds
-use Rattle.script_text.specs.Lines.{limit_of}
-use Rattle.script_text.specs.Words.{◌>>=◌, words_of, word_at, none_left, value_or}
-use Rattle.script_text.specs.Values.{value_text, values_of, number_at, address_at, AllFit}
 use Rattle.script_text.specs.Packets.{packet_text, octets_or, source_packets_of, AllReadable}
-use Rattle.script_text.specs.Calls.{call_of, call_words}
 
 -- nothing, who the bridge is and whether its jitter buffers begin anew after late or full sound, an operator's call, an
 -- item for the lane, a datagram from an address at a moment, a wait for a source until a moment, the reports of a
@@ -155,10 +155,6 @@ words_request words = do
   kind ← value_or 1 UnknownWord (line_kind_of word.0)
   read ← values_of 2 (front_of kind) word.1
   request_with kind read.0 read.1
-
--- an octet that a line may hold: 32 to 126, what ASCII prints
-abbrev pub is_printable : ℕ → Bool
-is_printable octet = nat_le 32 octet && nat_le octet 126
 
 -- what a line asks for whose words ask for this, or its first fault and the place of its word; place 0 is the whole
 -- line, and 35 is `#`

@@ -2,11 +2,11 @@
 use Rattle.std.specs.Prelude.{ℕ, ◌+◌, List, [], ◌∷◌, ◌++◌, Result, Ok, Err}
 use Rattle.bridge_core.specs.Sent.{Sent}
 use Rattle.bridge_core.specs.Steps.{Step}
-use Rattle.script_text.specs.declared.fault.Fault.{Fault}
+use Rattle.desk_text.specs.declared.fault.Fault.{Fault}
 use Rattle.upward.specs.Upstream.{Asker}
+use Rattle.desk_text.specs.Lines.{lines_of}
 use Rattle.script_text.specs.Requests.{Request, Nothing, Begin, Desk, Item, Rx, Wait, Report, Show}
 use Rattle.script_text.specs.FirstLine.{request_at}
-use Rattle.script_text.specs.Lines.{lines_of}
 use Rattle.script_text.specs.Decodings.{Decoding, script_asker}
 use Rattle.script_text.specs.Bridge.{Bridge, opening_bridge, Answer, silence, replied, sent}
 use Rattle.script_text.specs.Bridge.{heard, waited, reports, shown, answer, bridge_after}

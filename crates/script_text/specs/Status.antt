@@ -4,13 +4,13 @@ use Rattle.std.specs.Str.{bytes_eq}
 use Rattle.std.specs.Fmt.{decimal}
 use Rattle.std.specs.declared.io.ErrorKind.{ErrorKind}
 use Rattle.std.specs.declared.io.ErrorKind.TheVariants as kinds
+use Rattle.desk_text.specs.Text.{fault_text}
 use Rattle.script_text.specs.declared.fault.RunFault.{RunFault}
 use Rattle.script_text.specs.declared.fault.RunFault.TheVariants as errors
 use Rattle.script_text.specs.declared.exits.Ask.{Ask}
 use Rattle.script_text.specs.declared.exits.Ask.TheVariants as asks
 use Rattle.script_text.specs.declared.exits.Exit.{Exit}
 use Rattle.script_text.specs.declared.exits.Exit.TheVariants as outcomes
-use Rattle.script_text.specs.Text.{fault_text}
 
 -- 0, 1 for a fault of the script, 2 for out of memory, 3 for a reader or writer that failed
 abbrev pub status_of : Result (Unit {0}) RunFault → ℕ

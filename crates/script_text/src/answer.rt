@@ -5,7 +5,7 @@ ghost use Rattle.std.specs.List.{flat_map, list_all};
 ghost use Rattle.desk_edit.specs.Asked.{asked_by};
 ghost use Rattle.media_items.specs.Inputs.{input_of, is_sized};
 ghost use Rattle.bridge_core.specs.Sent.{sent_of};
-ghost use Rattle.script_text.specs.Text.{sent_text};
+ghost use Rattle.script_text.specs.SentLines.{sent_text};
 ghost use Rattle.script_text.specs.Requests.{Desk, Rx, Wait as WaitRequest};
 ghost use Rattle.script_text.specs.Requests.{Report as ReportRequest, Show as ShowRequest};
 ghost use Rattle.script_text.specs.inner.Cursor.{view};
@@ -13,16 +13,17 @@ ghost use Rattle.script_text.specs.inner.Steps.{HasLane, wants_memory, HandsItem
 ghost use Rattle.script_text.specs.inner.Steps.{HandsItems, AnswersRequest, AnswersLine};
 
 use crate::beginning::answer_begin;
-use crate::fault::{ParseFault, RunFault};
+use crate::fault::RunFault;
 use crate::handed_item::HandedItem;
 use crate::line::{Line, parse_line};
 use crate::outcomes::{print_all_up, print_outcome};
-use crate::print::{print_egress, print_reply};
+use crate::print::print_egress;
 use crate::sending::send;
-use crate::showing::print_rows;
 use crate::sink::TextSink;
-use bridge_core::{Core, Egress, Item, Reply};
+use bridge_core::{Core, Egress, Item};
+use desk_calls::Reply;
 use desk_edit::{Call, Refusal};
+use desk_text::{ParseFault, print_reply, print_rows};
 use rtp_codec::Address;
 use std::alloc::{AllocError, Allocator};
 

@@ -2,16 +2,14 @@
 
 ghost use Rattle.std.specs.Prelude.{◌≡◌, true, IfOk};
 ghost use Rattle.intake.specs.Names.{is_name};
-ghost use Rattle.script_text.specs.Words.{Gives};
+ghost use Rattle.desk_text.specs.Words.{Gives, words_in};
 ghost use Rattle.script_text.specs.FirstLine.{asker_of, renews_of, bridge_of};
-ghost use Rattle.script_text.specs.inner.Cursor.{words_in, asker_in, begin_of};
+ghost use Rattle.script_text.specs.inner.Cursor.{asker_in, begin_of};
 
 use crate::bridge_line::BridgeLine;
-use crate::fault::{Fault, ParseFault};
-use crate::number::number;
-use crate::words::{end_of_words, first_word, next_word};
 use bridge_core::Settings;
 use bytes::Bytes;
+use desk_text::{Fault, ParseFault, end_of_words, first_word, next_word, parse_number};
 use std::alloc::Allocator;
 
 /// The settings of this SSRC and of the name that the word at place 3 is.
@@ -57,7 +55,7 @@ pub(crate) fn read_bridge_line<A: Allocator + Copy>(
     ensures { Gives begin_of result (bridge_of (words_in words.entry)) }
 {
     let (word, rest) = next_word(words, 2)?;
-    let Some(ssrc) = number(word, 4_294_967_295) else {
+    let Some(ssrc) = parse_number(word, 4_294_967_295) else {
         return Err(Fault::BadNumber.at(2));
     };
     let (word, rest) = next_word(rest, 3)?;

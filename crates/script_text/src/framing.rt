@@ -3,14 +3,14 @@
 ghost use Rattle.std.specs.Prelude.{◌≤◌, ◌+◌};
 ghost use Rattle.frame_gate.specs.Frame.{fault_of};
 ghost use Rattle.media_items.specs.Inputs.Input.{frame};
-ghost use Rattle.script_text.specs.Words.{Gives};
-ghost use Rattle.script_text.specs.inner.Cursor.{words_in, size_of, sighting};
+ghost use Rattle.desk_text.specs.Words.{Gives, words_in, size_of};
+ghost use Rattle.script_text.specs.inner.Cursor.{sighting};
 ghost use Rattle.script_text.specs.Requests.{Item, some_packets, framed, frame_of};
 
-use crate::fault::{Fault, ParseFault};
 use crate::line::ITEM_LIMIT;
 use crate::packet::packets;
 use bridge_core::{Frame, FramePacket, MediaFrame};
+use desk_text::{Fault, ParseFault};
 use rtp_codec::Address;
 use std::alloc::Allocator;
 

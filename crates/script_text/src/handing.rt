@@ -2,24 +2,23 @@
 
 ghost use Rattle.std.specs.Prelude.{◌≡◌, ◌≤◌, ◌+◌, true, map, IfSome};
 ghost use Rattle.media_items.specs.Inputs.{input_of, is_audio_rate, is_sized};
-ghost use Rattle.script_text.specs.Words.{Gives};
-ghost use Rattle.script_text.specs.Values.{field_of};
+ghost use Rattle.desk_text.specs.Words.{Gives, words_in, size_of};
+ghost use Rattle.desk_text.specs.Values.{field_of};
 ghost use Rattle.script_text.specs.Requests.{frame_of};
 ghost use Rattle.script_text.specs.ItemLines.{clock_of, lost_of, spelt_sound, nack_of, block_of, block_with, item_with};
 ghost use Rattle.script_text.specs.ItemLines.{block_fields, handed_alone, item_front_of, item_request};
-ghost use Rattle.script_text.specs.inner.Cursor.{words_in, size_of, sighting, handed_in};
+ghost use Rattle.script_text.specs.inner.Cursor.{sighting, handed_in};
 
-use crate::fault::{Fault, ParseFault};
 use crate::framing::{FrameHead, frame};
 use crate::handed_item::HandedItem;
 use crate::line::ITEM_LIMIT;
 use crate::name::{ItemKind, item_front, parse_item_kind};
-use crate::number::{number, parse_ext};
 use crate::pairs::{numbers, samples};
-use crate::reading::read_values;
-use crate::value::{Field, Value, address_at, u32_at, u64_at};
-use crate::words::{end_of_words, next_word};
 use bridge_core::Item;
+use desk_text::{
+    Fault, Field, ParseFault, Value, address_at, end_of_words, next_word, parse_ext, parse_number,
+    read_values, u32_at, u64_at,
+};
 use rtcp_codec::ReportBlock;
 use rtp_codec::Address;
 use std::alloc::Allocator;
@@ -126,7 +125,7 @@ fn block<A: Allocator + Copy>(
     ensures { Gives handed_in result (block_of from ssrc (words_in words.entry)) }
 {
     let (word, rest) = next_word(words, 5)?;
-    let Some(fraction) = number(word, 255) else {
+    let Some(fraction) = parse_number(word, 255) else {
         return Err(Fault::BadNumber.at(5));
     };
     let (word, rest) = next_word(rest, 6)?;

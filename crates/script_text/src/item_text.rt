@@ -4,16 +4,16 @@ ghost use Rattle.std.specs.Prelude.{◌≡◌, ◌+◌, ◌<◌, ◌≤◌, [], 
 ghost use Rattle.std.specs.Prelude.{vec_len, vec_capacity};
 ghost use Rattle.media_items.specs.Inputs.{input_of};
 ghost use Rattle.media_items.specs.Inputs.Input.{frame, nack, block, pli};
-ghost use Rattle.script_text.specs.declared.value.Value.TheVariants.{U64};
-ghost use Rattle.script_text.specs.Text.{fixed, value, line_text};
+ghost use Rattle.desk_text.specs.declared.value.Value.TheVariants.{U64};
+ghost use Rattle.desk_text.specs.Text.{fixed, value, line_text};
+ghost use Rattle.desk_text.specs.Shown.{said};
 ghost use Rattle.script_text.specs.Requests.{front_values};
 ghost use Rattle.script_text.specs.ItemLines.{item_text};
-ghost use Rattle.script_text.specs.inner.Shown.{said, packet_word};
+ghost use Rattle.script_text.specs.inner.Shown.{packet_word};
 
-use crate::appending::{Word, print_line};
-use crate::value::Value;
 use arrayvec::ArrayVec;
 use bridge_core::{FramePacket, Item, MediaFrame};
+use desk_text::{Value, Word, print_line};
 use rtcp_codec::ReportBlock;
 use rtp_codec::Address;
 use std::alloc::{AllocError, Allocator};

@@ -1,38 +1,32 @@
 //! What lines ask for.
 
 ghost use Rattle.std.specs.Prelude.{◌≡◌, ◌≤◌, ◌+◌, length, map, nat_lt};
-ghost use Rattle.script_text.specs.Words.{Gives};
-ghost use Rattle.script_text.specs.inner.Cursor.{words_in, size_of, view};
-ghost use Rattle.script_text.specs.Values.{field_of};
-ghost use Rattle.script_text.specs.Lines.{limit_of};
-ghost use Rattle.script_text.specs.Requests.{desk_of};
-ghost use Rattle.script_text.specs.Requests.{some_octets, rx_of, wait_of, tick_item, report_of, show_of};
+ghost use Rattle.desk_text.specs.Words.{Gives, words_in, size_of, words_of};
+ghost use Rattle.desk_text.specs.Values.{field_of};
+ghost use Rattle.desk_text.specs.Lines.{limit_of};
+ghost use Rattle.script_text.specs.inner.Cursor.{view};
+ghost use Rattle.script_text.specs.Requests.{desk_of, some_octets, rx_of, wait_of, tick_item, report_of, show_of};
 ghost use Rattle.script_text.specs.Requests.{front_of, request_with, words_request};
-ghost use Rattle.script_text.specs.Words.{words_of};
 ghost use Rattle.script_text.specs.ItemLines.{later_request};
 ghost use Rattle.script_text.specs.FirstLine.{first_request, words_request_at, request_at};
 
 use crate::bridge_line::BridgeLine;
-use crate::calling::call;
-use crate::fault::{Fault, ParseFault};
 use crate::first_line::read_bridge_line;
 use crate::framing::{FrameHead, frame};
 use crate::handed_item::HandedItem;
 use crate::handing::read_item;
 use crate::name::{LineKind, front, parse_kind};
 use crate::packet::octets;
-use crate::reading::read_values;
-use crate::value::{Value, address_at, operator_at, u32_at, u64_at};
-use crate::words::{end_of_words, first_word, is_printable, next_word};
 use bridge_core::MediaFrame;
 use desk_edit::Call;
+use desk_text::{
+    Fault, LINE_LIMIT, ParseFault, Value, address_at, end_of_words, first_word, is_printable,
+    next_word, operator_at, read_call, read_values, u32_at, u64_at,
+};
 use rtp_codec::Address;
 use std::alloc::{Allocator, Global};
 
-/// How many octets a line may have that hands the lane no item, its CR and LF not counted.
-pub(crate) const LINE_LIMIT: usize = 65_536;
-
-/// How many a line may have that hands the lane an item. A frame of 256 packets fits.
+/// How many octets a line may have that hands the lane an item. A frame of 256 packets fits.
 pub(crate) const ITEM_LIMIT: usize = 8_388_608;
 
 /// How many octets this line may have.
@@ -97,7 +91,7 @@ fn desk<A: Allocator + Copy>(alloc: A, op: u8, words: Option<&[u8]>) -> Result<L
     requires { size_of words ≤ LINE_LIMIT + 1 }
     ensures { Gives view result (desk_of op (words_in words.entry)) }
 {
-    let call = call(alloc, 2, words)?;
+    let call = read_call(alloc, 2, words)?;
     Ok(Line::Desk { op, call })
 }
 

@@ -3,11 +3,10 @@
 ghost use Rattle.std.specs.Prelude.{◌≡◌, ◌∷◌, ◌++◌, [], codes, map, OnOk};
 ghost use Rattle.std.specs.List.{flat_map};
 ghost use Rattle.intake.specs.Ingested.{datagram_of};
-ghost use Rattle.script_text.specs.Text.{fixed, signed, line_text};
+ghost use Rattle.desk_text.specs.Text.{fixed, signed, line_text};
 ghost use Rattle.script_text.specs.Datagrams.{rtp_fault_text, rtcp_fault_text, outcome_text, up_text};
 
-use crate::appending::{Word, print_line};
-use crate::value::Value;
+use desk_text::{Value, Word, print_line};
 use intake::Outcome;
 use rtcp_codec::RtcpFault;
 use rtp_codec::{Address, RtpFault};

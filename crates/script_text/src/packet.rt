@@ -2,17 +2,15 @@
 
 ghost use Rattle.std.specs.Prelude.{◌+◌, ◌==◌, ◌≤◌};
 ghost use Rattle.std.specs.List.{slice_split};
-ghost use Rattle.script_text.specs.Words.{Gives};
+ghost use Rattle.desk_text.specs.Words.{Gives, words_in, size_of};
 ghost use Rattle.script_text.specs.Packets.{octets_or, packet_from, packet_of, source_packets_of};
 ghost use Rattle.hex.specs.Hex.{decode_of};
-ghost use Rattle.script_text.specs.inner.Cursor.{are_parts, words_in, size_of, TakesPacket};
+ghost use Rattle.script_text.specs.inner.Cursor.{are_parts, TakesPacket};
 
-use crate::fault::{Fault, ParseFault};
 use crate::line::ITEM_LIMIT;
-use crate::number::{number, parse_ext};
-use crate::words::{cut, first_word};
 use bridge_core::FramePacket;
 use bytes::Bytes;
+use desk_text::{Fault, ParseFault, cut, first_word, parse_ext, parse_number};
 use hex::FromHexError;
 use std::alloc::Allocator;
 
@@ -87,10 +85,10 @@ fn packet_from<A: Allocator + Copy>(
     let Some(ext) = parse_ext(parts.ext) else {
         return Err(Fault::BadNumber.at(place));
     };
-    let Some(marker) = number(parts.marker, 1) else {
+    let Some(marker) = parse_number(parts.marker, 1) else {
         return Err(Fault::BadNumber.at(place));
     };
-    let Some(pt) = number(parts.pt, 255) else {
+    let Some(pt) = parse_number(parts.pt, 255) else {
         return Err(Fault::BadNumber.at(place));
     };
     let payload = payload(alloc, parts.payload, place)?;

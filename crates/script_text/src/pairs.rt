@@ -3,11 +3,11 @@
 ghost use Rattle.std.specs.Prelude.{◌≡◌, ◌*◌, true, ◌&&◌, length, nat_le, nat_eq, ◌%◌, IfOk};
 ghost use Rattle.media_items.specs.Inputs.{most_at};
 ghost use Rattle.sample_codecs.specs.L16.{samples_of};
-ghost use Rattle.script_text.specs.Words.{Gives};
+ghost use Rattle.desk_text.specs.Words.{Gives};
 ghost use Rattle.script_text.specs.ItemLines.{is_sound, samples_or, samples_at, pair_numbers, numbers_or, numbers_at};
 
-use crate::fault::{Fault, ParseFault};
 use crate::packet::octets;
+use desk_text::{Fault, ParseFault};
 use sample_codecs::decode_l16;
 use std::alloc::{AllocError, Allocator};
 

@@ -1,98 +1,17 @@
-//! What is printed for replies and for what goes out.
+//! What is printed for what goes out.
 
 ghost use Rattle.std.specs.Prelude.{◌≡◌, ◌+◌, ◌<◌, [], ◌∷◌, ◌++◌, codes, length, map, OnOk, OnErr};
 ghost use Rattle.std.specs.Prelude.{vec_len, vec_capacity};
-ghost use Rattle.script_text.specs.declared.value.Value.TheVariants.{U16, U32, U64};
-ghost use Rattle.script_text.specs.Text.{fixed, value, hex, line_text, told_words, reason_words, reply_text};
-ghost use Rattle.script_text.specs.Text.{refused_text, head_words, media_words, source_words, loss_words, sent_text};
-ghost use Rattle.script_text.specs.inner.Shown.{said};
-ghost use Rattle.desk_edit.specs.Told.{told_in};
+ghost use Rattle.desk_text.specs.declared.value.Value.TheVariants.{U16, U32};
+ghost use Rattle.desk_text.specs.Text.{fixed, value, hex, line_text};
+ghost use Rattle.desk_text.specs.Shown.{said};
+ghost use Rattle.script_text.specs.SentLines.{head_words, media_words, source_words, loss_words, sent_text};
 ghost use Rattle.bridge_core.specs.Sent.{sent_of};
 
-use crate::appending::{Word, print_line};
-use crate::value::Value;
-use bridge_core::{Egress, LossNote, Reply};
-use desk_edit::{Carried, Reason, RefusalRow};
+use bridge_core::{Egress, LossNote};
+use desk_text::{Value, Word, print_line};
 use rtp_codec::Address;
 use std::alloc::{AllocError, Allocator};
-
-/// Appends the line of a reply. On out of memory, the only error, nothing changes.
-pub fn print_reply<A: Allocator>(reply: &Reply, out: &mut Vec<u8, A>) -> Result<(), AllocError>
-    ensures ok { OnOk result (out.new.items ≡ out.old.items ++ reply_text reply.now) }
-    ensures err { OnErr result (out.new.items ≡ out.old.items) }
-    ensures full { OnErr result (vec_capacity out.old < vec_len out.old + length (reply_text reply.now)) }
-{
-    match *reply {
-        Reply::Accepted { no } => print_line(b"ok", &[Word::Value(Value::U64(no))], out),
-        Reply::Refused { at, why } => print_refused(at, why.told(), out),
-    }
-}
-
-/// Appends the line of a call that is refused at this version: the refusal's number, its name, and what it carries. On
-/// out of memory, the only error, nothing changes.
-pub fn print_refused<A: Allocator>(
-    at: u64,
-    row: RefusalRow,
-    out: &mut Vec<u8, A>,
-) -> Result<(), AllocError>
-    ensures ok { OnOk result (out.new.items ≡ out.old.items ++ refused_text at (told_in row)) }
-    ensures err { OnErr result (out.new.items ≡ out.old.items) }
-    ensures full { OnErr result (vec_capacity out.old < vec_len out.old + length (refused_text at (told_in row))) }
-{
-    let at = Word::Value(Value::U64(at));
-    let number = Word::Value(Value::U16(row.number));
-    let name = Word::Fixed(row.name);
-    match row.carried {
-        Carried::Nothing => print_line(b"no", &[at, number, name], out),
-        Carried::Limit(table, limit) => {
-            let table = Word::Fixed(table.text());
-            let limit = Word::Value(Value::U32(limit));
-            print_line(b"no", &[at, number, name, table, limit], out)
-        }
-        Carried::Last(last) => {
-            let last = Word::Value(Value::U64(last));
-            print_line(b"no", &[at, number, name, last], out)
-        }
-        Carried::Most(limit) => {
-            let limit = Word::Value(Value::U32(limit));
-            print_line(b"no", &[at, number, name, limit], out)
-        }
-        Carried::Part(part, why) => {
-            let part = Word::Value(Value::U32(part));
-            print_part([at, number, name, part], why, out)
-        }
-    }
-}
-
-/// Appends the line of a refused group: these words, and then the reason against one of its commands.
-fn print_part<A: Allocator>(
-    words: [Word<'_>; 4],
-    why: Reason,
-    out: &mut Vec<u8, A>,
-) -> Result<(), AllocError>
-    ensures ok { OnOk result (out.new.items ≡ out.old.items
-        ++ line_text (fixed (codes "no") ∷ map said words.entry ++ reason_words why)) }
-    ensures err { OnErr result (out.new.items ≡ out.old.items) }
-    ensures full { OnErr result (vec_capacity out.old
-        < vec_len out.old + length (line_text (fixed (codes "no") ∷ map said words.entry ++ reason_words why))) }
-{
-    let [at, number, name, part] = words;
-    let row = why.refusal().told();
-    let reason = Word::Value(Value::U16(row.number));
-    let text = Word::Fixed(row.name);
-    match why {
-        Reason::Full { table, limit } => {
-            let table = Word::Fixed(table.text());
-            let limit = Word::Value(Value::U32(limit));
-            print_line(
-                b"no",
-                &[at, number, name, part, reason, text, table, limit],
-                out,
-            )
-        }
-        _ => print_line(b"no", &[at, number, name, part, reason, text], out),
-    }
-}
 
 /// The words that stand first of what goes out: the version, the number of the item in its lane, and an
 /// address.

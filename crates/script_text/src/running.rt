@@ -1,10 +1,10 @@
 //! A run over a source and a sink.
 
 ghost use Rattle.std.specs.Prelude.{◌≡◌, ◌≢◌, ◌⊎◌, ℕ, ◌^◌, ◌<◌, ◌≤◌, length, IfSome, IfOk};
+ghost use Rattle.desk_text.specs.Lines.{lines_of};
+ghost use Rattle.desk_text.specs.declared.fault.Fault.{Fault};
 ghost use Rattle.script_text.specs.Decodings.{Decoding, DecodesLines, InEachDecoding};
-ghost use Rattle.script_text.specs.Lines.{lines_of};
 ghost use Rattle.script_text.specs.Output.{output_of, RunEnds};
-ghost use Rattle.script_text.specs.declared.fault.Fault.{Fault};
 ghost use Rattle.script_text.specs.inner.Steps.{IsOpening, IsMidLine};
 
 use crate::fault::RunFault;

@@ -5,11 +5,12 @@ ghost use Rattle.std.specs.Str.Lines.{strip_carriage_return};
 
 use crate::answer::answer;
 use crate::beginning::begun;
-use crate::fault::{Fault, RunFault};
+use crate::fault::RunFault;
 use crate::line::is_past;
 use crate::sink::TextSink;
 use bridge_core::{Core, Settings};
 use bytes::Bytes;
+use desk_text::Fault;
 use std::alloc::{AllocError, Allocator, Global};
 use std::marker::Model;
 

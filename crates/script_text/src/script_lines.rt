@@ -4,8 +4,7 @@ ghost use Rattle.std.specs.Prelude.{◌≡◌, ◌+◌, ◌<◌, [], ◌∷◌, 
 ghost use Rattle.std.specs.Prelude.{vec_len, vec_capacity};
 ghost use Rattle.script_text.specs.Requests.{rx_line, wait_line, tick_line, report_line};
 
-use crate::appending::{Word, print_line};
-use crate::value::Value;
+use desk_text::{Value, Word, print_line};
 use rtp_codec::Address;
 use std::alloc::{AllocError, Allocator};
 

@@ -11,17 +11,17 @@ use Rattle.desk_edit.specs.declared.command.Command.{Command}
 use Rattle.desk_edit.specs.declared.command.Command.TheVariants as commands
 use Rattle.desk_edit.specs.Asked.{CallOf}
 use Rattle.desk_edit.specs.Asked.CallOf.{Apply, Group, Undo, Redo}
-use Rattle.script_text.specs.declared.fault.Fault.{Fault}
-use Rattle.script_text.specs.Kinds.{codec_text, media_text}
-use Rattle.script_text.specs.Lines.{limit_of}
-use Rattle.script_text.specs.Words.{words_of}
-use Rattle.script_text.specs.Values.{value_text}
-use Rattle.script_text.specs.Calls.{name_text, fields_of, command_words, IsCommand, slash, group_words, AreCommands}
-use Rattle.script_text.specs.Calls.{call_words, IsCall}
-use Rattle.script_text.specs.Requests.{Request, Desk, is_printable, line_request, words_request, desk_words, desk_line}
+use Rattle.desk_text.specs.declared.fault.Fault.{Fault}
+use Rattle.desk_text.specs.Kinds.{codec_text, media_text}
+use Rattle.desk_text.specs.Lines.{limit_of, is_printable}
+use Rattle.desk_text.specs.Words.{words_of}
+use Rattle.desk_text.specs.Values.{value_text}
+use Rattle.desk_text.specs.Calls.{name_text, fields_of, command_words, IsCommand, slash, group_words, AreCommands}
+use Rattle.desk_text.specs.Calls.{call_words, IsCall}
+use Rattle.desk_text.proofs.Joined.{parts_joined}
+use Rattle.script_text.specs.Requests.{Request, Desk, line_request, words_request, desk_words, desk_line}
 use Rattle.script_text.specs.ItemLines.{later_request, request_of}
-use Rattle.script_text.proofs.Joined.{parts_joined}
-use Rattle.script_text.proofs.CallLaws.{desk_again}
+use Rattle.script_text.proofs.DeskLaws.{desk_again}
 use Rattle.trace_laws.proofs.VisibleLemmas.{IsWord, AreWords, is_visible, visible_test, visible_number, visible_address}
 use Rattle.trace_laws.proofs.VisibleLemmas.{word_free, words_free, line_printable}
 

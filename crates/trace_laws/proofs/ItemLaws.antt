@@ -14,23 +14,22 @@ use Rattle.sample_codecs.specs.L16.{octets_of}
 use Rattle.media_items.specs.Frame.{SourceFrame}
 use Rattle.media_items.specs.Inputs.{Input, Sound, Request as Asked, Told, Loss}
 use Rattle.media_items.specs.Inputs.Input.{frame, audio, tick, nack, block, pli, report, renew}
-use Rattle.script_text.specs.declared.fault.Fault.{Fault}
-use Rattle.script_text.specs.Lines.{limit_of}
-use Rattle.script_text.specs.Words.{words_of}
-use Rattle.script_text.specs.Numbers.{FitsExt}
-use Rattle.script_text.specs.Values.{AllFit, values_of}
+use Rattle.desk_text.specs.declared.fault.Fault.{Fault}
+use Rattle.desk_text.specs.Lines.{limit_of, is_printable}
+use Rattle.desk_text.specs.Words.{words_of}
+use Rattle.desk_text.specs.Numbers.{FitsExt, pairs_octets}
+use Rattle.desk_text.specs.Values.{AllFit, values_of}
+use Rattle.desk_text.proofs.NumberLemmas.{read}
+use Rattle.desk_text.proofs.AddressLemmas.{address_again}
+use Rattle.desk_text.proofs.ExtLemmas.{ext_read}
+use Rattle.desk_text.proofs.ValueLaws.{values_again}
+use Rattle.desk_text.proofs.Joined.{parts_joined}
 use Rattle.script_text.specs.Packets.{packet_text, AllReadable, source_packets_of}
-use Rattle.script_text.specs.Requests.{Request, Item, some_packets, frame_of, front_values, IsFrame, is_printable}
-use Rattle.script_text.specs.Requests.{line_request}
+use Rattle.script_text.specs.Requests.{Request, Item, some_packets, frame_of, front_values, IsFrame, line_request}
 use Rattle.script_text.specs.ItemLines.{item_word, spelt_sound, nack_of, block_of, of_24_bits, within_24_bits, lost_of}
-use Rattle.script_text.specs.ItemLines.{item_request, later_request, request_of, end_values, block_words, pairs_octets}
+use Rattle.script_text.specs.ItemLines.{item_request, later_request, request_of, end_values, block_words}
 use Rattle.script_text.specs.ItemLines.{input_words, item_line}
-use Rattle.script_text.proofs.NumberLemmas.{read}
-use Rattle.script_text.proofs.AddressLemmas.{address_again}
-use Rattle.script_text.proofs.ExtLemmas.{ext_read}
-use Rattle.script_text.proofs.ValueLaws.{values_again}
 use Rattle.script_text.proofs.PacketLaws.{packet_read}
-use Rattle.script_text.proofs.Joined.{parts_joined}
 use Rattle.trace_laws.specs.Items.{IsAudio, IsNack, IsBlock, IsInput}
 use Rattle.trace_laws.proofs.VisibleLemmas.{IsWord, AreWords, visible_test, visible_number, visible_signed, visible_hex}
 use Rattle.trace_laws.proofs.VisibleLemmas.{visible_ends, visible_front, visible_packets, word_free, words_free}

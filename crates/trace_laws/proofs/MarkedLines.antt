@@ -7,13 +7,13 @@ use Rattle.std.specs.Str.Lines.{strip_carriage_return}
 use Rattle.std.proofs.lemmas.Bool.{and_parts, and_from}
 use Rattle.upward.specs.Upstream.{Asker}
 use Rattle.media_workers.specs.LaneRuns.{Versioned}
-use Rattle.script_text.specs.Lines.{parts_of, lines_by, ended, ended_lines}
-use Rattle.script_text.specs.Requests.{is_printable, desk_line}
+use Rattle.desk_text.specs.Lines.{parts_of, lines_by, ended, ended_lines, is_printable}
+use Rattle.desk_text.proofs.Cuts.{parts_some}
+use Rattle.desk_text.specs.HistoryText.{called_line}
+use Rattle.script_text.specs.Requests.{desk_line}
 use Rattle.script_text.specs.ItemLines.{item_line, item_text}
-use Rattle.script_text.specs.FirstLine.{bridge_line}
-use Rattle.script_text.proofs.Cuts.{parts_some}
 use Rattle.call_history.specs.AcceptedCall.{AcceptedOf}
-use Rattle.call_text.specs.HistoryText.{called_line}
+use Rattle.script_text.specs.FirstLine.{bridge_line}
 use Rattle.trace_text.specs.TraceLines.{mark_of, marked, first_line, calls_text}
 use Rattle.trace_text.specs.declared.speaker.Speaker.TheVariants.{Front, Lane}
 use Rattle.trace_scripts.specs.Scripts.{item_done, between, script_lines}

@@ -13,8 +13,8 @@ use Rattle.hex.specs.Hex.{IsBytes, encode_lower}
 use Rattle.hex.proofs.HexLemmas.{decode_of-encode_lower}
 use Rattle.sample_codecs.specs.L16.{sample_of, samples_of, octets_of}
 use Rattle.media_items.specs.Inputs.{Sound, is_audio_rate, most_at}
-use Rattle.script_text.specs.ItemLines.{clock_of, samples_at, pair_numbers}
-use Rattle.script_text.specs.ItemLines.{pairs_octets, numbers_at}
+use Rattle.desk_text.specs.Numbers.{pairs_octets}
+use Rattle.script_text.specs.ItemLines.{clock_of, samples_at, pair_numbers, numbers_at}
 use Rattle.trace_laws.specs.Items.{IsAudio}
 
 -- ---- numbers of 16 bits, two octets each

@@ -6,16 +6,16 @@ use Rattle.std.specs.List.{list_all, AllByRecursion}
 use Rattle.std.specs.Str.Lines.{strip_carriage_return}
 use Rattle.std.proofs.lemmas.Bool.{and_parts, leb-true, ne_eqb}
 use Rattle.media_workers.specs.LaneRuns.{Versioned}
-use Rattle.script_text.specs.Lines.{parts_of, lines_by, whole, lines_of}
-use Rattle.script_text.specs.Requests.{Request, Nothing, Item, is_printable, line_request, desk_line}
+use Rattle.desk_text.specs.Lines.{parts_of, lines_by, whole, lines_of, is_printable}
+use Rattle.desk_text.proofs.Joined.{Free}
+use Rattle.desk_text.proofs.Cuts.{parts_some}
+use Rattle.desk_text.specs.HistoryText.{said_by, called_line}
+use Rattle.script_text.specs.Requests.{Request, Nothing, Item, line_request, desk_line}
 use Rattle.script_text.specs.ItemLines.{request_of, item_line, item_text}
 use Rattle.script_text.specs.FirstLine.{request_at}
-use Rattle.script_text.specs.Scripts.{requests_from}
-use Rattle.script_text.proofs.Joined.{Free}
-use Rattle.script_text.proofs.Cuts.{parts_some}
 use Rattle.call_history.specs.AcceptedCall.{AcceptedOf}
-use Rattle.call_text.specs.HistoryText.{said_by, called_line}
-use Rattle.call_text.proofs.LineLemmas.{desk_joined}
+use Rattle.script_text.specs.Scripts.{requests_from}
+use Rattle.script_text.proofs.DeskLaws.{desk_joined}
 use Rattle.trace_text.specs.TraceLines.{calls_text}
 use Rattle.trace_text.specs.declared.speaker.Speaker.TheVariants.{Front}
 use Rattle.trace_scripts.specs.Scripts.{item_done, between, script_lines}

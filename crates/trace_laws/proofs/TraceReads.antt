@@ -8,9 +8,9 @@ use Rattle.std.proofs.lemmas.Fmt.{length-decimal-le}
 use Rattle.std.proofs.lemmas.List.{length-append}
 use Rattle.upward.specs.Upstream.{Asker}
 use Rattle.media_workers.specs.LaneRuns.{Versioned}
-use Rattle.script_text.specs.Lines.{lines_of}
-use Rattle.script_text.specs.Words.{words_of}
-use Rattle.script_text.specs.Requests.{Request, Begin, is_printable}
+use Rattle.desk_text.specs.Lines.{lines_of, is_printable}
+use Rattle.desk_text.specs.Words.{words_of}
+use Rattle.script_text.specs.Requests.{Request, Begin}
 use Rattle.script_text.specs.FirstLine.{bridge_word, first_request, request_at, bridge_line}
 use Rattle.script_text.specs.Scripts.{requests_from, requests_of}
 use Rattle.script_text.proofs.FirstLineLaws.{bridge_again}

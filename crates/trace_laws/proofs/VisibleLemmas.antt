@@ -10,14 +10,15 @@ use Rattle.hex.specs.Hex.{IsBytes, encode_lower, encode_with, lower_digits}
 use Rattle.rtp_codec.specs.declared.address.Address.{Address}
 use Rattle.frame_gate.specs.Frame.{SourcePacket}
 use Rattle.media_items.specs.Frame.{SourceFrame}
-use Rattle.script_text.specs.Numbers.{FitsExt}
-use Rattle.script_text.specs.Addresses.{address_text, IsAddress}
-use Rattle.script_text.specs.Values.{value_text, AllFit}
+use Rattle.desk_text.specs.Numbers.{FitsExt}
+use Rattle.desk_text.specs.Addresses.{address_text, IsAddress}
+use Rattle.desk_text.specs.Values.{value_text, AllFit}
+use Rattle.desk_text.specs.Lines.{is_printable}
+use Rattle.desk_text.proofs.NumberLemmas.{own}
+use Rattle.desk_text.proofs.Joined.{Free, AllFree}
 use Rattle.script_text.specs.Packets.{marker_text, packet_text, IsReadable, AllReadable}
-use Rattle.script_text.specs.Requests.{is_printable, front_values}
+use Rattle.script_text.specs.Requests.{front_values}
 use Rattle.script_text.specs.ItemLines.{end_values}
-use Rattle.script_text.proofs.NumberLemmas.{own}
-use Rattle.script_text.proofs.Joined.{Free, AllFree}
 
 -- an octet from 33 to 126: no space, and a line may hold it
 abbrev pub Visible : ℕ → Type 0

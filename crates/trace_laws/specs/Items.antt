@@ -5,8 +5,8 @@ use Rattle.std.specs.Int.{w16}
 use Rattle.rtcp_codec.specs.Report.{FitsBlock, FitsLost}
 use Rattle.media_items.specs.Inputs.{Input, Sound, Request, Told, is_sized}
 use Rattle.media_items.specs.Inputs.Input.{frame, audio, tick, nack, block, pli, report, renew}
-use Rattle.script_text.specs.Addresses.{IsAddress}
-use Rattle.script_text.specs.Values.{AllFit}
+use Rattle.desk_text.specs.Addresses.{IsAddress}
+use Rattle.desk_text.specs.Values.{AllFit}
 use Rattle.script_text.specs.Requests.{IsFrame}
 use Rattle.script_text.specs.ItemLines.{end_values}
 

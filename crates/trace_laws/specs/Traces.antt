@@ -7,10 +7,10 @@ use Rattle.desk_edit.specs.Reasons.{group_limit}
 use Rattle.upward.specs.Upstream.{Asker}
 use Rattle.bridge_core.specs.Sent.{Sent}
 use Rattle.media_workers.specs.LaneRuns.{Versioned}
-use Rattle.script_text.specs.Values.{last_operator}
-use Rattle.script_text.specs.Calls.{IsCall}
-use Rattle.script_text.specs.Lines.{item_limit}
-use Rattle.script_text.specs.Requests.{Request, Nothing, Begin, Desk, Item, is_printable}
+use Rattle.desk_text.specs.Values.{last_operator}
+use Rattle.desk_text.specs.Calls.{IsCall}
+use Rattle.desk_text.specs.Lines.{item_limit, is_printable}
+use Rattle.script_text.specs.Requests.{Request, Nothing, Begin, Desk, Item}
 use Rattle.script_text.specs.ItemLines.{item_line}
 use Rattle.script_text.specs.FirstLine.{IsNamed}
 use Rattle.script_text.specs.Decodings.{Decoding}

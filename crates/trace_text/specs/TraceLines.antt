@@ -2,10 +2,10 @@
 use Rattle.std.specs.Prelude.{ℕ, ◌==◌, if◌then◌else◌, List, [], ◌∷◌, ◌++◌, length, codes, decimal}
 use Rattle.std.specs.List.{flat_map}
 use Rattle.rtp_codec.specs.declared.address.Address.{Address}
-use Rattle.script_text.specs.Addresses.{address_text}
-use Rattle.script_text.specs.Requests.{rx_line}
+use Rattle.desk_text.specs.Addresses.{address_text}
+use Rattle.desk_text.specs.HistoryText.{called_line}
 use Rattle.call_history.specs.AcceptedCall.{AcceptedOf}
-use Rattle.call_text.specs.HistoryText.{called_line}
+use Rattle.script_text.specs.Requests.{rx_line}
 use Rattle.trace_text.specs.declared.speaker.Speaker.{Speaker}
 use Rattle.trace_text.specs.declared.speaker.Speaker.TheVariants.{Front, Lane}
 

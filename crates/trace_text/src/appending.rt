@@ -1,7 +1,7 @@
 //! Appending to a text.
 
 ghost use Rattle.std.specs.Prelude.{◌≡◌, ◌∷◌, ◌++◌, [], decimal, codes, OnOk};
-ghost use Rattle.script_text.specs.Addresses.{address_text};
+ghost use Rattle.desk_text.specs.Addresses.{address_text};
 ghost use Rattle.trace_text.specs.TraceLines.{mark_of, first_end, first_line, empty_line, datagram_line};
 ghost use Rattle.trace_text.specs.TraceLines.{picture_line, half_text};
 

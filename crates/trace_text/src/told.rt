@@ -2,15 +2,15 @@
 
 ghost use Rattle.std.specs.Prelude.{◌≡◌, ◌+◌, ◌-◌, ◌≤◌, ◌∷◌, ◌++◌, [], length, take, max, IfOk, OnOk};
 ghost use Rattle.media_items.specs.Inputs.{input_of};
+ghost use Rattle.desk_text.specs.HistoryText.{called_line};
 ghost use Rattle.script_text.specs.Requests.{wait_line, report_line};
 ghost use Rattle.script_text.specs.ItemLines.{item_text};
-ghost use Rattle.call_text.specs.HistoryText.{called_line};
 ghost use Rattle.trace_text.specs.TraceLines.{marked, first_line, calls_text, datagram_line, picture_line};
 
 use crate::appending::{append_datagram_line, append_first, append_mark, append_picture};
 use crate::speaker::Speaker;
 use call_history::AcceptedCall;
-use call_text::print_called;
+use desk_text::print_called;
 use media_items::Item;
 use rtp_codec::Address;
 use script_text::{append_item_line, append_report_line, append_wait_line};

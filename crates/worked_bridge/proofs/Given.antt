@@ -6,11 +6,11 @@ use Rattle.desk_edit.specs.declared.command.Call.{Call}
 use Rattle.desk_edit.specs.declared.command.Call.TheVariants as calls
 use Rattle.desk_edit.specs.Asked.{CallOf, asked_by}
 use Rattle.desk_edit.specs.Asked.CallOf.{Apply, Undo}
-use Rattle.script_text.specs.declared.fault.Fault.{Fault}
-use Rattle.script_text.specs.declared.fault.ParseFault.{ParseFault}
-use Rattle.script_text.specs.declared.fault.ParseFault.TheVariants.{OutOfMemory, Line}
-use Rattle.script_text.specs.Words.{Gives}
-use Rattle.script_text.specs.Calls.{spoken_words}
+use Rattle.desk_text.specs.declared.fault.Fault.{Fault}
+use Rattle.desk_text.specs.declared.fault.ParseFault.{ParseFault}
+use Rattle.desk_text.specs.declared.fault.ParseFault.TheVariants.{OutOfMemory, Line}
+use Rattle.desk_text.specs.Words.{Gives}
+use Rattle.desk_text.specs.Calls.{spoken_words}
 
 -- one call alone asks this
 abbrev pub Only : {A : Type 0} → Call A → CallOf → Type 0

@@ -7,11 +7,11 @@ use Rattle.std.proofs.lemmas.List.Splits.{join_with_byte-slice_split}
 use Rattle.desk_rows.specs.declared.row.Member.{Member}
 use Rattle.desk_edit.specs.declared.command.Command.TheVariants.{AddMember}
 use Rattle.desk_edit.specs.Asked.{CallOf}
-use Rattle.script_text.specs.declared.fault.Fault.{Fault}
-use Rattle.script_text.specs.declared.fault.Fault.TheVariants.{LineTooLong}
-use Rattle.script_text.specs.Lines.{line_limit}
-use Rattle.script_text.specs.Words.{words_of}
-use Rattle.script_text.specs.Calls.{command_words, SpellCommand, call_of, spoken_words, spoken_call}
+use Rattle.desk_text.specs.declared.fault.Fault.{Fault}
+use Rattle.desk_text.specs.declared.fault.Fault.TheVariants.{LineTooLong}
+use Rattle.desk_text.specs.Lines.{line_limit}
+use Rattle.desk_text.specs.Words.{words_of}
+use Rattle.desk_text.specs.Calls.{command_words, SpellCommand, call_of, spoken_words, spoken_call}
 
 abbrev Fails : {A : Type 0} → Result A (ℕ × Fault) → Type 0
 Fails (Ok x) = ⊥

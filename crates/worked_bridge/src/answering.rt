@@ -2,7 +2,8 @@
 
 ghost use Rattle.std.specs.Prelude.{◌≡◌, ◌++◌, ℕ, Some, [], codes, IfOk};
 
-use script_text::{Fault, RunFault, output};
+use desk_text::Fault;
+use script_text::{RunFault, output};
 use std::alloc::Global;
 
 /// An empty script gives nothing.

@@ -3,7 +3,8 @@
 ghost use Rattle.std.specs.Prelude.{◌≡◌, [], ◌∷◌, length};
 ghost use Rattle.worked_bridge.specs.Small.{small};
 
-use bridge_core::{Core, Reply};
+use bridge_core::Core;
+use desk_calls::Reply;
 use desk_edit::{Call, Command, Reason, Refusal};
 use desk_rows::Room;
 use std::alloc::Global;

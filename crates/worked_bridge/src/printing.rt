@@ -3,9 +3,11 @@
 ghost use Rattle.std.specs.Prelude.{◌≡◌, [], ◌∷◌, codes, pos, negsuc, IfOk, OnOk, None, Some};
 ghost use Rattle.bridge_core.specs.Sent.{Sent, sent_of};
 
-use bridge_core::{Egress, Reply};
+use bridge_core::Egress;
+use desk_calls::Reply;
 use desk_edit::{Reason, Refusal, Table};
-use script_text::{Fault, RunFault, print_egress, print_reply, status};
+use desk_text::{Fault, print_reply};
+use script_text::{RunFault, print_egress, status};
 use std::alloc::{AllocError, Global};
 
 /// The line of an accepted call.

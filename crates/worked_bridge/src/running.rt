@@ -9,7 +9,8 @@ ghost use Rattle.bridge_core.specs.Sent.{sent_of};
 ghost use Rattle.bridge_core.specs.Events.{Event, steps_of};
 ghost use Rattle.bridge_core.specs.WholeRuns.{Holds};
 
-use bridge_core::{Core, Egress, Item, Reply, Settings, the_headline};
+use bridge_core::{Core, Egress, Item, Settings, the_headline};
+use desk_calls::Reply;
 use desk_edit::Call;
 use rtp_codec::Address;
 use std::alloc::Global;

@@ -15,29 +15,32 @@ ghost use Rattle.bridge_core.specs.Sent.{Sent, sent_of};
 ghost use Rattle.bridge_core.specs.Named.{Name, firsts};
 ghost use Rattle.bridge_core.specs.Headline.{numbers};
 ghost use Rattle.bridge_core.specs.Steps.{Step, sends};
-ghost use Rattle.script_text.specs.Words.{words_of};
-ghost use Rattle.script_text.specs.Lines.{lines_of, parts_of};
-ghost use Rattle.script_text.specs.Numbers.{decimal_of, ext_of, FitsExt};
+ghost use Rattle.desk_text.specs.Words.{words_of};
+ghost use Rattle.desk_text.specs.Lines.{lines_of, parts_of};
+ghost use Rattle.desk_text.specs.Numbers.{decimal_of, ext_of, FitsExt};
+ghost use Rattle.desk_text.specs.Values.{AllFit};
+ghost use Rattle.desk_text.specs.Judged.{call_cases};
 ghost use Rattle.script_text.specs.Packets.{IsReadable, packet_text};
-ghost use Rattle.script_text.specs.Values.{AllFit};
 ghost use Rattle.script_text.specs.Requests.{IsFrame, IsDatagram, frame_line, report_line, rx_line, tick_line};
-ghost use Rattle.script_text.specs.Requests.{wait_line, wait_values};
-ghost use Rattle.script_text.specs.Requests.{Begin};
+ghost use Rattle.script_text.specs.Requests.{wait_line, wait_values, Begin};
 ghost use Rattle.script_text.specs.FirstLine.{IsNamed, bridge_line, request_at};
-ghost use Rattle.script_text.specs.Judged.{call_cases};
 ghost use Rattle.script_text.specs.Decodings.{Decoding, IsDecoded, DecodesLines};
 ghost use Rattle.script_text.specs.Scripts.{answers_of, sent_in, speaker_of, steps_of};
 ghost use Rattle.script_text.specs.Output.{output_of};
 
-use bridge_core::{Core, Egress, Reply};
+use bridge_core::{Core, Egress};
+use desk_calls::Reply;
 use desk_edit::{Call, Command};
+use desk_text::{
+    address_words, call_lines, ext_words, number_words, parse_address, parse_desk, pieces_join,
+    print_reply, refusal_words,
+};
 use hex::{decode, encode};
 use rtp_codec::Address;
 use script_text::{
-    RunFault, address_words, bridge_lines, call_lines, datagram_lines, datagrams_are_heard,
-    ext_words, frame_lines, hex_words, number_words, output, packet_words, parse_address,
-    parse_desk, pieces_join, print_egress, print_reply, refusal_words, report_lines, script_bridge,
-    script_sends, script_streams_have_no_gap, scripts_are_heard, tick_lines, wait_lines,
+    RunFault, bridge_lines, datagram_lines, datagrams_are_heard, frame_lines, hex_words, output,
+    packet_words, print_egress, report_lines, script_bridge, script_sends,
+    script_streams_have_no_gap, scripts_are_heard, tick_lines, wait_lines,
 };
 use std::alloc::{AllocError, Global};
 

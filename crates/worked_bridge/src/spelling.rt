@@ -5,7 +5,7 @@ ghost use Rattle.desk_edit.specs.Asked.{CallOf, asked_by};
 
 use desk_edit::{Call, Command};
 use desk_rows::Codec;
-use script_text::{Fault, ParseFault, parse_desk};
+use desk_text::{Fault, ParseFault, parse_desk};
 use std::alloc::Global;
 
 /// A call of an undo: its number may be the greatest, and no greater, and no word stands behind it.

@@ -7,9 +7,9 @@ ghost use Rattle.desk_edit.specs.Calls.{call_limit, CallHistory};
 ghost use Rattle.bridge_core.specs.Following.{HasCalled};
 
 use bridge_core::{
-    Core, Reply, commands_come_back, edits_lead_back, undos_and_redos_are_accepted,
-    undos_are_redone,
+    Core, commands_come_back, edits_lead_back, undos_and_redos_are_accepted, undos_are_redone,
 };
+use desk_calls::Reply;
 use desk_edit::{Call, Command};
 use std::alloc::Global;
 

@@ -5,7 +5,8 @@ ghost use Rattle.desk_rows.specs.Desk.{blank as no_rows};
 
 use crate::rooms::{Plan, commands_for, core_with, picture_of, set_gain};
 use crate::timing::{Took, Watch, least_of};
-use bridge_core::{Core, Reply};
+use bridge_core::Core;
+use desk_calls::Reply;
 use desk_edit::{Call, Command};
 use desk_rows::{Mute, Room};
 use operator_desk::{Answer, DeskBrand, DeskNames, Log, Seat, SharedDesk};

@@ -4,7 +4,8 @@ ghost use Rattle.std.specs.Prelude.{◌<◌};
 
 use crate::items::{ELSEWHERE, SEEN, UNSEEN, address_of};
 use crate::rooms::settings;
-use bridge_core::{Core, Reply};
+use bridge_core::Core;
+use desk_calls::Reply;
 use desk_edit::{Call, Command};
 use desk_rows::{Codec, DEFAULT_RATE, MUSIC_RATE, Media, Member, Room, Slot, Source, Sub};
 use std::alloc::Global;

@@ -1,8 +1,9 @@
 //! Desks with one room.
 
 use crate::items::address_of;
-use bridge_core::{Core, Reply, Settings};
+use bridge_core::{Core, Settings};
 use bytes::Bytes;
+use desk_calls::Reply;
 use desk_edit::{Call, Command};
 use desk_rows::{Codec, Floor, Gain, Media, Member, Pin, Room, Slot, Source, Sub};
 use std::alloc::{AllocError, Global};

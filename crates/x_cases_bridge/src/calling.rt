@@ -2,9 +2,10 @@
 
 use crate::lines::{Answer, MOST, first_word, unread};
 use crate::saying::{say, say_reply};
-use bridge_core::{Core, Reply};
+use bridge_core::Core;
+use desk_calls::Reply;
 use desk_edit::{Call, Refusal};
-use script_text::{ParseFault, parse_desk, print_rows};
+use desk_text::{ParseFault, parse_desk, print_rows};
 use std::io;
 use x_refusing::Refusing;
 

@@ -2,12 +2,11 @@
 
 use crate::lines::{Answer, unread};
 use crate::saying::{say, say_reply};
-use bridge_core::Reply;
-use desk_calls::Desk;
+use desk_calls::{Desk, Reply};
 use desk_edit::{Call, Refusal};
 use desk_rows::Rows;
+use desk_text::{parse_desk, print_rows};
 use reversible_rows::ReversibleRows;
-use script_text::{parse_desk, print_rows};
 use std::alloc::AllocError;
 use std::io;
 use undo_log::{Listed, Reversible};

@@ -1,8 +1,8 @@
 //! Lines to a bridge.
 
 use bridge_core::Item;
+use desk_text::parse_address;
 use rtp_codec::Address;
-use script_text::parse_address;
 use std::alloc::Global;
 use std::io;
 use x_refusing::Refusing;

@@ -1,9 +1,11 @@
 //! What is written for answers.
 
 use crate::lines::MOST;
-use bridge_core::{Egress, Outcome, Reply};
+use bridge_core::{Egress, Outcome};
+use desk_calls::Reply;
+use desk_text::print_reply;
 use rtp_codec::Address;
-use script_text::{print_egress, print_reply};
+use script_text::print_egress;
 use std::alloc::{AllocError, Global};
 use x_refusing::Refusing;
 

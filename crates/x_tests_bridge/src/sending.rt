@@ -4,10 +4,11 @@ ghost use Rattle.std.specs.Prelude.{◌≡◌, true};
 ghost use Rattle.std.specs.Bool.{OnTrue};
 ghost use Rattle.media_items.specs.Inputs.{input_of, is_sized};
 
-use bridge_core::{Core, Egress, Item, Reply, Settings};
+use bridge_core::{Core, Egress, Item, Settings};
 use bytes::Bytes;
+use desk_calls::Reply;
+use desk_text::{parse_address, parse_desk};
 use rtp_codec::Address;
-use script_text::{parse_address, parse_desk};
 use std::alloc::{AllocError, Global};
 use std::test::Fail;
 use udp_wire::{Wire, send_all};

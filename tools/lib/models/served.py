@@ -75,7 +75,7 @@ class Operator(socketserver.StreamRequestHandler):
         fault = fault_of_line(octets)
         if fault:
             self.says(fault)
-            return not fault.startswith("fault 0")
+            return self in self.server.taken and not fault.startswith("fault 0")
         with self.server.lock:
             free = [seat for seat in range(self.server.seats) if seat not in self.server.taken.values()]
             if self not in self.server.taken and not free:

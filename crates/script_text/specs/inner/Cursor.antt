@@ -1,6 +1,5 @@
 -- What the parser holds of a line.
-use Rattle.std.specs.Prelude.{◌≡◌, ◌≢◌, ℕ, ◌+◌, List, [], ◌∷◌, length, Option, Some, None, ◌++◌, Result, Ok, Err}
-use Rattle.std.specs.Borrow.{Bor}
+use Rattle.std.specs.Prelude.{◌≡◌, ◌≢◌, ℕ, List, [], ◌∷◌, length, Option, Some, None, ◌++◌, Result, Ok, Err}
 use Rattle.frame_gate.specs.Frame.{SourcePacket}
 use Rattle.media_items.specs.Frame.{SourceFrame}
 use Rattle.desk_edit.specs.Asked.{asked_by}
@@ -8,21 +7,16 @@ use Rattle.upward.specs.Upstream.{Asker}
 use Rattle.intake.specs.declared.settings.Settings.{Settings}
 use Rattle.media_items.specs.Inputs.{input_of}
 use Rattle.media_items.specs.Inputs.Input.{frame, tick}
-use Rattle.script_text.specs.declared.fault.ParseFault.{ParseFault}
+use Rattle.desk_text.specs.declared.fault.ParseFault.{ParseFault}
+use Rattle.desk_text.specs.Words.{Fails}
 use Rattle.script_text.specs.declared.packet.Parts.{Parts}
 use Rattle.script_text.specs.declared.framing.FrameHead.{FrameHead}
 use Rattle.script_text.specs.declared.handed_item.HandedItem.{HandedItem}
 use Rattle.script_text.specs.declared.bridge_line.BridgeLine.{BridgeLine}
 use Rattle.script_text.specs.declared.line.Line.{Line}
 use Rattle.script_text.specs.declared.line.Line.TheVariants as lines
-use Rattle.script_text.specs.Words.{Fails, words_of}
 use Rattle.script_text.specs.Packets.{packet_of}
 use Rattle.script_text.specs.Requests.{Request, Nothing, Begin, Desk, Item, Rx, Wait, Report, Show}
-
--- the words that are left of a line, where nothing is left once the last was taken
-abbrev pub words_in : Option (Bor (List ℕ)) → List (List ℕ)
-words_in None = []
-words_in (Some text) = words_of text.now
 
 -- who speaks by these settings
 abbrev pub asker_in : {A : Type 0} → Settings A → Asker
@@ -63,11 +57,6 @@ sighting h packets = record {
 abbrev pub are_parts : Option Parts → List (List ℕ) → Type 0
 are_parts (Some p) parts = parts ≡ p.ext.now ∷ p.marker.now ∷ p.pt.now ∷ p.payload.now ∷ []
 are_parts None parts = length parts ≢ 4
-
--- how many octets are left of a line, the space before them included
-abbrev pub size_of : Option (Bor (List ℕ)) → ℕ
-size_of None = 0
-size_of (Some text) = length text.now + 1
 
 -- the packet that the word at this place spells stands behind the others, or its fault was told
 abbrev pub TakesPacket : ℕ → List ℕ → List SourcePacket → List SourcePacket → Result (Unit {0}) ParseFault → Type 0

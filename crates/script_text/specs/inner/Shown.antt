@@ -1,35 +1,8 @@
--- Words as the code holds them, without where they lie in memory.
-use Rattle.std.specs.Prelude.{ℕ, ℤ, Bool, List, [], ◌∷◌, ◌++◌, codes, decimal, if◌then◌else◌}
-use Rattle.std.specs.Fmt.{signed_decimal}
-use Rattle.hex.specs.Hex.{encode_lower}
-use Rattle.sample_codecs.specs.L16.{octets_of}
+-- The words of packets, as they are appended.
 use Rattle.frame_gate.specs.Frame.{SourcePacket}
-use Rattle.script_text.specs.Packets.{packet_text}
-use Rattle.script_text.specs.ItemLines.{pairs_octets}
-use Rattle.script_text.specs.declared.appending.Word.{Word as Held}
-use Rattle.script_text.specs.declared.appending.Word.TheVariants as words
-use Rattle.script_text.specs.Text.{Word, fixed, value, signed, hex}
-
--- a marker between slashes
-abbrev pub slashed : Bool → List ℕ
-slashed marker = if marker then codes "/1/" else codes "/0/"
-
--- a packet, as its parts are appended
-abbrev pub spelt_packet : (ext : ℤ) → (marker : Bool) → (pt : ℕ) → (payload : List ℕ) → List ℕ
-spelt_packet ext marker pt payload =
-    (signed_decimal ext ++ slashed marker) ++ ((decimal pt ++ 47 ∷ []) ++ encode_lower payload)
+use Rattle.desk_text.specs.Text.{Word, fixed}
+use Rattle.desk_text.specs.Shown.{spelt_packet}
 
 -- the word of a packet
 abbrev pub packet_word : SourcePacket → Word
 packet_word p = fixed (spelt_packet p.ext p.marker p.pt p.payload)
-
--- a word
-abbrev pub said : Held → Word
-said (words.Fixed text) = fixed text.now
-said (words.Value v) = value v
-said (words.Signed n) = signed n
-said (words.Hex octets) = hex octets.now
-said (words.Parts first rest) = hex (first.now ++ rest.now)
-said (words.Samples samples) = hex (octets_of samples.now)
-said (words.Numbers numbers) = hex (pairs_octets numbers.now)
-said (words.Packet ext marker pt payload) = fixed (spelt_packet ext marker pt payload.now)

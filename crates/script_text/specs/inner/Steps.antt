@@ -6,17 +6,17 @@ use Rattle.std.specs.Io.KnownBytes.{Appends}
 use Rattle.desk_edit.specs.declared.refusal.Refusal.TheVariants.{OutOfMemory}
 use Rattle.media_items.specs.Inputs.{Input}
 use Rattle.intake.specs.Intakes.{Knows}
-use Rattle.bridge_core.specs.declared.reply.Reply.{Reply}
-use Rattle.bridge_core.specs.declared.reply.Reply.TheVariants.{Refused}
+use Rattle.desk_calls.specs.declared.reply.Reply.{Reply}
+use Rattle.desk_calls.specs.declared.reply.Reply.TheVariants.{Refused}
 use Rattle.bridge_core.specs.Following.{HasCalled}
 use Rattle.bridge_core.specs.Steps.{CoreOf, HasTaken}
+use Rattle.desk_text.specs.Lines.{lines_by, whole, ended, parts_of}
 use Rattle.script_text.specs.declared.fault.RunFault.{RunFault}
 use Rattle.script_text.specs.declared.fault.RunFault.TheVariants as errors
 use Rattle.script_text.specs.Requests.{Request}
 use Rattle.script_text.specs.FirstLine.{request_at}
 use Rattle.script_text.specs.Decodings.{Decoding, DecodesRequest, DecodesLines}
-use Rattle.script_text.specs.Lines.{lines_by, whole, ended, parts_of}
-use Rattle.script_text.specs.Text.{sent_text}
+use Rattle.script_text.specs.SentLines.{sent_text}
 use Rattle.script_text.specs.Bridge.{Bridge, first_desk, opening_bridge, answer_text, bridge_after}
 use Rattle.script_text.specs.Bridge.{item_sent, after_item, items_sent, items_text, after_items}
 use Rattle.script_text.specs.Output.{RunOutput, told, stopped, outcome_of, IsPrefixOf, IsCutOf}

@@ -2,7 +2,7 @@ use Rattle.std.proofs.Common.{List, ◌∙◌, ◌++◌, ap, map}
 use Rattle.std.specs.List.{flat_map}
 use Rattle.media_items.specs.Inputs.{input_of}
 use Rattle.bridge_core.specs.Sent.{Sent, sent_of}
-use Rattle.script_text.specs.Text.{sent_text}
+use Rattle.script_text.specs.SentLines.{sent_text}
 use Rattle.script_text.proofs.BridgeLemmas.{item_answered, on_ok}
 use Rattle.script_text.proofs.answer.answer_item.Goals as goal
 

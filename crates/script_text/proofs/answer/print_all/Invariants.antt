@@ -1,7 +1,7 @@
 use Rattle.std.proofs.Common.{◌≡◌, ◌++◌, map, take}
 use Rattle.std.specs.List.{flat_map}
 use Rattle.bridge_core.specs.Sent.{sent_of}
-use Rattle.script_text.specs.Text.{sent_text}
+use Rattle.script_text.specs.SentLines.{sent_text}
 use Rattle.script_text.proofs.answer.print_all.Given as goal
 
 -- the lines of what went out so far stand behind what stood before

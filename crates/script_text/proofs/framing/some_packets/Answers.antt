@@ -1,7 +1,7 @@
 use Rattle.std.proofs.Common.{List, ℕ, Result, subst}
 use Rattle.frame_gate.specs.Frame.{SourcePacket}
-use Rattle.script_text.specs.declared.fault.Fault.{Fault}
-use Rattle.script_text.specs.Words.{Gives}
+use Rattle.desk_text.specs.declared.fault.Fault.{Fault}
+use Rattle.desk_text.specs.Words.{Gives}
 use Rattle.script_text.proofs.PacketLemmas.{some_same}
 use Rattle.script_text.proofs.framing.some_packets.Goals as goal
 

@@ -3,9 +3,10 @@ use Rattle.std.proofs.Common.{vec_capacity, ℕ, List, ap, ◌∙◌, subst, ari
 use Rattle.std.proofs.lemmas.List.{take_all}
 use Rattle.frame_gate.specs.Frame.{SourcePacket}
 use Rattle.media_items.specs.Frame.{SourceFrame}
-use Rattle.script_text.specs.Text.{Word, fixed, value, line_text}
+use Rattle.desk_text.specs.Text.{Word, fixed, value, line_text}
+use Rattle.desk_text.specs.Shown.{said}
 use Rattle.script_text.specs.Requests.{front_values}
-use Rattle.script_text.specs.inner.Shown.{said, packet_word}
+use Rattle.script_text.specs.inner.Shown.{packet_word}
 use Rattle.script_text.proofs.ItemTextLemmas.{frame_told}
 use Rattle.script_text.proofs.item_text.append_frame.Goals as goal
 

@@ -1,5 +1,6 @@
 use Rattle.std.proofs.Common.{◌≡◌, ◌+◌, ◌++◌, length, map, take}
-use Rattle.script_text.specs.inner.Shown.{said, packet_word}
+use Rattle.desk_text.specs.Shown.{said}
+use Rattle.script_text.specs.inner.Shown.{packet_word}
 use Rattle.script_text.proofs.item_text.push_packets.Given as goal
 
 -- the words so far

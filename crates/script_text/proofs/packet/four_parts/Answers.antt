@@ -1,4 +1,4 @@
-use Rattle.script_text.proofs.Cuts.{one_part, two_parts, three_parts, four_parts, many_parts}
+use Rattle.desk_text.proofs.Cuts.{one_part, two_parts, three_parts, four_parts, many_parts}
 use Rattle.script_text.proofs.packet.four_parts.Goals as goal
 
 pub returns-in_default : goal.returns-in_default

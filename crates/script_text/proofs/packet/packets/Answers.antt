@@ -1,5 +1,5 @@
 use Rattle.std.proofs.Common.{arith}
-use Rattle.script_text.specs.inner.Cursor.{words_in}
+use Rattle.desk_text.specs.Words.{words_in}
 use Rattle.script_text.proofs.PacketLemmas.{goes_on, fails_on, ends}
 use Rattle.script_text.proofs.packet.packets.Goals as goal
 

@@ -1,5 +1,5 @@
 use Rattle.std.proofs.Common.{◌≡◌, ◌+◌, ◌≤◌}
-use Rattle.script_text.specs.inner.Cursor.{words_in, size_of}
+use Rattle.desk_text.specs.Words.{words_in, size_of}
 use Rattle.script_text.specs.Packets.{source_packets_of}
 use Rattle.script_text.proofs.PacketLemmas.{behind}
 use Rattle.script_text.proofs.packet.packets.Given as goal

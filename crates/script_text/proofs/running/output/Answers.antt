@@ -1,4 +1,4 @@
-use Rattle.script_text.specs.Lines.{lines_of}
+use Rattle.desk_text.specs.Lines.{lines_of}
 use Rattle.script_text.proofs.HeardLaws.{on_wires}
 use Rattle.script_text.proofs.running.output.Goals as goal
 

@@ -1,7 +1,7 @@
 use Rattle.std.proofs.Common.{◌≡◌, ◌+◌, ◌*◌, ◌≤◌, List, ℕ, Some}
+use Rattle.desk_text.specs.Lines.{lines_of}
 use Rattle.script_text.proofs.RunLemmas.{SoFar}
 use Rattle.script_text.specs.Decodings.{Decoding, DecodesLines}
-use Rattle.script_text.specs.Lines.{lines_of}
 use Rattle.script_text.specs.inner.Steps.{IsMidLine}
 use Rattle.script_text.proofs.running.run_with.Given as goal
 

@@ -1,9 +1,9 @@
 use Rattle.std.proofs.Common.{ℕ, List, ◌++◌, take, get_or, sym, ap, append_assoc, ◌∙◌}
 use Rattle.std.proofs.lemmas.List.{append-nil, take_all}
 use Rattle.std.specs.List.{flat_map}
-use Rattle.script_text.proofs.RowLemmas.{one_more}
+use Rattle.desk_text.proofs.RowLemmas.{one_more}
 use Rattle.call_history.specs.AcceptedCall.{AcceptedOf}
-use Rattle.call_text.specs.HistoryText.{called_line}
+use Rattle.desk_text.specs.HistoryText.{called_line}
 use Rattle.trace_text.specs.TraceLines.{marked, calls_text}
 use Rattle.trace_text.proofs.told.append_calls.Goals as goal
 

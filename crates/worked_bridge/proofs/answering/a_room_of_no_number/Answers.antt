@@ -1,9 +1,9 @@
 use Rattle.std.proofs.Common.{rules}
+use Rattle.desk_text.specs.Calls.{call_of, command_of, single}
+use Rattle.desk_text.specs.Values.{values_of}
 use Rattle.script_text.specs.Output.{outcome_of}
 use Rattle.script_text.specs.Requests.{line_request, words_request}
 use Rattle.script_text.specs.FirstLine.{first_request}
-use Rattle.script_text.specs.Calls.{call_of, command_of, single}
-use Rattle.script_text.specs.Values.{values_of}
 use Rattle.worked_bridge.proofs.Wires.{on_no_wire}
 use Rattle.worked_bridge.proofs.answering.a_room_of_no_number.Goals as goal
 

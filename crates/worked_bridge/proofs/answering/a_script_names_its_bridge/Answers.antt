@@ -2,11 +2,11 @@ use Rattle.std.specs.Fmt.{digits}
 use Rattle.desk_edit.specs.Commands.{desk_after}
 use Rattle.desk_edit.specs.Calls.{after_call}
 use Rattle.desk_edit.specs.Refusals.{refused}
+use Rattle.desk_text.specs.Calls.{call_of, command_of, single}
+use Rattle.desk_text.specs.Values.{values_of}
 use Rattle.script_text.specs.Output.{outcome_of}
 use Rattle.script_text.specs.Requests.{line_request, words_request}
 use Rattle.script_text.specs.FirstLine.{first_request, bridge_of}
-use Rattle.script_text.specs.Calls.{call_of, command_of, single}
-use Rattle.script_text.specs.Values.{values_of}
 use Rattle.worked_bridge.proofs.Wires.{no_wire}
 use Rattle.worked_bridge.proofs.answering.a_script_names_its_bridge.Goals as goal
 

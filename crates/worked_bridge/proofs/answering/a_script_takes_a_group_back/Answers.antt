@@ -2,11 +2,11 @@ use Rattle.std.specs.Fmt.{digits}
 use Rattle.desk_edit.specs.Commands.{desk_after}
 use Rattle.desk_edit.specs.Calls.{after_call}
 use Rattle.desk_edit.specs.Refusals.{reason_against}
+use Rattle.desk_text.specs.Calls.{call_of, command_of, commands_of, headed, last_of}
+use Rattle.desk_text.specs.Values.{values_of}
 use Rattle.script_text.specs.Output.{outcome_of}
 use Rattle.script_text.specs.Requests.{line_request, words_request}
 use Rattle.script_text.specs.FirstLine.{first_request}
-use Rattle.script_text.specs.Calls.{call_of, command_of, commands_of, headed, last_of}
-use Rattle.script_text.specs.Values.{values_of}
 use Rattle.worked_bridge.proofs.Wires.{no_wire}
 use Rattle.worked_bridge.proofs.answering.a_script_takes_a_group_back.Goals as goal
 

@@ -1,7 +1,7 @@
 use Rattle.std.proofs.Common.{sym, subst, ◌∙◌}
 use Rattle.desk_edit.specs.Asked.{asked_by}
-use Rattle.script_text.specs.Words.{words_of}
-use Rattle.script_text.specs.Calls.{SpellCall}
+use Rattle.desk_text.specs.Words.{words_of}
+use Rattle.desk_text.specs.Calls.{SpellCall}
 use Rattle.worked_bridge.proofs.Spoken.{spoken, same_words, member_words}
 use Rattle.worked_bridge.proofs.script_laws.a_call_without_a_rate_is_spelt_in_one_way.Goals as goal
 

@@ -1,7 +1,7 @@
 use Rattle.std.proofs.Common.{◌++◌, List, ℕ, ap, ◌∙◌, arith}
 use Rattle.std.specs.Fmt.{decimal}
-use Rattle.bridge_core.specs.declared.reply.Reply.TheVariants.{Accepted}
-use Rattle.script_text.specs.Text.{reply_text}
+use Rattle.desk_calls.specs.declared.reply.Reply.TheVariants.{Accepted}
+use Rattle.desk_text.specs.Text.{reply_text}
 use Rattle.worked_bridge.proofs.Spoken.{on_ok}
 use Rattle.worked_bridge.proofs.script_laws.reads_back_the_number_of_a_call.Goals as goal
 

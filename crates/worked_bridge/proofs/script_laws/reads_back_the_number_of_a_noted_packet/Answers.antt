@@ -1,7 +1,7 @@
 use Rattle.std.proofs.Common.{◌++◌, List, [], ◌∷◌, ℕ, pos, Some, ap, ◌∙◌}
 use Rattle.std.specs.Fmt.{digits, signed_decimal}
 use Rattle.bridge_core.specs.Sent.{Sent}
-use Rattle.script_text.specs.Text.{sent_text}
+use Rattle.script_text.specs.SentLines.{sent_text}
 use Rattle.worked_bridge.proofs.Spoken.{on_ok}
 use Rattle.worked_bridge.proofs.script_laws.reads_back_the_number_of_a_noted_packet.Goals as goal
 

@@ -1,4 +1,4 @@
-use Rattle.script_text.specs.Lines.{lines_of}
+use Rattle.desk_text.specs.Lines.{lines_of}
 use Rattle.worked_bridge.proofs.script_laws.two_scripts_have_one_wire.Goals as goal
 
 pub returns : goal.returns

@@ -3,10 +3,10 @@ use Rattle.desk_rows.specs.declared.row.Codec.TheVariants.{L16}
 use Rattle.desk_edit.specs.declared.command.Command.{Command}
 use Rattle.desk_edit.specs.declared.command.Command.TheVariants as commands
 use Rattle.desk_edit.specs.Asked.CallOf.{Apply}
-use Rattle.script_text.specs.declared.fault.Fault.TheVariants.{BadAddress, BadNumber, MissingWord}
-use Rattle.script_text.specs.Calls.{call_of, headed, last_of, single, command_of, commands_of, spoken_call}
-use Rattle.script_text.specs.Values.{values_of}
-use Rattle.script_text.specs.Addresses.{address_of, field_of}
+use Rattle.desk_text.specs.declared.fault.Fault.TheVariants.{BadAddress, BadNumber, MissingWord}
+use Rattle.desk_text.specs.Calls.{call_of, headed, last_of, single, command_of, commands_of, spoken_call}
+use Rattle.desk_text.specs.Values.{values_of}
+use Rattle.desk_text.specs.Addresses.{address_of, field_of}
 use Rattle.worked_bridge.proofs.Given.{given, refused, only_command, needs_none, add_member_is_other, add_room_is_other}
 use Rattle.worked_bridge.proofs.Given.{none_is_other}
 use Rattle.worked_bridge.proofs.spelling.spells_a_command.Goals as goal

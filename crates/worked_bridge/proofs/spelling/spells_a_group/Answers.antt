@@ -2,10 +2,10 @@ use Rattle.std.proofs.Common.{[], ◌∷◌, ap}
 use Rattle.desk_edit.specs.declared.command.Command.TheVariants.{AddRoom, RemoveRoom}
 use Rattle.desk_edit.specs.Asked.{CallOf}
 use Rattle.desk_edit.specs.Asked.CallOf.{Group}
-use Rattle.script_text.specs.declared.fault.Fault.TheVariants.{MissingWord, UnknownWord}
-use Rattle.script_text.specs.Calls.{call_of, headed, last_of, single, command_of, commands_of, spoken_call}
-use Rattle.script_text.specs.Values.{values_of}
-use Rattle.script_text.specs.Addresses.{address_of, field_of}
+use Rattle.desk_text.specs.declared.fault.Fault.TheVariants.{MissingWord, UnknownWord}
+use Rattle.desk_text.specs.Calls.{call_of, headed, last_of, single, command_of, commands_of, spoken_call}
+use Rattle.desk_text.specs.Values.{values_of}
+use Rattle.desk_text.specs.Addresses.{address_of, field_of}
 use Rattle.worked_bridge.proofs.Given.{asks, callless, faultless, told}
 use Rattle.worked_bridge.proofs.spelling.spells_a_group.Goals as goal
 

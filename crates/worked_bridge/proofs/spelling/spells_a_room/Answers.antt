@@ -1,9 +1,9 @@
 use Rattle.std.proofs.Common.{ap}
 use Rattle.desk_edit.specs.declared.command.Command.TheVariants.{AddRoom}
 use Rattle.desk_edit.specs.Asked.CallOf.{Apply}
-use Rattle.script_text.specs.declared.fault.Fault.TheVariants.{BadNumber, ExtraWord}
-use Rattle.script_text.specs.Calls.{call_of, headed, last_of, single, command_of, commands_of, spoken_call}
-use Rattle.script_text.specs.Values.{values_of}
+use Rattle.desk_text.specs.declared.fault.Fault.TheVariants.{BadNumber, ExtraWord}
+use Rattle.desk_text.specs.Calls.{call_of, headed, last_of, single, command_of, commands_of, spoken_call}
+use Rattle.desk_text.specs.Values.{values_of}
 use Rattle.worked_bridge.proofs.Given.{given, refused, only_command, needs_none, add_room_is_other}
 use Rattle.worked_bridge.proofs.spelling.spells_a_room.Goals as goal
 

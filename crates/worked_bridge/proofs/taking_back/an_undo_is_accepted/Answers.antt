@@ -1,6 +1,6 @@
 use Rattle.std.proofs.Common.{◌+◌, ℕ, [], ◌∷◌, refl, subst}
 use Rattle.desk_edit.specs.Asked.CallOf.{Undo}
-use Rattle.bridge_core.specs.declared.reply.Reply.TheVariants.{Accepted}
+use Rattle.desk_calls.specs.declared.reply.Reply.TheVariants.{Accepted}
 use Rattle.bridge_core.specs.Calls.{Answers}
 use Rattle.bridge_core.specs.UndoRuns.{UndoesInARow}
 use Rattle.worked_bridge.proofs.Answered.{only}

@@ -1,7 +1,7 @@
 use Rattle.std.proofs.Common.{◌≡◌, ◌+◌, ◌≤◌, ℕ, [], ◌∷◌, refl, ap, subst, ◌∙◌, arith}
 use Rattle.desk_edit.specs.Asked.CallOf.{Redo, Undo}
-use Rattle.bridge_core.specs.declared.reply.Reply.{Reply}
-use Rattle.bridge_core.specs.declared.reply.Reply.TheVariants.{Accepted}
+use Rattle.desk_calls.specs.declared.reply.Reply.{Reply}
+use Rattle.desk_calls.specs.declared.reply.Reply.TheVariants.{Accepted}
 use Rattle.bridge_core.specs.Calls.{Answers}
 use Rattle.desk_edit.specs.Calls.{call_limit}
 use Rattle.bridge_core.specs.UndoRuns.{RedoesInARow, UndoesInARow}

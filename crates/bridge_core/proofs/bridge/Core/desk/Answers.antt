@@ -1,7 +1,7 @@
 use Rattle.std.proofs.Common.{◌≡◌, ◌+◌, [], refl, sym, ap, subst, ◌∙◌}
 use Rattle.desk_calls.specs.Desk.{DeskOf}
 use Rattle.desk_edit.specs.Asked.{asked_by}
-use Rattle.bridge_core.specs.declared.reply.Reply.TheVariants.{Accepted, Refused}
+use Rattle.desk_calls.specs.declared.reply.Reply.TheVariants.{Accepted, Refused}
 use Rattle.bridge_core.specs.Steps.{CoreOf, Step, Takes}
 use Rattle.bridge_core.specs.Calls.{Answers}
 use Rattle.bridge_core.specs.Following.{HasCalled}

@@ -1,9 +1,0 @@
-use Rattle.std.proofs.Common.{ap, ◌∙◌}
-use Rattle.script_text.specs.Words.{words_of}
-use Rattle.script_text.specs.Requests.{words_request}
-use Rattle.call_text.proofs.LineLemmas.{desk_joined}
-use Rattle.call_text.proofs.laws.made_lines_are_read.Goals as goal
-
-pub returns : goal.returns
-returns c m few fits =
-    ap (λ t. words_request (words_of t)) (desk_joined m) ∙ c.call_lines.ensures.desk_read m.op m.call few fits

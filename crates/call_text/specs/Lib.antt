@@ -1,3 +1,0 @@
-pub mod HistoryText
-pub mod NewsText
-pub mod inner

@@ -1,0 +1,17 @@
+pub mod Cuts
+pub mod PartLemmas
+pub mod GroupLemmas
+pub mod ValueSteps
+pub mod RateLemmas
+pub mod NumberLemmas
+pub mod AddressLemmas
+pub mod Joined
+pub mod ValueLaws
+pub mod CommandLaws
+pub mod GroupLaws
+pub mod CallLaws
+pub mod ExtLemmas
+pub mod JudgedLaws
+pub mod GrowLemmas
+pub mod RowLemmas
+pub mod LineLemmas

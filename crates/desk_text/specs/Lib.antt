@@ -1,0 +1,14 @@
+pub mod Words
+pub mod Numbers
+pub mod Addresses
+pub mod Kinds
+pub mod Values
+pub mod Calls
+pub mod Text
+pub mod Shown
+pub mod RowLines
+pub mod HistoryText
+pub mod NewsText
+pub mod Judged
+pub mod Lines
+pub mod inner
