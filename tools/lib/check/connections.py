@@ -106,11 +106,21 @@ def settled(bridge, idle):
     return state_of(bridge)
 
 
+def steady(bridge):
+    """The state of a bridge, once its threads and files have stayed as they are for two seconds."""
+    until, last, same = time.monotonic() + PATIENCE, None, 0
+    while same < 20 and time.monotonic() < until:
+        now = state_of(bridge)[:2]
+        same = same + 1 if now == last else 0
+        last = now
+        time.sleep(0.1)
+    return state_of(bridge)
+
+
 def check_flood(bridge, tcp, allowed):
-    idle = state_of(bridge)[:2]
-    # The first call takes memory for the rows that the desk keeps.
+    # A bridge that listens may have no thread for its lane yet, and the first call takes memory for the desk's rows.
     greeted(tcp, allowed)
-    before = settled(bridge, idle)
+    before = steady(bridge)
     until = time.monotonic() + FLOODED
     floods = [multiprocessing.Process(target=flood, args=(tcp, at % 2, until), daemon=True) for at in range(4)]
     for one in floods:
@@ -126,7 +136,7 @@ def check_flood(bridge, tcp, allowed):
         fail(f"of {before[0]} threads a flood of connections makes {most[0]}, with {SEATS} seats")
     if most[1] > before[1] + GUESTS + FILES * SEATS:
         fail(f"of {before[1]} files a flood of connections makes {most[1]}, with {SEATS} seats")
-    behind = settled(bridge, idle)
+    behind = settled(bridge, before[:2])
     if behind[:2] != before[:2] or behind[2] > before[2] + MORE:
         fail(f"behind a flood of connections the bridge has {behind} threads, files and kB, and had {before}")
     print(f"a flood of connections: {len(waits)} first answers within {max(waits) * 1e3:.0f} ms", flush=True)
