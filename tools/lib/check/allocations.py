@@ -37,8 +37,9 @@ CLAUSE = re.compile(r"\s*(requires|ensures|ghost|decreases)\b[^{]*|\s*where(?:(?
 ALIAS = re.compile(r"\btype (\w+)(?:<[^=]*>)? = (\w+)")
 VARIANT = re.compile(r"(\w+)::(\w+)\((?:mut )?(\w+)\)")
 LET = re.compile(r"let (?:mut )?((?:Ok|Some|Err)?\(?(?:mut )?\w+)\)? = ([^;{]*)")
-CALL = re.compile(r"([\w.]+\.|)(?:(\w+)(?:::<[^>(]*>)?::)?(\w+)(?:::<[^>(]*>)?\(")
+CALL = re.compile(r"((?:[A-Za-z_]\w*\.)+|)(?:(\w+)(?:::<[^>(]*>)?::)?(\w+)(?:::<[^>(]*>)?\(")
 CHAINED = re.compile(r"(?:\)\??|\])\s*\.(\w+)\(")
+INDEXED = re.compile(r"\b([A-Za-z_]\w*(?:\.\w+)*)\[[^\]]*\]\.(\w+)\(")
 CHAIN = re.compile(r"\b(\w+(?:\.\w+)*)\.(\w+)\([^()]*\)\.(\w+)\(")
 
 
@@ -173,6 +174,11 @@ class Sources:
             kind = self.type_in(self.fields.get(kind, {}).get(part, ""))
         return kind
 
+    def inside(self, known, path):
+        """What the declaration of `x.y.z` says of its type, without the first word that holds elements."""
+        kind = self.type_of_path(known, path[:-1]) if len(path) > 1 else None
+        return re.sub(r"^\W*Vec<|^\W*\[", "", self.fields.get(kind, {}).get(path[-1], ""))
+
     # Calls
 
     def calls(self, f):
@@ -190,6 +196,9 @@ class Sources:
                 yield from [g for g in found if not g.owner]
         for name in CHAINED.findall(f.body):
             yield from self.only_method(self.candidates(f, name))
+        for head, name in INDEXED.findall(f.body):
+            kind = self.type_in(self.inside(known, head.split(".")))
+            yield from [g for g in self.candidates(f, name) if g.owner and g.owner == kind]
         for head, first, name in CHAIN.findall(f.body):
             kind = self.type_of_path(known, head.split("."))
             given = {self.type_in(g.gives) for g in self.candidates(f, first) if g.owner and g.owner == kind}
