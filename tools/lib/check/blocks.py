@@ -88,7 +88,10 @@ TAKES = {
     "sudo apt": ("packages that the check doesn't install", never),
     "sudo install confbridge": ("the program, which `rt ci` builds", lambda: is_built("confbridge")),
     "sudo install -d /usr/local/lib/confbridge ": ("the program, which `rt ci` builds", lambda: is_built("confbridge")),
-    "sudo systemctl stop etcd": ("etcd as a service of Debian's; `check fleet` gives one its users", never),
+    "sudo install -D -m 644 examples/fleet/systemd/etcd.conf": (
+        "etcd as a service of Debian's; `check fleet` gives one its users",
+        never,
+    ),
     "export FLEET_SECRET": ("Kamailio, and a fleet; `check fleet` runs both", never),
     "nc -l 127.0.0.1 9000": ("a bridge with a trace; `check trace` runs one", never),
     "sed -n 's/^lane 0": ("the trace of a bridge; `check trace` replays one", never),
