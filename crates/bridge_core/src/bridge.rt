@@ -166,7 +166,7 @@ impl<A: Allocator + Copy> Core<A> {
 
     /// Takes in a datagram that came from an address at a moment, in nanoseconds since 1970.
     ///
-    /// Returns its outcome, the datagrams to send back, and the items to give to every lane, in order. On out of
+    /// Returns what it was, the datagrams to send back, and the items to give to every lane, in order. On out of
     /// memory, the only error, nothing changes.
     pub fn datagram(
         &mut self,

@@ -9,7 +9,7 @@
 //! let settings = Settings { bridge_ssrc: 1, cname: Bytes::from_static(b"bridge") };
 //! let mut core = Core::new(alloc, 1, settings)?;
 //! let reply = core.desk(alloc, 1, call); // the version that the call led to, or why it is refused
-//! let ingest = core.datagram(alloc, &from, moment, &octets)?; // its outcome, items, and datagrams to send
+//! let ingest = core.datagram(alloc, &from, moment, &octets)?; // what it was, items, and datagrams to send
 //! let sent = core.item(alloc, 0, &item)?; // what lane 0 sends for one of the items
 //! let answer = core.wait(alloc, &from, 1001, moment)?; // every 20 ms: items, and datagrams to send
 //! let reports = core.reports(alloc, moment)?; // receiver reports, with the addresses that they go to
@@ -45,6 +45,6 @@ pub use self::laws::{
 };
 pub use feedback::LossNote;
 pub use frame_gate::{Frame, FrameFault, FramePacket};
-pub use intake::{Ingest, Intake, Outcome, Settings, WaitAnswer};
+pub use intake::{Ingest, Intake, Outcome, Received, Settings, WaitAnswer};
 pub use media_items::{Item, MediaFrame};
 pub use retransmit::PacketBytes;

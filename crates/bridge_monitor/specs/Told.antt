@@ -10,6 +10,7 @@ use Rattle.bridge_stats.specs.declared.others.LaneRow.{LaneRow}
 use Rattle.bridge_stats.specs.declared.others.StreamReport.{StreamReport}
 use Rattle.bridge_stats.specs.declared.others.StreamRow.{StreamRow}
 use Rattle.bridge_stats.specs.declared.others.Seats.{Seats}
+use Rattle.bridge_stats.specs.declared.others.SocketRow.{SocketRow}
 use Rattle.bridge_stats.specs.declared.others.OthersShown.{OthersShown}
 use Rattle.bridge_stats.specs.declared.shown.StatsShown.{StatsShown}
 use Rattle.bridge_stats.specs.Senders.{same_sender}
@@ -21,11 +22,13 @@ use Rattle.bridge_stats.specs.Shown.{IsShown, stats_text}
 abbrev pub ShowsCounts : StatsShown → Type 0
 ShowsCounts shown = (now : ℕ) × (intake : IntakeOf) × (stats : StatsOf) × IsShown now intake stats shown
 
--- The octets are the lines of rows that show what was counted at a moment, of what others counted, and of these seats.
-pub record TellsCounts (in_use : Seats) (text : List ℕ) : Type 0 where
+-- The octets are the lines of rows that show what was counted at a moment, of what others counted, of the socket's
+-- buffers, and of these seats.
+pub record TellsCounts (buffers : SocketRow) (in_use : Seats) (text : List ℕ) : Type 0 where
   pub shown : StatsShown
   pub others : OthersShown
   pub counted : ShowsCounts shown
+  pub socket : others.socket ≡ buffers
   pub seats : others.seats ≡ in_use
   pub says : text ≡ stats_text shown others
 

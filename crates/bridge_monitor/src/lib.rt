@@ -16,7 +16,7 @@
 //! let answers = desk.ask(&rt); // an operator's thread
 //! desk.answer(&rt, now, &stats, &mut media, &mut lanes); // the front's; now: nanoseconds since 1970
 //! desk.wait(&rt, answers);
-//! desk.print(&rt, Seats { used: 1, all: 16 }, &mut out)?; // datagrams 0 octets 0 dropped TooLong, and so on
+//! desk.print(&rt, socket, Seats { used: 1, all: 16 }, &mut out)?; // datagrams 0 octets 0 dropped TooLong, and so on
 //! ```
 //!
 //! x_cases_front asks bridges on sockets so.

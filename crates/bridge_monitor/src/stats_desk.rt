@@ -5,7 +5,7 @@ ghost use Rattle.bridge_monitor.specs.Told.{TellsCounts};
 
 use crate::lane_counts::{LaneCounts, show_lanes, show_streams};
 use crate::stats_rows::{FrontCounts, StatsRows};
-use bridge_stats::{BridgeStats, Seats};
+use bridge_stats::{BridgeStats, Seats, SocketRow};
 use media_front::MediaFront;
 use media_workers::{Pace, PublisherName, Sink};
 use std::alloc::{AllocError, Global};
@@ -69,18 +69,24 @@ impl StatsDesk {
         MutexGuard::unlock(answer);
     }
 
-    /// Appends the lines of the front's last answer, with these seats. An `Err`, out of memory, appends nothing. It
-    /// comes, too, where the front has never answered.
-    pub fn print<R: Wait>(&self, rt: &R, seats: Seats, out: &mut Vec<u8>) -> Result<(), AllocError>
+    /// Appends the lines of the front's last answer, with these buffers of the socket, and these seats. An `Err`, out
+    /// of memory, appends nothing. It comes, too, where the front has never answered.
+    pub fn print<R: Wait>(
+        &self,
+        rt: &R,
+        socket: SocketRow,
+        seats: Seats,
+        out: &mut Vec<u8>,
+    ) -> Result<(), AllocError>
         ensures ok { OnOk result ((text : List ℕ)
-            × (out.new.items ≡ out.old.items ++ text) × TellsCounts seats text) }
+            × (out.new.items ≡ out.old.items ++ text) × TellsCounts socket seats text) }
         ensures err { OnErr result (out.new.items ≡ out.old.items) }
     {
         let mut rows = self.printed.lock(rt);
         let answer = self.answer.lock(rt);
         rows.show_again(&answer.rows);
         MutexGuard::unlock(answer);
-        let done = rows.print(seats, out);
+        let done = rows.print(socket, seats, out);
         MutexGuard::unlock(rows);
         done
     }

@@ -7,7 +7,7 @@ ghost use Rattle.bridge_stats.specs.Shown.{IsShown};
 ghost use Rattle.bridge_monitor.specs.Told.{TellsCounts};
 
 use crate::lane_counts::LanesShown;
-use bridge_stats::{BridgeStats, Limited, OthersShown, Seats, StatsShown, print_stats};
+use bridge_stats::{BridgeStats, Limited, OthersShown, Seats, SocketRow, StatsShown, print_stats};
 use intake::Intake;
 use std::alloc::{AllocError, Global};
 use std::marker::Model;
@@ -71,26 +71,30 @@ impl RowsKept {
         self.counted.show_again(&others.counted)
     }
 
-    /// What others count, with these seats.
-    fn others(&self, seats: Seats) -> OthersShown<'_>
-        ensures { result.seats ≡ seats }
+    /// What others count, with these buffers of the socket, and these seats.
+    fn others(&self, socket: SocketRow, seats: Seats) -> OthersShown<'_>
+        ensures socket { result.socket ≡ socket }
+        ensures seats { result.seats ≡ seats }
     {
         OthersShown {
             streams: &self.lanes.streams,
             left_out_streams: self.lanes.left_out_streams,
             lanes: &self.lanes.lanes,
             limited: self.limited,
+            socket,
             seats,
         }
     }
 
-    /// Appends their lines, with these seats. An `Err`, out of memory, appends nothing.
-    fn print(&self, seats: Seats, out: &mut Vec<u8>) -> Result<(), AllocError>
+    /// Appends their lines, with these buffers of the socket, and these seats. An `Err`, out of memory, appends
+    /// nothing.
+    fn print(&self, socket: SocketRow, seats: Seats, out: &mut Vec<u8>) -> Result<(), AllocError>
         ensures ok { (now : ℕ) (intake : IntakeOf) (stats : StatsOf) → IsShown now intake stats self.now.counted
-            → OnOk result ((text : List ℕ) × (out.new.items ≡ out.old.items ++ text) × TellsCounts seats text) }
+            → OnOk result ((text : List ℕ)
+            × (out.new.items ≡ out.old.items ++ text) × TellsCounts socket seats text) }
         ensures err { OnErr result (out.new.items ≡ out.old.items) }
     {
-        let others = self.others(seats);
+        let others = self.others(socket, seats);
         print_stats(&self.counted, &others, out)
     }
 }
@@ -150,16 +154,21 @@ impl StatsRows {
         }
     }
 
-    /// Appends the lines of the rows, with these seats. An `Err`, out of memory, appends nothing. It comes, too, where
-    /// there are no rows.
-    pub(crate) fn print(&self, seats: Seats, out: &mut Vec<u8>) -> Result<(), AllocError>
+    /// Appends the lines of the rows, with these buffers of the socket, and these seats. An `Err`, out of memory,
+    /// appends nothing. It comes, too, where there are no rows.
+    pub(crate) fn print(
+        &self,
+        socket: SocketRow,
+        seats: Seats,
+        out: &mut Vec<u8>,
+    ) -> Result<(), AllocError>
         ensures ok { OnOk result ((text : List ℕ)
-            × (out.new.items ≡ out.old.items ++ text) × TellsCounts seats text) }
+            × (out.new.items ≡ out.old.items ++ text) × TellsCounts socket seats text) }
         ensures err { OnErr result (out.new.items ≡ out.old.items) }
     {
         if !self.is_whole {
             return Err(AllocError);
         }
-        self.kept.print(seats, out)
+        self.kept.print(socket, seats, out)
     }
 }

@@ -21,6 +21,7 @@
 //! x_cases_front runs these calls on sockets.
 #![tactic(auto)]
 
+mod buffers;
 mod calls;
 mod causes;
 mod ending;

@@ -60,6 +60,7 @@ pub(crate) fn sockets_of<R: Wait>(
     let Front {
         poll,
         udp,
+        buffers: _,
         tcp,
         moments,
         trace,

@@ -5,7 +5,7 @@ ghost use Rattle.std.specs.Prelude.{◌≡◌, IfOk};
 use crate::causes::started;
 use crate::front::{Front, WAKER};
 use bridge_monitor::{StatsDesk, Teller};
-use bridge_stats::Seats;
+use bridge_stats::{Seats, SocketRow};
 use event_lines::{Event, ServerPart, WhyFailed};
 use mio::Waker;
 use operator_threads::Wake;
@@ -21,6 +21,8 @@ pub(crate) struct FrontWaker {
     pub(crate) teller: Teller,
     /// Where the front is asked what the bridge counts.
     pub(crate) stats: Arc<StatsDesk, Global>,
+    /// The buffers of the socket for datagrams.
+    pub(crate) socket: SocketRow,
     /// How many operators' seats there are.
     pub(crate) seats: u32,
     /// Where the trace goes to, if there is one.
@@ -33,6 +35,7 @@ impl Clone for FrontWaker {
             waker: Arc::try_clone(&self.waker)?,
             teller: self.teller.clone()?,
             stats: Arc::try_clone(&self.stats)?,
+            socket: self.socket,
             seats: self.seats,
             trace: self.trace,
         })
@@ -56,6 +59,7 @@ pub(crate) fn front_waker<R: Wait>(
         waker,
         teller,
         stats,
+        socket: front.buffers,
         seats: front.settings.operators,
         trace: front.settings.trace,
     })
@@ -94,7 +98,8 @@ impl CallerWaker {
 impl Wake for CallerWaker {
     ghost use Rattle.bridge_monitor.specs.Told.{TellsCounts};
 
-    ghost counts = { λ waker used text. TellsCounts (record { used = used; all = waker.front.seats }) text };
+    ghost counts = { λ waker used text.
+        TellsCounts waker.front.socket (record { used = used; all = waker.front.seats }) text };
 
     fn wake(&self) {
         // If a wake fails, the next round comes at most 20 ms later.
@@ -117,6 +122,6 @@ impl Wake for CallerWaker {
         self.wake();
         desk.wait(rt, answers);
         let all = self.front.seats;
-        desk.print(rt, Seats { used, all }, out)
+        desk.print(rt, self.front.socket, Seats { used, all }, out)
     }
 }

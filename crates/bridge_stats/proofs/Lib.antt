@@ -1,6 +1,5 @@
 pub mod Entries
 pub mod Folds
 pub mod GrowLemmas
-pub mod LeftOutLemmas
 pub mod TallyLemmas
 pub mod WholeLemmas

@@ -1,5 +1,5 @@
 pub mod Counts
-pub mod Headers
+pub mod Noted
 pub mod Kinds
 pub mod Logs
 pub mod Paths

@@ -1,5 +1,5 @@
 -- What receivers report of the way of a stream to them (RFC 3550 section 6.4.1).
-use Rattle.std.specs.Prelude.{◌≡◌, ◌⊎◌, ℕ, ◌+◌, ◌-◌, ◌*◌, ◌/◌, ◌%◌, ◌^◌, nat_eq, nat_le, Bool, false, List, []}
+use Rattle.std.specs.Prelude.{◌≡◌, ℕ, ◌+◌, ◌-◌, ◌*◌, ◌/◌, ◌%◌, ◌^◌, nat_eq, nat_le, Bool, false, List, []}
 use Rattle.std.specs.Prelude.{if◌then◌else◌}
 use Rattle.std.specs.Prelude.{◌∷◌, codes, Option, None, Some}
 use Rattle.std.specs.Bool.{MatchBool}
@@ -21,7 +21,7 @@ use Rattle.intake.specs.declared.outcome.Outcome.TheVariants.{Duplicate, Jump, R
 use Rattle.bridge_stats.specs.declared.sender.Sender.{Sender}
 use Rattle.bridge_stats.specs.declared.path.PathReport.{PathReport}
 use Rattle.bridge_stats.specs.Received.{video_rate}
-use Rattle.bridge_stats.specs.Tables.{TableOf, IsKept, with_left_out}
+use Rattle.bridge_stats.specs.Tables.{TableOf, IsKept}
 use Rattle.bridge_stats.specs.Text.{LinePart, words, number, no_word}
 
 -- of how many streams at their receivers' addresses the last block is kept
@@ -96,13 +96,10 @@ blocks_of (Other pt count body) = []
 abbrev pub IsPacketNoted : Desk → Address → ℕ → TableOf PathReport → Packet → TableOf PathReport → Type 0
 IsPacketNoted desk from moment old packet new = FoldsTo (IsBlockNoted desk from moment) old (blocks_of packet) new
 
--- All blocks of a compound that came from an address at a moment were noted, or memory ran out, and it was left out and
--- counted. What is no compound has no blocks.
+-- All blocks of a compound that came from an address at a moment were noted.
 abbrev pub HasReported : Desk → Address → ℕ → List ℕ → TableOf PathReport → TableOf PathReport → Type 0
 HasReported desk from moment octets old new =
-    ((packets : List Packet) × IsCompound packets octets × FoldsTo (IsPacketNoted desk from moment) old packets new)
-    ⊎ (((new ≡ with_left_out old) × ((packets : List Packet) × IsCompound packets octets))
-    ⊎ ((new ≡ old) × ((packets : List Packet) → IsCompound packets octets → ⊥)))
+    (packets : List Packet) × IsCompound packets octets × FoldsTo (IsPacketNoted desk from moment) old packets new
 
 -- The blocks of a datagram with this outcome were noted, if it is a compound from a member.
 abbrev pub AreReported : Desk → Outcome → Address → ℕ → List ℕ → TableOf PathReport → TableOf PathReport → Type 0

@@ -16,6 +16,7 @@ use Rattle.bridge_stats.specs.declared.others.StreamRow.{StreamRow}
 use Rattle.bridge_stats.specs.declared.others.LaneRow.{LaneRow}
 use Rattle.bridge_stats.specs.declared.others.Limited.{Limited}
 use Rattle.bridge_stats.specs.declared.others.Seats.{Seats}
+use Rattle.bridge_stats.specs.declared.others.SocketRow.{SocketRow}
 use Rattle.bridge_stats.specs.declared.others.OthersShown.{OthersShown}
 use Rattle.bridge_stats.specs.declared.shown.StatsShown.{StatsShown}
 use Rattle.bridge_stats.specs.Kinds.{kind_name, all_kinds}
@@ -142,6 +143,13 @@ limited_line limited =
     (words (codes "nacks") ∷ number limited.nacks ∷ words (codes "blocks") ∷ number limited.blocks
     ∷ words (codes "plis") ∷ number limited.plis ∷ [])
 
+-- the buffers of the socket for datagrams
+abbrev pub socket_line : SocketRow → List ℕ
+socket_line row =
+    line_text (codes "socket")
+    (words (codes "receive-buffer") ∷ number row.receive_buffer ∷ words (codes "send-buffer") ∷ number row.send_buffer
+    ∷ [])
+
 abbrev pub seats_line : Seats → List ℕ
 seats_line seats = line_text (codes "seats") (number seats.used ∷ words (codes "of") ∷ number seats.all ∷ [])
 
@@ -151,7 +159,8 @@ seats_line seats = line_text (codes "seats") (number seats.used ∷ words (codes
 abbrev pub others_text : OthersShown → List ℕ
 others_text others =
     flat_map stream_line others.streams.now ++ (flat_map lane_line others.lanes.now
-    ++ (limited_line others.limited ++ (seats_line others.seats ++ codes "end\n")))
+    ++ (limited_line others.limited
+    ++ (socket_line others.socket ++ (seats_line others.seats ++ codes "end\n"))))
 
 -- what was left out
 abbrev pub left_out_text : StatsShown → OthersShown → List ℕ

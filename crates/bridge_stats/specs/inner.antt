@@ -1,5 +1,4 @@
 pub mod Growing
 pub mod Kept
-pub mod LeftOut
 pub mod Said
 pub mod Tallies

@@ -1,15 +1,14 @@
 //! What a bridge counts of the datagrams that it takes in, and the lines that tell it.
 //!
-//! Begin with [`BridgeStats::new`]. [`BridgeStats::note`] notes a datagram and its outcome, of which [`TakenIn::of`]
-//! makes one value. Where somebody asks, [`BridgeStats::show`] writes rows into a [`StatsShown`], with how the intake
-//! receives the sources, and [`print_stats`] appends their lines, and those of what others count. A contract sees the
-//! list of all datagrams that were noted, the datagrams of each source that is kept, what was reported of the way of
-//! each stream that is kept, and a text as its octets.
+//! Begin with [`BridgeStats::new`]. [`BridgeStats::note`] notes a datagram that was received. Where somebody asks,
+//! [`BridgeStats::show`] writes rows into a [`StatsShown`], with how the intake receives the sources, and
+//! [`print_stats`] appends their lines, and those of what others count. A contract sees the list of all datagrams that
+//! were noted, the datagrams of each source that is kept, what was reported of the way of each stream that is kept, and
+//! a text as its octets.
 //!
 //! ```rust
 //! let mut stats = BridgeStats::new(alloc)?;
-//! let taken = TakenIn::of(from, moment, &octets, outcome);
-//! stats.note(alloc, &rows, &taken, &octets, passed); // for each datagram, by the rows of the desk
+//! stats.note(&rows, &ingest.received, passed); // for each datagram, by the rows of the desk
 //! let mut shown = StatsShown::new(alloc)?;
 //! stats.show(now, &intake, &mut shown)?; // now: nanoseconds since 1970
 //! print_stats(&shown, &others, &mut out)?; // datagrams 0 octets 0 dropped TooLong, and so on
@@ -41,7 +40,7 @@ mod tally;
 pub use self::kind::OutcomeKind;
 pub use self::laws::all_are_counted;
 pub use self::numbers::SourceNumbers;
-pub use self::others::{LaneRow, Limited, OthersShown, Seats, StreamReport, StreamRow};
+pub use self::others::{LaneRow, Limited, OthersShown, Seats, SocketRow, StreamReport, StreamRow};
 pub use self::path::PathReport;
 pub use self::rows::{KindRow, SourceRow, StrangerRow};
 pub use self::sender::Sender;

@@ -82,6 +82,15 @@ pub struct Limited {
     pub plis: u64,
 }
 
+/// The buffers that the system gives the socket for datagrams.
+#[derive(Clone, Copy)]
+pub struct SocketRow {
+    /// How many octets of datagrams wait at most until they are read.
+    pub receive_buffer: u32,
+    /// How many octets of datagrams wait at most until they leave.
+    pub send_buffer: u32,
+}
+
 /// The operators' seats.
 #[derive(Clone, Copy)]
 pub struct Seats {
@@ -102,6 +111,8 @@ pub struct OthersShown<'a> {
     pub lanes: &'a [LaneRow],
     /// What the rate limiter left out.
     pub limited: Limited,
+    /// The buffers of the socket for datagrams.
+    pub socket: SocketRow,
     /// The operators' seats.
     pub seats: Seats,
 }

@@ -1,22 +1,21 @@
 //! What receivers reported last of the way of each stream to them.
 
-ghost use Rattle.std.specs.Prelude.{◌≡◌, [], IfOk};
+ghost use Rattle.std.specs.Prelude.{◌≡◌, ℕ, List, [], IfOk};
 ghost use Rattle.std.specs.Map.{lookup};
 ghost use Rattle.std.specs.List.{FoldsTo};
 ghost use Rattle.rtcp_codec.specs.View.{packet_of, packets_of};
 ghost use Rattle.bridge_stats.specs.Senders.{same_sender};
 ghost use Rattle.bridge_stats.specs.Tables.{IsKept};
 ghost use Rattle.bridge_stats.specs.Paths.{most_paths, stream_at, is_at, is_received};
-ghost use Rattle.bridge_stats.specs.inner.LeftOut.{IsLeftOut};
-ghost use Rattle.bridge_stats.specs.Paths.{IsBlockNoted, IsPacketNoted, HasReported, AreReported};
+ghost use Rattle.bridge_stats.specs.Paths.{IsBlockNoted, IsPacketNoted, AreReported};
+ghost use Rattle.bridge_stats.specs.Noted.{HasReports};
 
 use crate::path::{PathReport, stream_at};
 use crate::sender::Sender;
-use crate::taken::TakenIn;
 use desk_rows::{Member, Rows};
-use intake::Outcome;
+use intake::{Outcome, Received};
 use lru::LruCache;
-use rtcp_codec::{ReportBlock, Rtcp, RtcpFault, read_compound};
+use rtcp_codec::{ReportBlock, Rtcp};
 use rtp_codec::Address;
 use std::alloc::{AllocError, Allocator, Global};
 use std::hash::{BuildHasherDefault, FoldHasher};
@@ -150,40 +149,15 @@ impl<A: Allocator + Copy> PathTable<A> {
         }
     }
 
-    /// Counts one that was left out, if it was read with this fault: memory ran out.
-    fn leave_out(&mut self, fault: RtcpFault)
-        ensures { IsLeftOut fault self.old self.new }
-    {
-        match fault {
-            RtcpFault::OutOfMemory => self.left_out = self.left_out.saturating_add(1),
-            RtcpFault::Short
-            | RtcpFault::Version
-            | RtcpFault::First
-            | RtcpFault::Length
-            | RtcpFault::Padding
-            | RtcpFault::Body => {}
-        }
-    }
-
-    /// Notes the blocks of a compound that came from an address at a moment. Where memory runs out it is left out, and
-    /// counted.
-    fn note_compound(&mut self, alloc: A, rows: &Rows, from: &Address, moment: u64, octets: &[u8])
-        ensures { HasReported rows.now from.now moment octets.now self.old self.new }
-    {
-        match read_compound(alloc, octets) {
-            Ok(packets) => self.note_packets(rows, from, moment, &packets),
-            Err(fault) => self.leave_out(fault),
-        }
-    }
-
-    /// Notes the blocks of a datagram that was taken in and has these octets, if it is a compound from a member.
-    pub(crate) fn note(&mut self, alloc: A, rows: &Rows, taken: &TakenIn, octets: &[u8])
-        ensures { AreReported rows.now taken.now.outcome taken.now.from taken.now.moment octets.now
+    /// Notes the blocks of a datagram that was taken in, if it is a compound from a member.
+    pub(crate) fn note(&mut self, rows: &Rows, received: &Received<A>)
+        ensures { (octets : List ℕ) → HasReports octets received.now
+            → AreReported rows.now received.now.outcome received.now.from received.now.moment octets
             self.old self.new }
     {
-        match taken.outcome {
+        match received.outcome {
             Outcome::Rtcp { .. } => {
-                self.note_compound(alloc, rows, &taken.from, taken.moment, octets);
+                self.note_packets(rows, &received.from, received.moment, &received.packets);
             }
             Outcome::TooLong
             | Outcome::Neither

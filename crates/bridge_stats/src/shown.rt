@@ -3,13 +3,14 @@
 ghost use Rattle.std.specs.Prelude.{◌≡◌, ◌+◌, ◌<◌, ◌++◌, [], codes, length, IfOk, OnOk, OnErr, vec_len, vec_capacity};
 ghost use Rattle.std.specs.List.{flat_map};
 ghost use Rattle.bridge_stats.specs.Shown.{kind_line, source_line, stranger_line, left_out_line, stream_line};
-ghost use Rattle.bridge_stats.specs.Shown.{lane_line, limited_line, seats_line, left_out_text, others_text, stats_text};
+ghost use Rattle.bridge_stats.specs.Shown.{lane_line, limited_line, socket_line, seats_line};
+ghost use Rattle.bridge_stats.specs.Shown.{left_out_text, others_text, stats_text};
 ghost use Rattle.bridge_stats.specs.inner.Growing.{buffer_of, Grows};
 
 use crate::appending::{LineField, append, append_line};
 use crate::kind::KINDS;
 use crate::lines::append_lines;
-use crate::others::{Limited, OthersShown, Seats};
+use crate::others::{Limited, OthersShown, Seats, SocketRow};
 use crate::rows::{KindRow, SourceRow, StrangerRow};
 use crate::source_table::MOST_SOURCES;
 use crate::stranger::MOST_STRANGERS;
@@ -91,6 +92,19 @@ fn append_limited<A: Allocator>(limited: &Limited, out: &mut Vec<u8, A>) -> Resu
     append_line(b"limited", &fields, out)
 }
 
+/// Appends the line of the socket for datagrams.
+fn append_socket<A: Allocator>(socket: &SocketRow, out: &mut Vec<u8, A>) -> Result<(), AllocError>
+    ensures { Grows (buffer_of out.old) (buffer_of out.new) (socket_line socket.now) result }
+{
+    let fields = [
+        LineField::Words(b"receive-buffer"),
+        LineField::Number(u64::from(socket.receive_buffer)),
+        LineField::Words(b"send-buffer"),
+        LineField::Number(u64::from(socket.send_buffer)),
+    ];
+    append_line(b"socket", &fields, out)
+}
+
 /// Appends the line of the seats.
 fn append_seats<A: Allocator>(seats: &Seats, out: &mut Vec<u8, A>) -> Result<(), AllocError>
     ensures { Grows (buffer_of out.old) (buffer_of out.new) (seats_line seats.now) result }
@@ -111,16 +125,29 @@ fn append_end<A: Allocator>(seats: &Seats, out: &mut Vec<u8, A>) -> Result<(), A
     append(b"end\n", out)
 }
 
+/// Appends the line of the socket, and the lines behind it.
+fn append_behind_limited<A: Allocator>(
+    others: &OthersShown<'_>,
+    out: &mut Vec<u8, A>,
+) -> Result<(), AllocError>
+    ensures { Grows (buffer_of out.old) (buffer_of out.new)
+        (socket_line others.now.socket ++ (seats_line others.now.seats ++ codes "end\n")) result }
+{
+    append_socket(&others.socket, out)?;
+    append_end(&others.seats, out)
+}
+
 /// Appends what the rate limiter left out, and the lines behind it.
 fn append_behind_lanes<A: Allocator>(
     others: &OthersShown<'_>,
     out: &mut Vec<u8, A>,
 ) -> Result<(), AllocError>
     ensures { Grows (buffer_of out.old) (buffer_of out.new)
-        (limited_line others.now.limited ++ (seats_line others.now.seats ++ codes "end\n")) result }
+        (limited_line others.now.limited
+        ++ (socket_line others.now.socket ++ (seats_line others.now.seats ++ codes "end\n"))) result }
 {
     append_limited(&others.limited, out)?;
-    append_end(&others.seats, out)
+    append_behind_limited(others, out)
 }
 
 /// Appends the lines of the lanes, and the lines behind them.
@@ -129,8 +156,8 @@ fn append_behind_streams<A: Allocator>(
     out: &mut Vec<u8, A>,
 ) -> Result<(), AllocError>
     ensures { Grows (buffer_of out.old) (buffer_of out.new)
-        (flat_map lane_line others.now.lanes.now
-        ++ (limited_line others.now.limited ++ (seats_line others.now.seats ++ codes "end\n"))) result }
+        (flat_map lane_line others.now.lanes.now ++ (limited_line others.now.limited
+        ++ (socket_line others.now.socket ++ (seats_line others.now.seats ++ codes "end\n")))) result }
 {
     append_lines(others.lanes, out)?;
     append_behind_lanes(others, out)
@@ -209,7 +236,7 @@ fn append_stats<A: Allocator>(
 }
 
 /// Appends a line for each outcome, source, sender that is no source, stream and lane, for what was left out, for the
-/// seats, and last `end`. On out of memory, the only error, nothing changes.
+/// socket, for the seats, and last `end`. On out of memory, the only error, nothing changes.
 pub fn print_stats<A: Allocator>(
     shown: &StatsShown,
     others: &OthersShown<'_>,

@@ -1,11 +1,12 @@
 //! What a bridge counts.
 
-ghost use Rattle.std.specs.Prelude.{◌≡◌, IfOk};
+ghost use Rattle.std.specs.Prelude.{◌≡◌, ℕ, List, IfOk};
 ghost use Rattle.std.specs.Bool.{MatchBool};
 ghost use Rattle.std.specs.Map.{lookup};
 ghost use Rattle.bridge_stats.specs.Senders.{same_sender};
 ghost use Rattle.bridge_stats.specs.Stats.{no_stats, HasNoted};
 ghost use Rattle.bridge_stats.specs.Paths.{stream_at, AreReported};
+ghost use Rattle.bridge_stats.specs.Noted.{taken_of, HasReports};
 
 use crate::path::PathReport;
 use crate::path_table::PathTable;
@@ -15,6 +16,7 @@ use crate::stranger::Strangers;
 use crate::taken::TakenIn;
 use crate::tally::OutcomeTally;
 use desk_rows::Rows;
+use intake::Received;
 use rtp_codec::Address;
 use std::alloc::{AllocError, Allocator, Global};
 use std::marker::Model;
@@ -60,42 +62,43 @@ impl<A: Allocator + Copy> BridgeStats<A> {
         })
     }
 
-    /// Notes a datagram that was taken in by these rows, and has these octets. `passed`: whether the rate limiter left
-    /// out none of its report blocks. If so, a compound from a member is read once more, for what its blocks report of
-    /// the way of streams that the desk sends to that member.
+    /// Notes a datagram that was taken in by these rows. `passed`: whether the rate limiter left out none of its report
+    /// blocks. If so, it also notes what the blocks of a compound from a member report of the way of streams that the
+    /// desk sends to that member.
     ///
-    /// Only a sender or a stream that isn't kept takes memory, and a compound. Where that is refused, a datagram isn't
-    /// counted for its sender, and a block or a compound not for its stream. It counts as one that was left out.
-    pub fn note(&mut self, alloc: A, rows: &Rows, taken: &TakenIn, octets: &[u8], passed: bool)
-        ensures noted { HasNoted taken.now self.old self.new }
-        ensures reports { MatchBool passed
-            (AreReported rows.now taken.now.outcome taken.now.from taken.now.moment octets.now
+    /// Only a sender or a stream that isn't kept takes memory. Where that is refused, a datagram isn't counted for its
+    /// sender, and a block not for its stream. It counts as one that was left out.
+    pub fn note(&mut self, rows: &Rows, received: &Received<A>, passed: bool)
+        ensures noted { HasNoted (taken_of received.now) self.old self.new }
+        ensures reports { (octets : List ℕ) → HasReports octets received.now → MatchBool passed
+            (AreReported rows.now received.now.outcome received.now.from received.now.moment octets
             self.old.reports self.new.reports)
             (self.new.reports ≡ self.old.reports) }
     {
-        self.tally.note(taken);
-        self.note_reports(alloc, rows, taken, octets, passed);
+        let taken = TakenIn::of(received);
+        self.tally.note(&taken);
+        self.note_reports(rows, received, passed);
         let Some(header) = taken.header else {
             return;
         };
         let sender = sender_of(&taken.from, &header);
         match whose(&taken.outcome) {
             Whom::Nobody => {}
-            Whom::Source => self.sources.note(sender, taken),
+            Whom::Source => self.sources.note(sender, &taken),
             Whom::Stranger => self.strangers.note(sender, header.pt),
         }
     }
 
     /// Notes what its blocks report, if the rate limiter let all of them pass.
-    fn note_reports(&mut self, alloc: A, rows: &Rows, taken: &TakenIn, octets: &[u8], passed: bool)
-        ensures reports { MatchBool passed
-            (AreReported rows.now taken.now.outcome taken.now.from taken.now.moment octets.now
+    fn note_reports(&mut self, rows: &Rows, received: &Received<A>, passed: bool)
+        ensures reports { (octets : List ℕ) → HasReports octets received.now → MatchBool passed
+            (AreReported rows.now received.now.outcome received.now.from received.now.moment octets
             self.old.reports self.new.reports)
             (self.new.reports ≡ self.old.reports) }
         ensures same { self.new ≡ record self.old { reports = self.new.reports } }
     {
         if passed {
-            self.paths.note(alloc, rows, taken, octets);
+            self.paths.note(rows, received);
         }
     }
 

@@ -1,11 +1,11 @@
 //! A datagram that was taken in.
 
-ghost use Rattle.std.specs.Prelude.{◌≡◌, length, IfSome, IfNone};
-ghost use Rattle.rtp_codec.specs.declared.writing.Header.{Header as HeaderOf};
-ghost use Rattle.bridge_stats.specs.Headers.{HasHeader};
+ghost use Rattle.std.specs.Prelude.{◌≡◌};
+ghost use Rattle.bridge_stats.specs.Noted.{taken_of};
 
-use intake::Outcome;
-use rtp_codec::{Address, Class, Header, classify, read};
+use intake::{Outcome, Received};
+use rtp_codec::{Address, Header};
+use std::alloc::Allocator;
 
 /// A datagram that was taken in, and its outcome.
 #[derive(Clone, Copy)]
@@ -22,45 +22,17 @@ pub struct TakenIn {
     pub outcome: Outcome,
 }
 
-/// The header of a datagram that is an RTP packet.
-fn header_in(octets: &[u8]) -> Option<Header>
-    ensures found { IfSome result (HasHeader octets.now) }
-    ensures none { IfNone result ((h : HeaderOf) → HasHeader octets.now h → ⊥) }
-{
-    match classify(octets) {
-        Class::Rtp => match read(octets) {
-            Ok(packet) => Some(Header {
-                marker: packet.marker,
-                pt: packet.pt,
-                seq: packet.seq,
-                ts: packet.ts,
-                ssrc: packet.ssrc,
-            }),
-            Err(_) => None,
-        },
-        Class::Rtcp | Class::Neither => None,
-    }
-}
-
 impl TakenIn {
-    /// A datagram that came from an address at a moment, and its outcome.
-    pub fn of(from: Address, moment: u64, octets: &[u8], outcome: Outcome) -> Self
-        ensures found { IfSome result.header (HasHeader octets.now) }
-        ensures none { IfNone result.header ((h : HeaderOf) → HasHeader octets.now h → ⊥) }
-        ensures rest { result ≡ record {
-          from = from;
-          moment = moment;
-          octets = length octets.now;
-          header = result.header;
-          outcome = outcome;
-        } }
+    /// What is counted of a datagram.
+    pub(crate) fn of<A: Allocator + Copy>(received: &Received<A>) -> Self
+        ensures { result ≡ taken_of received.now }
     {
         Self {
-            from,
-            moment,
-            octets: octets.len() as u64,
-            header: header_in(octets),
-            outcome,
+            from: received.from,
+            moment: received.moment,
+            octets: received.octets,
+            header: received.header,
+            outcome: received.outcome,
         }
     }
 }

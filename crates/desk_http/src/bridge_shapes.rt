@@ -73,6 +73,17 @@ pub(crate) const LIMITED: [RowField; 3] = [
     },
 ];
 
+pub(crate) const SOCKET: [RowField; 2] = [
+    RowField {
+        name: "receive_buffer",
+        place: WordPlace::Behind("receive-buffer", 1),
+    },
+    RowField {
+        name: "send_buffer",
+        place: WordPlace::Behind("send-buffer", 1),
+    },
+];
+
 pub(crate) const SEATS: [RowField; 2] = [
     RowField {
         name: "used",

@@ -1,6 +1,6 @@
 //! What a bridge counts as JSON. A row here is a key.
 
-use crate::bridge_shapes::{LANE, LIMITED, SEATS};
+use crate::bridge_shapes::{LANE, LIMITED, SEATS, SOCKET};
 use crate::reading::WordPlace;
 use crate::rows::{HistoryPart, RowField, RowKind, RowShape};
 
@@ -208,6 +208,13 @@ const STATS: &[RowShape] = &[
         kind: RowKind::Named("limited"),
         is_list: false,
         fields: &LIMITED,
+    },
+    RowShape {
+        key: "socket",
+        part: HistoryPart::All,
+        kind: RowKind::Named("socket"),
+        is_list: false,
+        fields: &SOCKET,
     },
     RowShape {
         key: "seats",

@@ -5,7 +5,7 @@ use Rattle.rtp_codec.specs.declared.writing.Header.{Header}
 use Rattle.intake.specs.declared.outcome.Outcome.{Outcome}
 use Rattle.bridge_stats.specs.declared.others.Limited.{Limited}
 use Rattle.bridge_stats.specs.declared.taken.TakenIn.{TakenIn}
-use Rattle.bridge_stats.specs.Headers.{HasHeader}
+use Rattle.intake.specs.Received.{HasHeader}
 use Rattle.bridge_stats.specs.Stats.{StatsOf, HasNoted}
 use Rattle.bridge_stats.specs.Paths.{AreReported}
 use Rattle.media_front.specs.Fronts.{Arrival}

@@ -9,8 +9,9 @@ ghost use Rattle.front_rounds.specs.inner.Reading.{IsReadOnce};
 use crate::inlet::{Inlet, Read};
 use crate::rounds::Rounds;
 use crate::watch::Watch;
-use bridge_stats::{Limited, TakenIn};
+use bridge_stats::Limited;
 use desk_rows::Rows;
+use media_front::ended_by;
 use media_workers::{Pace, PublisherName, Sink};
 use udp_wire::{FrontFault, Wire};
 
@@ -63,16 +64,13 @@ impl<N: PublisherName, P: Pace, S: Sink, I: Inlet, W: Wire, C: Watch> Rounds<N, 
         self.catch_up(moment);
         let octets = &self.chunk[..octets];
         let before = self.media.limited();
-        let taken = self
+        let received = self
             .media
-            .take_in(self.alloc, rows, &from, moment, octets, &mut self.wire)?;
-        self.trace.tell_datagram(self.alloc, moment, &from, octets);
-        let counted = TakenIn::of(from, moment, octets, taken.0);
-        let after = self.media.limited();
-        let all_pass = all_pass(before, after);
-        self.stats
-            .note(self.alloc, rows, &counted, octets, all_pass);
-        self.ask_first(&from, taken.1, moment)?;
+            .datagram(self.alloc, rows, &from, moment, octets, &mut self.wire)?;
+        self.trace.tell_datagram(self.alloc, &received, octets);
+        let all_pass = all_pass(before, self.media.limited());
+        self.stats.note(rows, &received, all_pass);
+        self.ask_first(&from, ended_by(&received), moment)?;
         Ok(true)
     }
 

@@ -7,6 +7,7 @@ ghost use Rattle.media_front.specs.inner.Origins.{origin_in};
 ghost use Rattle.front_rounds.specs.Traced.{front_told, IsTraced, IsTracedIf, took, reported, asked, AreWaits};
 
 use desk_rows::{Kind, Row, Rows};
+use intake::Received;
 use media_front::origin_in;
 use picture_requests::VideoSource;
 use rtp_codec::Address;
@@ -123,20 +124,15 @@ impl FrontTrace {
         self.sender.send(FrontTold { version, deed });
     }
 
-    /// Tells that a datagram was taken in. Where memory is refused for its octets, the trace is given up.
-    pub(crate) fn tell_datagram(
-        &mut self,
-        alloc: Global,
-        moment: u64,
-        from: &Address,
-        octets: &[u8],
-    )
-        ensures { IsTraced (took self.old.version moment from.now octets.now) self.old self.new }
+    /// Tells that a datagram of these octets was taken in. Where memory is refused for them, the trace is given up.
+    pub(crate) fn tell_datagram(&mut self, alloc: Global, received: &Received, octets: &[u8])
+        ensures { IsTraced (took self.old.version received.now.moment received.now.from octets.now)
+            self.old self.new }
     {
         if !self.is_on() {
             return;
         }
-        let from = *from;
+        let (moment, from) = (received.moment, received.from);
         match copied(alloc, octets) {
             Ok(octets) => self.tell(FrontDeed::Took {
                 moment,

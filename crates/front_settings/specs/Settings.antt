@@ -11,6 +11,7 @@ use Rattle.front_settings.specs.declared.setup.FrontSettings.{FrontSettings}
 use Rattle.front_settings.specs.declared.setup.SettingKey.{SettingKey}
 use Rattle.front_settings.specs.declared.setup.SettingKey.TheVariants.{Udp, Tcp, Lanes, Operators}
 use Rattle.front_settings.specs.declared.setup.SettingKey.TheVariants.{ReportMs, BridgeSsrc, Cname, Trace}
+use Rattle.front_settings.specs.declared.setup.SettingKey.TheVariants.{ReceiveBuffer, SendBuffer}
 use Rattle.front_settings.specs.SettingValues.{address_in, loopback_in, number_in, cname_in, trace_in}
 
 -- what is wrong with settings; an unknown key is named by its octets
@@ -30,6 +31,8 @@ key_text ReportMs = codes "report_ms"
 key_text BridgeSsrc = codes "bridge_ssrc"
 key_text Cname = codes "cname"
 key_text Trace = codes "trace"
+key_text ReceiveBuffer = codes "receive_buffer"
+key_text SendBuffer = codes "send_buffer"
 
 -- a value, or the trouble: what follows is judged only behind a value
 infixl 10 ◌>>=◌
@@ -61,7 +64,7 @@ keys_in (member key value rest) = key ∷ keys_in rest
 unfoldable pub is_known : List ℕ → Bool
 is_known text =
     list_any (λ key. bytes_eq text (key_text key))
-    (Udp ∷ Tcp ∷ Lanes ∷ Operators ∷ ReportMs ∷ BridgeSsrc ∷ Cname ∷ Trace ∷ [])
+    (Udp ∷ Tcp ∷ Lanes ∷ Operators ∷ ReportMs ∷ BridgeSsrc ∷ Cname ∷ Trace ∷ ReceiveBuffer ∷ SendBuffer ∷ [])
 
 -- the lesser of two texts, octet by octet
 abbrev pub lesser : List ℕ → List ℕ → List ℕ
@@ -94,6 +97,20 @@ least_report_ms = 1000
 abbrev pub most_report_ms : ℕ
 most_report_ms = 5000
 
+-- the fewest and the most octets that a buffer of the socket is asked to have, and how many it is where none are given
+abbrev pub least_buffer : ℕ
+least_buffer = 4096
+
+abbrev pub most_buffer : ℕ
+most_buffer = 10 ^ 9
+
+abbrev pub usual_buffer : ℕ
+usual_buffer = 2 ^ 22
+
+-- how many octets a buffer is asked to have
+abbrev pub buffer_at : SettingKey → Option Data → Result ℕ Trouble
+buffer_at key value = given key (number_in least_buffer most_buffer) usual_buffer value
+
 -- the settings of a table, or its first trouble: key by key, and then the keys that are left
 unfoldable pub settings_of : Members → Result FrontSettings Trouble
 settings_of table = do
@@ -106,6 +123,8 @@ settings_of table = do
   bridge_ssrc ← given BridgeSsrc (number_in 0 (2 ^ 32 - 1)) 1 (value BridgeSsrc)
   cname ← given Cname cname_in (codes "bridge") (value Cname)
   trace ← given Trace (trace_in operators cname) None (value Trace)
+  receive_buffer ← buffer_at ReceiveBuffer (value ReceiveBuffer)
+  send_buffer ← buffer_at SendBuffer (value SendBuffer)
   none_left ← none_unknown (unknown_in table)
   Ok (record {
     udp = udp;
@@ -115,6 +134,8 @@ settings_of table = do
     report_ms = report_ms;
     bridge = record { bridge_ssrc = bridge_ssrc; cname = cname };
     trace = trace;
+    receive_buffer = receive_buffer;
+    send_buffer = send_buffer;
   })
 
 -- the settings of a text, by the table that it is, if it is one

@@ -1,11 +1,11 @@
 //! The settings that a text gives.
 
 ghost use Rattle.std.specs.Prelude.{◌≡◌, ◌≢◌, Err};
-ghost use Rattle.toml.specs.Data.{no_members};
+ghost use Rattle.toml.specs.Data.{no_members, get_member};
 ghost use Rattle.toml.specs.Errors.{IsBlank};
 ghost use Rattle.toml.specs.Parse.{parse_document};
 ghost use Rattle.toml.specs.View.{table_view};
-ghost use Rattle.front_settings.specs.Settings.{unknown_in, none_unknown, settings_of, read_of};
+ghost use Rattle.front_settings.specs.Settings.{key_text, unknown_in, none_unknown, buffer_at, settings_of, read_of};
 ghost use Rattle.front_settings.specs.SettingsTold.{Gives};
 
 use crate::fault::SettingsFault;
@@ -24,6 +24,12 @@ const MOST_OPERATORS: u32 = 16;
 const LEAST_REPORT_MS: u32 = 1_000;
 /// The most milliseconds between two reports, and how many they are where none are given.
 const MOST_REPORT_MS: u32 = 5_000;
+/// The fewest octets of a buffer.
+const LEAST_BUFFER: u32 = 4_096;
+/// The most octets of a buffer.
+const MOST_BUFFER: u32 = 1_000_000_000;
+/// How many octets a buffer is asked to have where none are given.
+const USUAL_BUFFER: u32 = 4_194_304;
 
 /// Checks that each key is known.
 // It comes after all known keys, and names the least unknown one: a table has no order that its writer sees.
@@ -37,6 +43,13 @@ fn none_unknown(alloc: Global, table: &Table) -> Result<(), SettingsFault>
             Err(SettingsFault::UnknownKey { key })
         }
     }
+}
+
+/// How many octets the buffer of this key is asked to have.
+fn buffer_of(table: &Table, key: SettingKey) -> Result<u32, SettingsFault>
+    ensures { Gives (λ x. x) result (buffer_at key (get_member (key_text key) (table_view table.now))) }
+{
+    number_of(table, key, LEAST_BUFFER, MOST_BUFFER, USUAL_BUFFER)
 }
 
 /// The settings of a table. What takes memory comes last.
@@ -59,6 +72,8 @@ fn from_table(alloc: Global, table: &Table) -> Result<FrontSettings, SettingsFau
     let bridge_ssrc = number_of(table, SettingKey::BridgeSsrc, 0, u32::MAX, 1)?;
     let cname = cname_of(table)?;
     let trace = trace_of(table, operators, cname)?;
+    let receive_buffer = buffer_of(table, SettingKey::ReceiveBuffer)?;
+    let send_buffer = buffer_of(table, SettingKey::SendBuffer)?;
     none_unknown(alloc, table)?;
     let cname = Bytes::copy_from_slice(alloc, cname)?;
     Ok(FrontSettings {
@@ -69,6 +84,8 @@ fn from_table(alloc: Global, table: &Table) -> Result<FrontSettings, SettingsFau
         report_ms,
         bridge: Settings { bridge_ssrc, cname },
         trace,
+        receive_buffer,
+        send_buffer,
     })
 }
 
@@ -84,6 +101,7 @@ fn from_table(alloc: Global, table: &Table) -> Result<FrontSettings, SettingsFau
 /// | `bridge_ssrc` | a number from 0 to 2^32 - 1 | 1 |
 /// | `cname` | a text of 1 to 255 octets, each from 32 to 126 | `bridge` |
 /// | `trace` | a text as of `tcp`; only where `operators` is 2 or more, and `cname` has no space | no trace |
+/// | `receive_buffer`, then `send_buffer` | a number from 4,096 to 1,000,000,000 | 4,194,304 |
 ///
 /// They are checked in this order, and then any other key is refused. Port 0 is good: the system chooses one. If memory
 /// runs out before the text is read, nothing is checked.

@@ -25,6 +25,10 @@ pub struct FrontSettings {
     /// Where the trace of what it does goes to, in 127.0.0.0/8, if it has one. It then has two seats or more, and a
     /// name of one word.
     pub trace: Option<Address>,
+    /// How many octets the buffer is asked to have in which datagrams wait until they are read, 4,096 to 1,000,000,000.
+    pub receive_buffer: u32,
+    /// How many octets the buffer is asked to have in which datagrams wait until they leave, 4,096 to 1,000,000,000.
+    pub send_buffer: u32,
 }
 
 /// A key of the settings, named as in the file. The values are checked in this order.
@@ -38,6 +42,8 @@ pub enum SettingKey {
     BridgeSsrc,
     Cname,
     Trace,
+    ReceiveBuffer,
+    SendBuffer,
 }
 
 impl SettingKey {
@@ -54,6 +60,8 @@ impl SettingKey {
             SettingKey::BridgeSsrc => "bridge_ssrc",
             SettingKey::Cname => "cname",
             SettingKey::Trace => "trace",
+            SettingKey::ReceiveBuffer => "receive_buffer",
+            SettingKey::SendBuffer => "send_buffer",
         }
     }
 }

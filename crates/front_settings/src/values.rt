@@ -183,6 +183,8 @@ fn is_known(text: &[u8]) -> bool
         || text == b"bridge_ssrc".as_slice()
         || text == b"cname".as_slice()
         || text == b"trace".as_slice()
+        || text == b"receive_buffer".as_slice()
+        || text == b"send_buffer".as_slice()
 }
 
 /// The least key that is not known.

@@ -11,6 +11,7 @@ pub mod Renewals
 pub mod Happens
 pub mod WaitLemmas
 pub mod AboutLemmas
+pub mod ReceivedLemmas
 pub mod AloneLemmas
 pub mod OtherSources
 pub mod Results

@@ -29,7 +29,8 @@ datagram_of d = (d.0, d.1.items)
 
 -- what the intake answers, without where its octets lie
 abbrev pub ingested_of : {A : Type 0} → Ingest A → Ingested
-ingested_of i = record { outcome = i.outcome; up = map datagram_of i.up.items; items = map input_of i.items.items }
+ingested_of i =
+    record { outcome = i.received.outcome; up = map datagram_of i.up.items; items = map input_of i.items.items }
 
 -- what the intake answers to a wait, as to a datagram of an unknown source
 abbrev pub answered_of : {A : Type 0} → WaitAnswer A → Ingested

@@ -3,6 +3,7 @@ pub mod Readings
 pub mod Stories
 pub mod Sources
 pub mod Ingested
+pub mod Received
 pub mod Media
 pub mod Control
 pub mod Taking

@@ -3,3 +3,4 @@ pub mod Freed
 pub mod Holding
 pub mod Moves
 pub mod Comings
+pub mod Effects

@@ -1,19 +1,20 @@
 //! Takes a judged packet into its source.
 
-ghost use Rattle.std.specs.Prelude.{◌≡◌, ◌+◌, ◌&&◌, true, false, nat_eq, if◌then◌else◌, IfOk, OnOk, OnErr, IfSome};
-ghost use Rattle.std.specs.Prelude.{is_some, None, map};
+ghost use Rattle.std.specs.Prelude.{◌≡◌, ◌+◌, ◌&&◌, true, false, nat_eq, if◌then◌else◌, IfOk, OnOk, OnErr};
+ghost use Rattle.std.specs.Prelude.{IfSome, is_some, None, map};
 ghost use Rattle.std.specs.List.{list_all};
 ghost use Rattle.media_items.specs.Inputs.{input_of, is_sized};
-ghost use Rattle.intake.specs.Ingested.{ingested_of, only, with_items};
+ghost use Rattle.intake.specs.Ingested.{only, with_items};
 ghost use Rattle.intake.specs.Media.{told};
 ghost use Rattle.intake.specs.Taking.{most_epochs};
+ghost use Rattle.intake.specs.inner.Effects.{effect_of, IsOfPacket};
 ghost use Rattle.intake.specs.inner.Kept.{Judges, base_of, gate_for};
 ghost use Rattle.intake.specs.inner.Freed.{freed_by};
 ghost use Rattle.intake.specs.inner.Holding.{kept_for};
 ghost use Rattle.intake.specs.inner.Moves.{outcome_at, state_in, epoch_in, IsKept, Advances};
 
 use crate::admitting::Admission;
-use crate::ingest::Ingest;
+use crate::ingest::Effect;
 use crate::intake::Intake;
 use crate::judging::{Judged, Mark, judge_first, judge_known};
 use crate::kept::NextState;
@@ -140,19 +141,21 @@ impl<A: Allocator + Copy> Intake<A> {
         key: OriginKey,
         judged: &Judged,
         items: Vec<Item<A>, A>,
-    ) -> Result<Ingest<A>, AllocError>
+    ) -> Result<Effect<A>, AllocError>
         requires below { (judged.now.begins && nat_eq self.old.epochs most_epochs) ≡ false }
         requires epoch { judged.now.epoch ≡ epoch_in (kept_for key judged.now.rate self.old.entries) }
         requires sized { list_all is_sized (map input_of items.items) ≡ true }
         ensures advances { OnOk result (Advances self.old self.new key judged.now None) }
-        ensures ingest { IfOk result
-            (λ ingest. ingested_of ingest ≡ with_items (told judged.now.verdict) (map input_of items.items)) }
+        ensures effect { IfOk result
+            (λ effect. effect_of effect ≡ with_items (told judged.now.verdict) (map input_of items.items)) }
+        ensures packet { IfOk result (IsOfPacket self.old self.new) }
         ensures err { OnErr result (self.new ≡ self.old) }
         ensures asker { self.new.asker ≡ self.old.asker }
     {
         self.advance(alloc, key, judged, None)?;
-        Ok(Ingest {
+        Ok(Effect {
             outcome: outcome_at(judged.verdict, Place::Taken),
+            begins: judged.begins,
             up: Vec::new(alloc),
             items,
         })
@@ -164,11 +167,12 @@ impl<A: Allocator + Copy> Intake<A> {
         alloc: A,
         key: OriginKey,
         judged: &Judged,
-    ) -> Result<Ingest<A>, AllocError>
+    ) -> Result<Effect<A>, AllocError>
         requires below { (judged.now.begins && nat_eq self.old.epochs most_epochs) ≡ false }
         requires epoch { judged.now.epoch ≡ epoch_in (kept_for key judged.now.rate self.old.entries) }
         ensures advances { OnOk result (Advances self.old self.new key judged.now None) }
-        ensures ingest { IfOk result (λ ingest. ingested_of ingest ≡ only (told judged.now.verdict)) }
+        ensures effect { IfOk result (λ effect. effect_of effect ≡ only (told judged.now.verdict)) }
+        ensures packet { IfOk result (IsOfPacket self.old self.new) }
         ensures err { OnErr result (self.new ≡ self.old) }
         ensures asker { self.new.asker ≡ self.old.asker }
     {

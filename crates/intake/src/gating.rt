@@ -1,16 +1,17 @@
 //! Puts video packets through their source's gate.
 
-ghost use Rattle.std.specs.Prelude.{◌≡◌, ◌+◌, ◌≤◌, ◌||◌, ◌&&◌, ◌++◌, true, false, is_some, nat_eq, length, map};
-ghost use Rattle.std.specs.Prelude.{IfOk, OnErr};
+ghost use Rattle.std.specs.Prelude.{◌≡◌, ◌+◌, ◌≤◌, ◌||◌, ◌&&◌, ◌++◌, true, false, is_some, nat_eq};
+ghost use Rattle.std.specs.Prelude.{length, map, IfOk, OnErr};
 ghost use Rattle.std.specs.Prelude.{option_copied, vec_len, vec_capacity};
 ghost use Rattle.rtp_codec.specs.View.{packet_of};
 ghost use Rattle.source_valid.specs.Histories.{restarts};
 ghost use Rattle.frame_gate.specs.Frame.{highest_pt};
 ghost use Rattle.frame_gate.specs.Packets.{IsExt, NumberedPacket, numbered};
 ghost use Rattle.media_items.specs.Inputs.{input_of};
-ghost use Rattle.intake.specs.Ingested.{ingested_of, IsAbout};
+ghost use Rattle.intake.specs.Ingested.{IsAbout};
 ghost use Rattle.intake.specs.Media.{gate_packet, frames_from};
 ghost use Rattle.intake.specs.Taking.{most_epochs};
+ghost use Rattle.intake.specs.inner.Effects.{effect_of, IsOfPacket};
 ghost use Rattle.intake.specs.inner.Comings.{coming_of, origin_in};
 ghost use Rattle.intake.specs.inner.Kept.{Admits, base_of, gate_for};
 ghost use Rattle.intake.specs.inner.Holding.{kept_for};
@@ -20,7 +21,7 @@ ghost use Rattle.intake.specs.inner.Moves.{epoch_in, Gates};
 use crate::admitting::{Admission, admit};
 use crate::advancing::outcome_at;
 use crate::coming::{Coming, Origin, origin_of};
-use crate::ingest::Ingest;
+use crate::ingest::Effect;
 use crate::intake::Intake;
 use crate::judging::Judged;
 use crate::kept::Kept;
@@ -123,7 +124,7 @@ impl<A: Allocator + Copy> Intake<A> {
         judged: &Judged,
         coming: Coming<'_>,
         admission: Admission<A>,
-    ) -> Result<Ingest<A>, AllocError>
+    ) -> Result<Effect<A>, AllocError>
         requires below { (judged.now.begins && nat_eq self.old.epochs most_epochs) ≡ false }
         requires epoch { judged.now.epoch ≡ epoch_in (kept_for key judged.now.rate self.old.entries) }
         requires few { length admission.prepared.prepared.answer.nacks ≤ most_missing }
@@ -132,8 +133,9 @@ impl<A: Allocator + Copy> Intake<A> {
         ensures gates { (p : NumberedPacket)
             → Admits (gate_for (kept_for key judged.now.rate self.old.entries) judged.now.begins) p admission
             → IfOk result
-            (λ ingest. Gates self.old self.new key judged.now (coming_of coming.entry) p (ingested_of ingest)) }
-        ensures about { IfOk result (λ ingest. IsAbout coming.entry.from.now (ingested_of ingest)) }
+            (λ effect. Gates self.old self.new key judged.now (coming_of coming.entry) p (effect_of effect)) }
+        ensures about { IfOk result (λ effect. IsAbout coming.entry.from.now (effect_of effect)) }
+        ensures packet { IfOk result (IsOfPacket self.old self.new) }
         ensures err { OnErr result (self.new ≡ self.old) }
         ensures asker { self.new.asker ≡ self.old.asker }
     {
@@ -146,7 +148,12 @@ impl<A: Allocator + Copy> Intake<A> {
         let epoch = self.epoch_for(judged);
         let frames = self.advance(alloc, key, judged, Some(admission))?;
         put_frames(&mut items, origin, coming.moment, epoch, frames);
-        Ok(Ingest { outcome, up, items })
+        Ok(Effect {
+            outcome,
+            begins: judged.begins,
+            up,
+            items,
+        })
     }
 
     /// Copies a packet's payload, and puts it through its source's gate.
@@ -157,15 +164,16 @@ impl<A: Allocator + Copy> Intake<A> {
         judged: &Judged,
         ext: i64,
         coming: Coming<'_>,
-    ) -> Result<Ingest<A>, AllocError>
+    ) -> Result<Effect<A>, AllocError>
         requires below { (judged.now.begins && nat_eq self.old.epochs most_epochs) ≡ false }
         requires epoch { judged.now.epoch ≡ epoch_in (kept_for key judged.now.rate self.old.entries) }
         requires ext { IsExt ext }
         requires pt { coming.view.now.pt ≤ highest_pt }
         ensures gates { IfOk result
-            (λ ingest. Gates self.old self.new key judged.now (coming_of coming.entry)
-            (numbered ext (gate_packet (packet_of coming.entry.view.now))) (ingested_of ingest)) }
-        ensures about { IfOk result (λ ingest. IsAbout coming.entry.from.now (ingested_of ingest)) }
+            (λ effect. Gates self.old self.new key judged.now (coming_of coming.entry)
+            (numbered ext (gate_packet (packet_of coming.entry.view.now))) (effect_of effect)) }
+        ensures about { IfOk result (λ effect. IsAbout coming.entry.from.now (effect_of effect)) }
+        ensures packet { IfOk result (IsOfPacket self.old self.new) }
         ensures err { OnErr result (self.new ≡ self.old) }
         ensures asker { self.new.asker ≡ self.old.asker }
     {

@@ -5,6 +5,7 @@ ghost use Rattle.std.specs.List.{list_all};
 ghost use Rattle.media_items.specs.Inputs.{input_of, is_sized};
 
 use crate::outcome::Outcome;
+use crate::received::Received;
 use media_items::Item;
 use rtp_codec::Address;
 use std::alloc::{Allocator, Global};
@@ -14,8 +15,8 @@ use std::alloc::{Allocator, Global};
 // caller of a lane need not have.
 #[derive(Drop)]
 pub struct Ingest<A: Allocator + Copy = Global> {
-    /// Its outcome.
-    pub outcome: Outcome,
+    /// What the datagram was.
+    pub received: Received<A>,
     /// Datagrams to send, with the addresses that they go to.
     pub up: Vec<(Address, Vec<u8, A>), A>,
     /// The items for each lane, in this order.
@@ -25,14 +26,76 @@ pub struct Ingest<A: Allocator + Copy = Global> {
 }
 
 impl<A: Allocator + Copy> Ingest<A> {
+    ghost use Rattle.std.specs.Prelude.{false};
     ghost use Rattle.intake.specs.Ingested.{only, ingested_of};
+    ghost use Rattle.intake.specs.Received.{with_outcome};
+    ghost use Rattle.intake.specs.inner.Effects.{effect_of};
 
-    /// An answer with nothing but an outcome.
+    /// An answer with nothing but what the datagram was, and its outcome.
+    pub(crate) fn only(alloc: A, received: Received<A>, outcome: Outcome) -> Self
+        ensures ingest { ingested_of result ≡ only outcome }
+        ensures received { result.received ≡ with_outcome outcome false received }
+    {
+        let mut received = received;
+        received.outcome = outcome;
+        received.begins = false;
+        Self {
+            received,
+            up: Vec::new(alloc),
+            items: Vec::new(alloc),
+        }
+    }
+
+    /// The answer to a datagram of which this came.
+    pub(crate) fn of(received: Received<A>, effect: Effect<A>) -> Self
+        ensures ingest { ingested_of result ≡ effect_of effect }
+        ensures received { result.received ≡ with_outcome effect.outcome effect.begins received }
+    {
+        let Effect {
+            outcome,
+            begins,
+            up,
+            items,
+        } = effect;
+        let mut received = received;
+        received.outcome = outcome;
+        received.begins = begins;
+        Self {
+            received,
+            up,
+            items,
+        }
+    }
+}
+
+/// What comes of a datagram that was read: of a packet for its source, or of a compound for its member.
+#[derive(Drop)]
+pub(crate) struct Effect<A: Allocator + Copy = Global> {
+    /// The outcome of the datagram.
+    pub(crate) outcome: Outcome,
+    /// Whether an epoch of its source begins with it.
+    pub(crate) begins: bool,
+    /// Datagrams to send, with the addresses that they go to.
+    pub(crate) up: Vec<(Address, Vec<u8, A>), A>,
+    /// The items for each lane, in this order.
+    pub(crate) items: Vec<Item<A>, A>,
+    /// Audio items have 1 sample to 200 ms.
+    pub(crate) ghost sized: { list_all is_sized (map input_of items.items) ≡ true },
+}
+
+impl<A: Allocator + Copy> Effect<A> {
+    ghost use Rattle.std.specs.Prelude.{false};
+    ghost use Rattle.intake.specs.Ingested.{only};
+    ghost use Rattle.intake.specs.inner.Effects.{effect_of};
+
+    /// Nothing but an outcome.
     pub(crate) fn only(alloc: A, outcome: Outcome) -> Self
-        ensures { ingested_of result ≡ only outcome }
+        ensures effect { effect_of result ≡ only outcome }
+        ensures begins { result.begins ≡ false }
     {
         Self {
             outcome,
+            begins: false,
             up: Vec::new(alloc),
             items: Vec::new(alloc),
         }

@@ -9,6 +9,7 @@ ghost use Rattle.desk_rows.specs.Desk.{good};
 ghost use Rattle.intake.specs.Names.{is_name};
 ghost use Rattle.intake.specs.Sources.{no_sources};
 ghost use Rattle.intake.specs.Ingested.{ingested_of, answered_of, datagram_of, IsAbout};
+ghost use Rattle.intake.specs.Received.{IsReceived};
 ghost use Rattle.intake.specs.Intakes.{Knows, TakesIn, WaitsFor, TellsSenders};
 
 use crate::coming::Origin;
@@ -16,6 +17,7 @@ use crate::ingest::{Ingest, WaitAnswer};
 use crate::known::Known;
 use crate::outcome::Outcome;
 use crate::payloads::PayloadBlock;
+use crate::received::{Received, header_in};
 use crate::reporting::sources_of;
 use crate::settings::Settings;
 use desk_rows::{Media, Rows};
@@ -73,14 +75,7 @@ impl<A: Allocator + Copy> Intake<A> {
         })
     }
 
-    /// How many epochs have begun: each initialisation of a source begins one (RFC 3550 section A.1).
-    pub fn epochs(&self) -> u64
-        ensures { result ≡ self.now.epochs }
-    {
-        self.epochs
-    }
-
-    /// Takes in a datagram. The rows say whose it is.
+    /// Takes in a datagram. The rows say whose it is. The answer says what it was: it is read here, and nowhere else.
     ///
     /// `from` is the address that it came from, and `moment` is in nanoseconds since 1970. On out of memory, the only
     /// error, nothing changes.
@@ -96,14 +91,22 @@ impl<A: Allocator + Copy> Intake<A> {
             (λ ingest. TakesIn self.old self.new (ingested_of ingest) octets.now
             (λ r. record { desk = rows.now; from = from.now; moment = moment; reading = r })) }
         ensures about { IfOk result (λ ingest. IsAbout from.now (ingested_of ingest)) }
+        ensures received { IfOk result (λ ingest. IsReceived rows.now from.now moment octets.now
+            self.old.epochs self.new.epochs ingest.received) }
         ensures err { OnErr result (self.new ≡ self.old) }
         ensures asker { self.new.asker ≡ self.old.asker }
     {
+        let class = classify(octets);
         if octets.len() > MOST_OCTETS {
-            return Ok(Ingest::only(alloc, Outcome::TooLong));
+            let header = header_in(class, octets);
+            let received = Received::new(alloc, from, moment, octets, header);
+            return Ok(Ingest::only(alloc, received, Outcome::TooLong));
         }
-        match classify(octets) {
-            Class::Neither => Ok(Ingest::only(alloc, Outcome::Neither)),
+        match class {
+            Class::Neither => {
+                let received = Received::new(alloc, from, moment, octets, None);
+                Ok(Ingest::only(alloc, received, Outcome::Neither))
+            }
             Class::Rtp => self.rtp(alloc, rows, from, moment, octets),
             Class::Rtcp => self.rtcp(alloc, rows, from, moment, octets),
         }

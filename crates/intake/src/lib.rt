@@ -7,7 +7,7 @@
 //! ```rust
 //! let settings = Settings { bridge_ssrc: 1, cname: Bytes::from_static(b"bridge") };
 //! let mut intake = Intake::new(alloc, settings)?;
-//! let ingest = intake.datagram(alloc, &rows, &from, moment, &octets)?; // its outcome, items, and datagrams to send
+//! let ingest = intake.datagram(alloc, &rows, &from, moment, &octets)?; // what it was, items, and datagrams to send
 //! let answer = intake.wait(alloc, &rows, &from, 1001, moment)?; // every 20 ms: items, and datagrams to send
 //! let reports = intake.reports(alloc, &rows, moment)?; // receiver reports, with the addresses that they go to
 //! ```
@@ -31,6 +31,7 @@ mod laws;
 mod media;
 mod outcome;
 mod payloads;
+mod received;
 mod reception;
 mod reporting;
 mod requesting;
@@ -45,5 +46,6 @@ pub use self::laws::{
     voices_are_there, waits_leave_others_alone,
 };
 pub use self::outcome::Outcome;
+pub use self::received::Received;
 pub use self::reception::Reception;
 pub use self::settings::Settings;

@@ -4,24 +4,26 @@ ghost use Rattle.std.specs.Prelude.{◌≡◌, ◌≤◌, true, length, IfOk, On
 ghost use Rattle.rtp_codec.specs.View.{packet_of};
 ghost use Rattle.frame_gate.specs.Frame.{highest_pt};
 ghost use Rattle.rtp_codec.specs.declared.class.Class.TheVariants as classes;
-ghost use Rattle.topology.specs.Looking.{source_from};
 ghost use Rattle.media_items.specs.Formats.{rate_of, holds_whole};
 ghost use Rattle.media_items.specs.Rates.{video_rate};
 ghost use Rattle.intake.specs.Readings.{IsOf};
 ghost use Rattle.intake.specs.Ingested.{ingested_of, IsAbout};
+ghost use Rattle.intake.specs.Received.{IsReceived};
 ghost use Rattle.intake.specs.Media.{audio_course, video_course, mark_of};
 ghost use Rattle.intake.specs.Taking.{sourced, of_row};
 ghost use Rattle.intake.specs.Intakes.{Moves, TakesIn};
+ghost use Rattle.intake.specs.inner.Effects.{effect_of, IsOfPacket};
 ghost use Rattle.intake.specs.inner.Comings.{coming_of};
 
 use crate::coming::Coming;
-use crate::ingest::Ingest;
+use crate::ingest::{Effect, Ingest};
 use crate::intake::Intake;
 use crate::judging::{Mark, units_of};
 use crate::known::key_of;
 use crate::outcome::Outcome;
+use crate::received::{Received, header_of};
 use crate::sounding::{audio_format, sounds};
-use desk_rows::{DEFAULT_RATE, Media, Rows};
+use desk_rows::{DEFAULT_RATE, Media, Rows, Source};
 use media_items::Format;
 use rtp_codec::{Address, read};
 use std::alloc::{AllocError, Allocator};
@@ -51,39 +53,41 @@ impl<A: Allocator + Copy> Intake<A> {
         alloc: A,
         format: Format,
         coming: Coming<'_>,
-    ) -> Result<Ingest<A>, AllocError>
+    ) -> Result<Effect<A>, AllocError>
         requires { holds_whole format (length coming.view.now.payload.now) ≡ true }
         ensures moves { IfOk result
-            (λ ingest. Moves self.old self.new (ingested_of ingest)
+            (λ effect. Moves self.old self.new (effect_of effect)
             (λ voice s. sourced voice (rate_of format)
             (audio_course format (coming_of coming.entry)) (coming_of coming.entry) s)) }
-        ensures about { IfOk result (λ ingest. IsAbout coming.entry.from.now (ingested_of ingest)) }
+        ensures about { IfOk result (λ effect. IsAbout coming.entry.from.now (effect_of effect)) }
+        ensures packet { IfOk result (IsOfPacket self.old self.new) }
         ensures err { OnErr result (self.new ≡ self.old) }
         ensures asker { self.new.asker ≡ self.old.asker }
     {
         let key = key_of(coming.from, coming.view.ssrc);
         let judged = self.judged(&key, mark_of(format.rate(), coming));
         if self.is_spent(&judged) {
-            return Ok(Ingest::only(alloc, Outcome::Spent));
+            return Ok(Effect::only(alloc, Outcome::Spent));
         }
         let items = sounds(alloc, judged.verdict, format, coming)?;
         self.telling(alloc, key, &judged, items)
     }
 
     /// Takes in a video packet.
-    fn video(&mut self, alloc: A, coming: Coming<'_>) -> Result<Ingest<A>, AllocError>
+    fn video(&mut self, alloc: A, coming: Coming<'_>) -> Result<Effect<A>, AllocError>
         requires { coming.view.now.pt ≤ highest_pt }
         ensures moves { IfOk result
-            (λ ingest. Moves self.old self.new (ingested_of ingest)
+            (λ effect. Moves self.old self.new (effect_of effect)
             (λ voice s. sourced voice video_rate (video_course (coming_of coming.entry)) (coming_of coming.entry) s)) }
-        ensures about { IfOk result (λ ingest. IsAbout coming.entry.from.now (ingested_of ingest)) }
+        ensures about { IfOk result (λ effect. IsAbout coming.entry.from.now (effect_of effect)) }
+        ensures packet { IfOk result (IsOfPacket self.old self.new) }
         ensures err { OnErr result (self.new ≡ self.old) }
         ensures asker { self.new.asker ≡ self.old.asker }
     {
         let key = key_of(coming.from, coming.view.ssrc);
         let judged = self.judged(&key, mark_of(VIDEO_RATE, coming));
         if self.is_spent(&judged) {
-            return Ok(Ingest::only(alloc, Outcome::Spent));
+            return Ok(Effect::only(alloc, Outcome::Spent));
         }
         match judged.verdict.accepted() {
             None => self.plain(alloc, key, &judged),
@@ -91,31 +95,32 @@ impl<A: Allocator + Copy> Intake<A> {
         }
     }
 
-    /// Takes in a media packet.
+    /// Takes in a media packet of the source in this row, if there is one.
     fn media(
         &mut self,
         alloc: A,
         rows: &Rows<A>,
+        source: Option<Source>,
         coming: Coming<'_>,
-    ) -> Result<Ingest<A>, AllocError>
+    ) -> Result<Effect<A>, AllocError>
         requires { coming.view.now.pt ≤ highest_pt }
         ensures moves { IfOk result
-            (λ ingest. Moves self.old self.new (ingested_of ingest)
-            (λ voice s. of_row voice rows.now (source_from rows.now coming.entry.view.now.ssrc coming.entry.from.now)
-            (coming_of coming.entry) s)) }
-        ensures about { IfOk result (λ ingest. IsAbout coming.entry.from.now (ingested_of ingest)) }
+            (λ effect. Moves self.old self.new (effect_of effect)
+            (λ voice s. of_row voice rows.now source (coming_of coming.entry) s)) }
+        ensures about { IfOk result (λ effect. IsAbout coming.entry.from.now (effect_of effect)) }
+        ensures packet { IfOk result (IsOfPacket self.old self.new) }
         ensures err { OnErr result (self.new ≡ self.old) }
         ensures asker { self.new.asker ≡ self.old.asker }
     {
         let view = coming.view;
-        let Some(source) = source_from(rows, view.ssrc, coming.from) else {
-            return Ok(Ingest::only(alloc, Outcome::Unknown));
+        let Some(source) = source else {
+            return Ok(Effect::only(alloc, Outcome::Unknown));
         };
         match source.media {
             Media::Audio => {
                 let rate = rate_of(rows, source.member).unwrap_or(DEFAULT_RATE);
                 match audio_format(rate, view.pt, view.payload.len()) {
-                    None => Ok(Ingest::only(alloc, Outcome::BadPayload)),
+                    None => Ok(Effect::only(alloc, Outcome::BadPayload)),
                     Some(format) => self.audio(alloc, format, coming),
                 }
             }
@@ -137,18 +142,28 @@ impl<A: Allocator + Copy> Intake<A> {
             (λ ingest. TakesIn self.old self.new (ingested_of ingest) octets.now
             (λ r. record { desk = rows.now; from = from.now; moment = moment; reading = r })) }
         ensures about { IfOk result (λ ingest. IsAbout from.now (ingested_of ingest)) }
+        ensures received { IfOk result (λ ingest. IsReceived rows.now from.now moment octets.now
+            self.old.epochs self.new.epochs ingest.received) }
         ensures err { OnErr result (self.new ≡ self.old) }
         ensures asker { self.new.asker ≡ self.old.asker }
     {
         match read(octets) {
-            Err(fault) => Ok(Ingest::only(alloc, Outcome::BadRtp(fault))),
+            Err(fault) => {
+                let received = Received::new(alloc, from, moment, octets, None);
+                Ok(Ingest::only(alloc, received, Outcome::BadRtp(fault)))
+            }
             Ok(view) => {
+                let source = source_from(rows, view.ssrc, from);
                 let coming = Coming {
                     from,
                     moment,
                     view: &view,
                 };
-                self.media(alloc, rows, coming)
+                let effect = self.media(alloc, rows, source, coming)?;
+                let header = header_of(&view);
+                let mut received = Received::new(alloc, from, moment, octets, Some(header));
+                received.source = source;
+                Ok(Ingest::of(received, effect))
             }
         }
     }

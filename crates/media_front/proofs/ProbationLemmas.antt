@@ -1,30 +1,33 @@
--- Which video source a datagram is of.
-use Rattle.std.proofs.Common.{◌≡◌, ◌∙◌, ℕ, List, Option, None, refl, ap, sym}
+-- The video source whose probation a datagram ended.
+use Rattle.std.proofs.Common.{◌≡◌, ◌∙◌, ◌&&◌, ℕ, Bool, if◌then◌else◌, Option, None, refl, ap}
+use Rattle.std.specs.Option.{option_and_then}
 use Rattle.rtp_codec.specs.declared.address.Address.{Address}
-use Rattle.rtp_codec.specs.declared.class.Class.TheVariants as classes
-use Rattle.rtp_codec.specs.Packet.{Packet as RtpPacket}
 use Rattle.desk_rows.specs.Desk.{Desk}
-use Rattle.intake.specs.Readings.{Reading, IsReading, too_long, neither, no_packet, packet, no_compound, compound}
-use Rattle.media_front.specs.Probations.{video_in}
+use Rattle.intake.specs.declared.received.Received.{Received}
+use Rattle.intake.specs.Readings.{Reading, too_long, neither, no_packet, packet, no_compound, compound}
+use Rattle.intake.specs.Received.{row_in, IsReceived}
+use Rattle.intake.specs.inner.Holding.{IntakeOf}
+use Rattle.media_front.specs.Fronts.{Arrival}
+use Rattle.media_front.specs.Probations.{video_ssrc, video_in, is_accepted, ends_probation, EndsProbation}
 
-pub rtp_neither : classes.Rtp ≡ classes.Neither → ⊥
-rtp_neither e = cc
+same_video : (desk : Desk) (from : Address) (r : Reading)
+    → option_and_then video_ssrc (row_in desk from r) ≡ video_in desk from r
+same_video desk from too_long = refl
+same_video desk from neither = refl
+same_video desk from (no_packet fault) = refl
+same_video desk from (packet p) = refl
+same_video desk from (no_compound fault) = refl
+same_video desk from (compound packets) = refl
 
-pub rtp_rtcp : classes.Rtp ≡ classes.Rtcp → ⊥
-rtp_rtcp e = cc
+-- the source in the row of what was received, if it is video and that ended a probation
+abbrev pub ended_of : {A : Type 0} → Received A → Bool → Option ℕ
+ended_of r ends = if ends then option_and_then video_ssrc r.source else None
 
--- octets that are no packet are of none
-pub no_video : (desk : Desk) (from : Address) (octets : List ℕ) → ((p : RtpPacket) → IsReading octets (packet p) → ⊥)
-    → (r : Reading) → IsReading octets r → None ≡ video_in desk from r
-no_video desk from octets never too_long is = refl
-no_video desk from octets never neither is = refl
-no_video desk from octets never (no_packet fault) is = refl
-no_video desk from octets never (packet p) is = absurd (never p is)
-no_video desk from octets never (no_compound fault) is = refl
-no_video desk from octets never (compound packets) is = refl
-
--- octets of one packet are of its source
-pub packet_video : (desk : Desk) (from : Address) (octets : List ℕ) (p : RtpPacket)
-    → ((r : Reading) → IsReading octets r → r ≡ packet p) → (ssrc : Option ℕ) → ssrc ≡ video_in desk from (packet p)
-    → (r : Reading) → IsReading octets r → ssrc ≡ video_in desk from r
-packet_video desk from octets p alone ssrc same r is = same ∙ ap (video_in desk from) (sym (alone r is))
+pub ended : {A : Type 0} (arrival : Arrival) (old new : IntakeOf) (r : Received A) (ssrc : Option ℕ)
+    → ssrc ≡ ended_of r (is_accepted r.outcome && r.begins)
+    → IsReceived arrival.desk arrival.from arrival.moment arrival.octets old.epochs new.epochs r
+    → EndsProbation arrival r.outcome old new ssrc
+ended arrival old new r ssrc is received = λ reading reads.
+    is ∙ (ap (λ (b : Bool). ended_of r (is_accepted r.outcome && b)) received.epoch
+    ∙ ap (λ (v : Option ℕ). if ends_probation r.outcome old.epochs new.epochs then v else None)
+    (ap (option_and_then video_ssrc) (received.row reading reads) ∙ same_video arrival.desk arrival.from reading))

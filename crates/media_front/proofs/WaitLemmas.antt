@@ -1,5 +1,6 @@
 -- What is done with the intake's answers, and waits of many sources.
-use Rattle.std.proofs.Common.{◌≡◌, ◌<◌, ◌+◌, ℕ, List, ◌++◌, length, take, drop, filter, get_or, Option, ap, sym, subst}
+use Rattle.std.proofs.Common.{◌≡◌, ◌<◌, ◌+◌, ℕ, List, ◌++◌, length, map, take, drop, filter, get_or, Option, ap, sym}
+use Rattle.std.proofs.Common.{subst}
 use Rattle.std.proofs.Common.{◌∙◌, Result, Ok, Err, OnErr}
 use Rattle.std.specs.Prelude.{filter_map, option_to_list}
 use Rattle.desk_rows.specs.declared.row.Row.{Row}
@@ -8,7 +9,10 @@ use Rattle.desk_rows.specs.Kinds.{is_of}
 use Rattle.desk_rows.specs.Desk.{Desk}
 use Rattle.topology.specs.Looking.{source_in}
 use Rattle.topology.proofs.KindRows.{source_rows}
-use Rattle.intake.specs.Ingested.{Ingested}
+use Rattle.media_items.specs.Inputs.{input_of}
+use Rattle.intake.specs.declared.received.Received.{Received}
+use Rattle.intake.specs.declared.ingest.WaitAnswer.{WaitAnswer}
+use Rattle.intake.specs.Ingested.{Ingested, datagram_of}
 use Rattle.intake.specs.Sources.{Origin}
 use Rattle.upward.specs.Upstream.{Asker}
 use Rattle.rate_limiter.specs.declared.bucket.Bucket.{Bucket}
@@ -28,6 +32,10 @@ use Rattle.media_front.proofs.WaitLists.{folds_both, read_of_part, read_more, re
 pub on_err : {A B C : Type 0} (r : Result A B) → C → OnErr r C
 on_err (Ok a) k = tt {0}
 on_err (Err b) k = k
+
+-- the answer to a wait, with the outcome of this
+abbrev pub with_answer : {A : Type 0} → Received A → WaitAnswer A → Ingested
+with_answer r a = record { outcome = r.outcome; up = map datagram_of a.up.items; items = map input_of a.items.items }
 
 -- what was done for a front is done for one with the same buckets, the same lanes, the same counts and the same name
 pub handled_at : {P S : Type 0} (arrival : Arrival) (ingested : Ingested) (mid old new : FrontOf P S)

@@ -3,10 +3,10 @@
 ghost use Rattle.std.specs.Prelude.{◌≡◌, ◌↔◌, ◌<◌, ◌≤◌, true, length, map, Some, OnErr, IfOk, slice_get};
 ghost use Rattle.std.specs.Bool.{MatchBool};
 ghost use Rattle.media_items.specs.Inputs.{Input};
+ghost use Rattle.intake.specs.Received.{IsReceived};
 ghost use Rattle.bridge_core.specs.Calls.{most_lanes};
 ghost use Rattle.media_workers.specs.Bridges.{AllEnded};
 ghost use Rattle.udp_wire.specs.Pacing.{tick_gap, most_ticks, is_behind, report_due, after_report};
-ghost use Rattle.udp_wire.specs.declared.ending.FrontFault.TheVariants.{OutOfMemory as MemoryFault};
 ghost use Rattle.media_front.specs.FedLanes.{FedLane, ports_in, owing_notice, after_signal, AreGiven, AllAreGiven};
 ghost use Rattle.media_front.specs.LeftOut.{none_limited};
 ghost use Rattle.media_front.specs.Prices.{pli_octets};
@@ -17,7 +17,7 @@ use crate::feed::LaneFeed;
 use crate::limiting::none_limited;
 use crate::timer_item::TimerItem;
 use crate::trying::try_all;
-use bridge_core::{Intake, Outcome};
+use bridge_core::{Intake, Received};
 use bridge_stats::Limited;
 use desk_rows::Rows;
 use media_workers::{LaneEnd, Pace, PublisherName, Sink};
@@ -113,7 +113,7 @@ impl<N: PublisherName, P: Pace, S: Sink> MediaFront<N, P, S> {
         self.feed.tell(notice);
     }
 
-    /// Takes in a datagram that came from an address at a moment. The rows say whose it is. Then, in this order:
+    /// Takes in a datagram from an address at a moment, and returns what it was. The rows say whose it is. Then:
     ///
     /// - A datagram of a member refills the tokens of its octets.
     /// - The front tries to send what the intake asks the sender for, in order. Each of these datagrams costs its
@@ -132,10 +132,12 @@ impl<N: PublisherName, P: Pace, S: Sink> MediaFront<N, P, S> {
         moment: u64,
         octets: &[u8],
         wire: &mut W,
-    ) -> Result<Outcome, FrontFault>
-        ensures takes { IfOk result (λ outcome. HasTaken
-            (record { desk = rows.now; from = from.now; moment = moment; octets = octets.now }) outcome
+    ) -> Result<Received, FrontFault>
+        ensures takes { IfOk result (λ received. HasTaken
+            (record { desk = rows.now; from = from.now; moment = moment; octets = octets.now }) received.outcome
             self.old self.new (W.attempts wire.old) (W.attempts wire.new)) }
+        ensures received { IfOk result (IsReceived rows.now from.now moment octets.now
+            self.old.intake.epochs self.new.intake.epochs) }
         ensures err { OnErr result (self.new ≡ record self.old { intake = self.new.intake }) }
         ensures unsent { OnErr result (W.attempts wire.new ≡ W.attempts wire.old) }
         ensures intake { OnErr result (MayHaveTaken
@@ -150,9 +152,8 @@ impl<N: PublisherName, P: Pace, S: Sink> MediaFront<N, P, S> {
         ensures asker { self.new.intake.asker ≡ self.old.intake.asker }
     {
         let ingest = self.intake.datagram(alloc, rows, from, moment, octets)?;
-        let outcome = ingest.outcome;
-        self.handle(alloc, from, moment, octets, ingest, wire)?;
-        Ok(outcome)
+        let received = self.handle(alloc, ingest, wire)?;
+        Ok(received)
     }
 
     /// Gives every lane the ticks that are due: one for each whole 20 ms since the start, oldest first, and of more

@@ -2,7 +2,7 @@
 //! each item. Lanes share it. The lanes send by sinks of their own.
 //!
 //! Begin with [`LaneFeed::start`], which starts a lane for each reader of the published desk, and with
-//! [`MediaFront::new`]. In each round, [`MediaFront::tell`] takes the latest notice, [`MediaFront::take_in`] a
+//! [`MediaFront::new`]. In each round, [`MediaFront::tell`] takes the latest notice, [`MediaFront::datagram`] a
 //! datagram, [`MediaFront::tick`] and [`MediaFront::report`] the moment. Then [`MediaFront::signal`] wakes the lanes
 //! for what presses. [`MediaFront::until_tick`] says how long the next round may wait. The crate has no socket and no
 //! clock.
@@ -23,8 +23,8 @@
 //! let mut media = MediaFront::new(intake, feed, limiter, cost, ReportTimer::begin(5_000, start)); // reports every 5 s
 //! media.renew(); // once, before anything else is given
 //! media.tell(notice);
-//! let (outcome, ended) = media.take_in(alloc, rows, &from, moment, octets, &mut wire)?; // from, at this moment
-//! if let Some(ssrc) = ended {
+//! let received = media.datagram(alloc, rows, &from, moment, octets, &mut wire)?; // from, at this moment
+//! if let Some(ssrc) = ended_by(&received) {
 //!     let sent = media.ask_picture(alloc, &from, ssrc, &mut wire)?; // its probation ended
 //! }
 //! if media.tick(moment) {
@@ -65,6 +65,7 @@ mod trying;
 mod waiting;
 mod watching;
 
+pub use self::accepting::ended_by;
 pub use self::ends::fault_of;
 pub use self::feed::LaneFeed;
 pub use self::front::MediaFront;

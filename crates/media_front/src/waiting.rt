@@ -6,7 +6,7 @@ ghost use Rattle.media_front.specs.inner.Origins.{origin_in};
 
 use crate::front::MediaFront;
 use crate::origins::origin_in;
-use bridge_core::{Ingest, Outcome, WaitAnswer};
+use bridge_core::{Ingest, Received, WaitAnswer};
 use desk_rows::{Kind, Row, Rows};
 use media_workers::{Pace, PublisherName, Sink};
 use rtp_codec::Address;
@@ -52,12 +52,13 @@ impl<N: PublisherName, P: Pace, S: Sink> MediaFront<N, P, S> {
         let answer = self.intake.wait(alloc, rows, from, ssrc, moment)?;
         let WaitAnswer { up, items } = answer;
         // A wait is no datagram: it refills as little as a stranger's.
+        let received = Received::silence(alloc, from, moment);
         let ingest = Ingest {
-            outcome: Outcome::Unknown,
+            received,
             up,
             items,
         };
-        self.handle(alloc, from, moment, &[], ingest, wire)?;
+        self.handle(alloc, ingest, wire)?;
         Ok(())
     }
 

@@ -128,7 +128,7 @@ fn answer_datagram<A: Allocator + Copy>(
     ensures lane { HasLane core.new }
 {
     let ingest = core.datagram(alloc, &from, moment, octets)?;
-    print_outcome(&ingest.outcome, out)?;
+    print_outcome(&ingest.received.outcome, out)?;
     print_all_up(&ingest.up, out)?;
     answer_items(alloc, core, &ingest.items, out)
 }

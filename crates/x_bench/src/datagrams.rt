@@ -63,7 +63,7 @@ pub fn taken(alloc: Global, order: &Order, from: u16) -> io::Result<Tally> {
     for time in 0..order.times {
         write_header(&mut octets, time, order.slots, order.packets);
         let taken = core.datagram(alloc, &address_of(from), time, &octets)?;
-        if let Outcome::Accepted { .. } = taken.outcome {
+        if let Outcome::Accepted { .. } = taken.received.outcome {
             tally.count(DATAGRAM);
         }
     }

@@ -172,7 +172,7 @@ impl<'a> Bridge<'a> {
         let Ok(ingest) = taken else {
             return Ok(Answer::Refused);
         };
-        say_outcome(ingest.outcome, out)?;
+        say_outcome(ingest.received.outcome, out)?;
         for (to, octets) in &ingest.up {
             say_up(self.alloc, to, octets, out)?;
         }

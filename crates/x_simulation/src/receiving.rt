@@ -33,21 +33,19 @@ impl OneThread {
         }
         let from = datagram.address;
         let octets = &datagram.octets;
-        let before = self.intake.epochs();
         let rows = self.desk.core.rows();
         let ingest = self
             .intake
             .datagram(self.alloc, rows, &from, moment, octets)?;
-        let is_new = matches!(ingest.outcome, Outcome::Accepted { .. })
-            && before < self.intake.epochs();
-        if is_from_member(ingest.outcome) {
-            self.limiter.refill(&from, octets.len() as u64)?;
-        }
         let Ingest {
-            outcome: _,
+            received,
             up,
             items,
         } = ingest;
+        let is_new = matches!(received.outcome, Outcome::Accepted { .. }) && received.begins;
+        if is_from_member(received.outcome) {
+            self.limiter.refill(&from, octets.len() as u64)?;
+        }
         self.handle(&from, moment, up, items)?;
         if is_new {
             self.ask_first(&from, octets, moment)?;

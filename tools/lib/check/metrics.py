@@ -43,6 +43,7 @@ lane 0 items 5012 dropped 4 packets 4010 octets 520112 waited 6 not-ready 1 deni
 too-long 0 other 2 waiting 3
 tomorrow 7 of 9
 limited nacks 4 blocks 0 plis 1
+socket receive-buffer 212992 send-buffer 4194304
 seats 2 of 4
 end
 """
@@ -67,6 +68,8 @@ SAMPLES = {
     'confbridge_lane_waiting_items{lane="0"}': 3,
     'confbridge_lane_unsent_packets_total{lane="0",cause="refused"}': 7,
     'confbridge_limited_feedback_total{kind="nacks"}': 4,
+    "confbridge_socket_receive_buffer_bytes": 212992,
+    "confbridge_socket_send_buffer_bytes": 4194304,
     "confbridge_seats_used": 2,
     "confbridge_seats": 4,
 }  # fmt: skip

@@ -1,10 +1,10 @@
 """Starts bridges with good and bad settings.
 
 It compares their exit statuses and standard error, on which a line says what failed and why before the last one says
-how the bridge ends. The faults are those of docs/FORMATS.md. Ports are of the system's choice. Then it counts the lines
-of many connections. At last ./confbridge runs bridges, as units and containers do. In mid-call SIGHUP does nothing, and
-SIGTERM and SIGINT stop a bridge with its last lines and status 0. A full or closed standard error keeps none from
-starting.
+how the bridge ends. The faults are those of docs/FORMATS.md. Ports are of the system's choice. `stats` tells the
+buffers that the settings ask for, as far as the system allows them. Then it counts the lines of many connections. At
+last ./confbridge runs bridges, as units and containers do. In mid-call SIGHUP does nothing, and SIGTERM and SIGINT stop
+a bridge with its last lines and status 0. A full or closed standard error keeps none from starting.
 """
 
 import pathlib
@@ -15,7 +15,7 @@ import tempfile
 import time
 
 from lib.scripted import check_script
-from lib.serving import LISTENS, said_at_the_end, udp_socket
+from lib.serving import LISTENS, Operator, said_at_the_end, udp_socket
 from lib.shared import add_program, fail, release_program
 
 NEEDS = "the program, a minute"
@@ -61,11 +61,19 @@ BAD = [
     (b"zone = 1\nLanes = 1\n" + BOTH, "4 UnknownKey Lanes", "Lanes = 1"),
     (b"lane = 1\noperators = 17\n" + BOTH, "3 BadValue operators", "operators = 17"),
     (BOTH + b"[more]\nlanes = 1\n", "4 UnknownKey more", r"more = \{.*lanes = 1.*\}"),
+    (BOTH + b"receive_buffer = 4095\n", "3 BadValue receive_buffer", "receive_buffer = 4095"),
+    (BOTH + b"send_buffer = 1000000001\n", "3 BadValue send_buffer", "send_buffer = 1000000001"),
 ]
 # Good settings.
 GOOD = [
     BOTH,
     BOTH + b'lanes = 16\noperators = 16\nreport_ms = 1000\nbridge_ssrc = 4294967295\ncname = "' + 255 * b"a" + b'"\n',
+]
+# The buffers that settings ask for: to receive, and to send.
+BUFFERS = [
+    (BOTH, 4_194_304, 4_194_304),
+    (BOTH + b"receive_buffer = 65536\n", 65_536, 4_194_304),
+    (BOTH + b"receive_buffer = 1000000000\nsend_buffer = 98304\n", 1_000_000_000, 98_304),
 ]
 USAGE = "usage: confbridge replay | confbridge serve FILE\n"
 FAILED = "confbridge: input or output failed\n"
@@ -139,6 +147,33 @@ def stop_by_line(_, port):
         desk.recv(1)
 
 
+def allowed(what):
+    """The most octets that the system gives a buffer for which a program asks, or None where it doesn't say."""
+    path = pathlib.Path(f"/proc/sys/net/core/{what}_max")
+    return int(path.read_text()) if path.is_file() else None
+
+
+def check_buffers(program, path):
+    """`stats` tells the buffers that the settings ask for, or the largest that the system allows."""
+    most = allowed("rmem"), allowed("wmem")
+    if None in most:
+        print("the system doesn't say how large a buffer may be: buffers are not tried")
+        return
+    for octets, *asked in BUFFERS:
+        path.write_bytes(octets)
+        given = [min(pair) for pair in zip(asked, most, strict=True)]
+
+        def stop(_, port, given=given):
+            with socket.create_connection(("127.0.0.1", port), timeout=20) as connection:
+                operator = Operator(connection)
+                told = next(line for line in operator.shown("stats") if line.startswith("socket "))
+                line = "socket receive-buffer {} send-buffer {}".format(*given)
+                check(told == line, f"of buffers `stats` tells {told!r}, not {line!r}")
+                operator.ask("stop")
+
+        check_start(program, path, stop)
+
+
 def stop_in_a_crowd(bridge, port):
     """Stops a bridge to which many have connected, of which its one seat refuses most."""
     with socket.create_connection(("127.0.0.1", port), timeout=20) as desk:
@@ -188,6 +223,7 @@ def check_all(program, folder, taken):
     for octets in GOOD:
         path.write_bytes(octets)
         check_start(program, path, stop_by_line)
+    check_buffers(program, path)
     path.write_bytes(BOTH)
     check_crowd(program, path)
 

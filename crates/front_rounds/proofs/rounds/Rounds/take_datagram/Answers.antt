@@ -3,6 +3,10 @@ use Rattle.udp_wire.specs.Attempts.{Attempt}
 use Rattle.bridge_stats.specs.Stats.{StatsOf, HasNoted}
 use Rattle.std.specs.Bool.{MatchBool}
 use Rattle.bridge_stats.specs.declared.others.Limited.{Limited}
+use Rattle.std.specs.declared.alloc.Global.{Global}
+use Rattle.intake.specs.declared.received.Received.{Received}
+use Rattle.bridge_stats.specs.declared.taken.TakenIn.{TakenIn}
+use Rattle.bridge_stats.specs.Noted.{taken_of}
 use Rattle.bridge_stats.specs.Paths.{AreReported}
 use Rattle.front_rounds.specs.Counted.{all_pass}
 use Rattle.media_front.specs.Fronts.{Arrival, HasTaken}
@@ -49,8 +53,8 @@ returns-in_err-moment g c =
       err_if_ok _ c.from_residual-in_err-moment.result c.from_residual-in_err-moment.ensures.0,
     )
 
-pub returns-in_err-taken : goal.returns-in_err-taken
-returns-in_err-taken g c =
+pub returns-in_err-received : goal.returns-in_err-received
+returns-in_err-received g c =
     let a = c.args.self.now in
     let b = c.catch_up.new.self in
     let same = c.catch_up.ensures.same in
@@ -67,8 +71,8 @@ returns-in_err-taken g c =
       done_one (lost late arrival)
           (history a.media (g.I.Inlet.came a.inlet) (g.C.Watch.told a.watch)
           (g.W.Wire.attempts a.wire) a.ticked a.stats)
-          (history c.take_in.new.self (g.I.Inlet.came b.inlet) (g.C.Watch.told b.watch)
-          (g.W.Wire.attempts c.take_in.new.wire) b.ticked b.stats)
+          (history c.datagram.new.self (g.I.Inlet.came b.inlet) (g.C.Watch.told b.watch)
+          (g.W.Wire.attempts c.datagram.new.wire) b.ticked b.stats)
           (record {
             read = record {
               came = ap (λ s. g.I.Inlet.came s.inlet) same
@@ -87,13 +91,13 @@ returns-in_err-taken g c =
                   ticked = c.catch_up.ensures.last;
                   caught = c.catch_up.ensures.did;
                 };
-            intake = c.in_err-taken.ensures.intake;
-            same = c.in_err-taken.ensures.err;
-            asker = c.take_in.ensures.asker;
-            tried = c.in_err-taken.ensures.unsent ∙ ap (λ s. g.W.Wire.attempts s.wire) same;
+            intake = c.in_err-received.ensures.intake;
+            same = c.in_err-received.ensures.err;
+            asker = c.datagram.ensures.asker;
+            tried = c.in_err-received.ensures.unsent ∙ ap (λ s. g.W.Wire.attempts s.wire) same;
             stats = ap (λ s. s.stats) same;
           }),
-      err_if_ok _ c.from_residual-in_err-taken.result c.from_residual-in_err-taken.ensures.0,
+      err_if_ok _ c.from_residual-in_err-received.result c.from_residual-in_err-received.ensures.0,
     )
 
 pub returns-in_err-ask_first : goal.returns-in_err-ask_first
@@ -109,15 +113,17 @@ returns-in_err-ask_first g c =
       moment = c.in_ok-moment.moment;
       octets = take c.in-Datagram.octets c.deref.result.now;
     } in
-    let outcome = c.in_ok-taken.taken.0 in
-    let of = c.of-counted in
-    let counted = of.result in
-    let ended = c.in_ok-taken.taken.1 in
+    let received = c.in_ok-received.received in
+    let is = c.in_ok-received.ensures.received in
+    let outcome = received.outcome in
+    let counted : TakenIn = taken_of received in
+    let ended = c.ended_by.result in
     let turn = took c.catch_up.result arrival outcome ended in
     let old =
     history a.media (g.I.Inlet.came a.inlet) (g.C.Watch.told a.watch) (g.W.Wire.attempts a.wire) a.ticked a.stats in
     let mid =
-    history c.take_in.new.self (g.I.Inlet.came b.inlet) (g.C.Watch.told b.watch) (g.W.Wire.attempts c.take_in.new.wire)
+    history c.datagram.new.self (g.I.Inlet.came b.inlet) (g.C.Watch.told b.watch)
+    (g.W.Wire.attempts c.datagram.new.wire)
     b.ticked c.note.new.self in
     let does : TakesArrival c.catch_up.result arrival outcome ended old mid = record {
       read = record {
@@ -134,21 +140,26 @@ returns-in_err-ask_first g c =
           record { right = c.catch_up.ensures.late; ticked = c.catch_up.ensures.last; caught = c.catch_up.ensures.did };
       takes =
           subst (λ (o : Option (List Attempt)).
-          HasTaken arrival outcome b.media c.take_in.new.self o (g.W.Wire.attempts c.take_in.new.wire))
-          (ap (λ s. g.W.Wire.attempts s.wire) same) c.in_ok-taken.ensures.takes;
-      ends = c.in_ok-taken.ensures.ended;
-      same = c.take_in.ensures.same;
-      asker = c.take_in.ensures.asker;
+          HasTaken arrival outcome b.media c.datagram.new.self o (g.W.Wire.attempts c.datagram.new.wire))
+          (ap (λ s. g.W.Wire.attempts s.wire) same) c.in_ok-received.ensures.takes;
+      ends = c.ended_by.ensures arrival b.media.intake c.datagram.new.self.intake is;
+      same = c.datagram.ensures.same;
+      asker = c.datagram.ensures.asker;
       counted =
           record {
             taken = counted;
-            is = record { found = of.ensures.found; none = of.ensures.none; rest = of.ensures.rest };
+            is =
+                record {
+                  found = is.found;
+                  none = is.none;
+                  rest = ap (λ (r : Received Global). taken_of r) is.rest;
+                };
             noted =
                 subst (λ (s : StatsOf). HasNoted counted s c.note.new.self) (ap (λ s. s.stats) same)
                 c.note.ensures.noted;
             reports =
                 subst (λ (s : StatsOf).
-                MatchBool (all_pass b.media.limited c.take_in.new.self.limited)
+                MatchBool (all_pass b.media.limited c.datagram.new.self.limited)
                 (AreReported arrival.desk counted.outcome counted.from counted.moment arrival.octets s.reports
                 c.note.new.self.reports)
                 (c.note.new.self.reports ≡ s.reports))
@@ -159,9 +170,9 @@ returns-in_err-ask_first g c =
                 c.note.new.self.reports)
                 (c.note.new.self.reports ≡ b.stats.reports))
                 (c.all_pass-all_pass.ensures
-                ∙ (ap (λ (l : Limited). all_pass l c.limited-after.result) c.limited-before.ensures
-                ∙ ap (λ (l : Limited). all_pass b.media.limited l) c.limited-after.ensures))
-                c.note.ensures.reports);
+                ∙ (ap (λ (l : Limited). all_pass l c.limited.result) c.limited-before.ensures
+                ∙ ap (λ (l : Limited). all_pass b.media.limited l) c.limited.ensures))
+                (c.note.ensures.reports arrival.octets is.reports));
           };
     } in
     let k = c.ask_first.ensures in (
@@ -183,15 +194,17 @@ returns g c =
       moment = c.in_ok-moment.moment;
       octets = take c.in-Datagram.octets c.deref.result.now;
     } in
-    let outcome = c.in_ok-taken.taken.0 in
-    let of = c.of-counted in
-    let counted = of.result in
-    let ended = c.in_ok-taken.taken.1 in
+    let received = c.in_ok-received.received in
+    let is = c.in_ok-received.ensures.received in
+    let outcome = received.outcome in
+    let counted : TakenIn = taken_of received in
+    let ended = c.ended_by.result in
     let turn = took c.catch_up.result arrival outcome ended in
     let old =
     history a.media (g.I.Inlet.came a.inlet) (g.C.Watch.told a.watch) (g.W.Wire.attempts a.wire) a.ticked a.stats in
     let mid =
-    history c.take_in.new.self (g.I.Inlet.came b.inlet) (g.C.Watch.told b.watch) (g.W.Wire.attempts c.take_in.new.wire)
+    history c.datagram.new.self (g.I.Inlet.came b.inlet) (g.C.Watch.told b.watch)
+    (g.W.Wire.attempts c.datagram.new.wire)
     b.ticked c.note.new.self in
     let does : TakesArrival c.catch_up.result arrival outcome ended old mid = record {
       read = record {
@@ -208,21 +221,26 @@ returns g c =
           record { right = c.catch_up.ensures.late; ticked = c.catch_up.ensures.last; caught = c.catch_up.ensures.did };
       takes =
           subst (λ (o : Option (List Attempt)).
-          HasTaken arrival outcome b.media c.take_in.new.self o (g.W.Wire.attempts c.take_in.new.wire))
-          (ap (λ s. g.W.Wire.attempts s.wire) same) c.in_ok-taken.ensures.takes;
-      ends = c.in_ok-taken.ensures.ended;
-      same = c.take_in.ensures.same;
-      asker = c.take_in.ensures.asker;
+          HasTaken arrival outcome b.media c.datagram.new.self o (g.W.Wire.attempts c.datagram.new.wire))
+          (ap (λ s. g.W.Wire.attempts s.wire) same) c.in_ok-received.ensures.takes;
+      ends = c.ended_by.ensures arrival b.media.intake c.datagram.new.self.intake is;
+      same = c.datagram.ensures.same;
+      asker = c.datagram.ensures.asker;
       counted =
           record {
             taken = counted;
-            is = record { found = of.ensures.found; none = of.ensures.none; rest = of.ensures.rest };
+            is =
+                record {
+                  found = is.found;
+                  none = is.none;
+                  rest = ap (λ (r : Received Global). taken_of r) is.rest;
+                };
             noted =
                 subst (λ (s : StatsOf). HasNoted counted s c.note.new.self) (ap (λ s. s.stats) same)
                 c.note.ensures.noted;
             reports =
                 subst (λ (s : StatsOf).
-                MatchBool (all_pass b.media.limited c.take_in.new.self.limited)
+                MatchBool (all_pass b.media.limited c.datagram.new.self.limited)
                 (AreReported arrival.desk counted.outcome counted.from counted.moment arrival.octets s.reports
                 c.note.new.self.reports)
                 (c.note.new.self.reports ≡ s.reports))
@@ -233,9 +251,9 @@ returns g c =
                 c.note.new.self.reports)
                 (c.note.new.self.reports ≡ b.stats.reports))
                 (c.all_pass-all_pass.ensures
-                ∙ (ap (λ (l : Limited). all_pass l c.limited-after.result) c.limited-before.ensures
-                ∙ ap (λ (l : Limited). all_pass b.media.limited l) c.limited-after.ensures))
-                c.note.ensures.reports);
+                ∙ (ap (λ (l : Limited). all_pass l c.limited.result) c.limited-before.ensures
+                ∙ ap (λ (l : Limited). all_pass b.media.limited l) c.limited.ensures))
+                (c.note.ensures.reports arrival.octets is.reports));
           };
     } in
     let k = c.ask_first.ensures in (

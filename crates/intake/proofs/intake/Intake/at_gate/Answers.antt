@@ -13,6 +13,7 @@ use Rattle.intake.specs.inner.Moves.{outcome_at}
 use Rattle.intake.proofs.Answered.{given_is}
 use Rattle.intake.proofs.Sized.{sized_frames}
 use Rattle.intake.proofs.AboutLemmas.{about_frames}
+use Rattle.intake.proofs.ReceivedLemmas.{of_taken}
 use Rattle.intake.proofs.intake.Intake.at_gate.Goals as goal
 
 pub invariant_of-result : goal.invariant_of-result
@@ -73,3 +74,12 @@ returns-clause-about g c =
     ∙ ap (λ xs. map input_of xs ++ frames_from origin coming.moment c.epoch_for-epoch.result frames)
     c.in_ok-items.ensures.items)
     (subst (λ a. AllByRecursion (λ d. d.0 ≡ a) (map datagram_of c.in_ok-up.up.items)) to c.in_ok-up.ensures.about)
+
+pub returns-clause-packet : goal.returns-clause-packet
+returns-clause-packet g c =
+    let j : JudgedOf = c.args.judged.now in
+    of_taken c.args.self.now c.advance.new.self c.args.key j _ c.answer.inside.place _
+    (c.outcome_at-outcome.ensures
+    ∙ ap (λ (x : JudgedOf). outcome_at x.verdict c.answer.inside.place) c.judged.view_is)
+    (ap (λ (x : JudgedOf). x.begins) c.judged.view_is)
+    c.in_ok-frames.ensures.advances

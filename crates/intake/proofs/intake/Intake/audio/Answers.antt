@@ -10,6 +10,8 @@ use Rattle.intake.specs.inner.Moves.{Advances}
 use Rattle.intake.proofs.Happens.{Gives, named_so, when_spent, when_telling}
 use Rattle.intake.proofs.Results.{with_fact, from_fact}
 use Rattle.intake.proofs.AboutLemmas.{about_only, about_sounds}
+use Rattle.intake.proofs.ReceivedLemmas.{of_dropped}
+use Rattle.intake.specs.declared.outcome.Outcome.TheVariants.{Spent}
 use Rattle.intake.proofs.intake.Intake.audio.Goals as goal
 
 pub returns-then-is_spent-clause-moves : goal.returns-then-is_spent-clause-moves
@@ -22,7 +24,7 @@ returns-then-is_spent-clause-moves g c = λ voice s right asker knows.
     named_so old j _ _ _ _ c.key_of-key.ensures (c.mark_of.ensures ∙ ap (λ r. mark_of r coming) c.rate.ensures)
     c.judged-judged.ensures.judges in
     subst (λ (i : Ingested). Gives i old (sourced voice (rate_of format) (audio_course format coming) coming s))
-    (sym c.only.ensures)
+    (sym c.only.ensures.effect)
     (when_spent (rate_of format) (audio_course format coming) coming old j judges s knows voice
     (sym c.is_spent.ensures ∙ c.if-is_spent.true))
 
@@ -36,7 +38,7 @@ returns-clause-moves g c =
     named_so old j _ _ _ _ c.key_of-key.ensures (c.mark_of.ensures ∙ ap (λ r. mark_of r coming) c.rate.ensures)
     c.judged-judged.ensures.judges in
     let same = c.in_ok-items.ensures.items ∙ ap (λ (x : JudgedOf). sounds format coming x.verdict) c.judged.view_is in
-    with_fact c.telling.result c.telling.ensures.advances c.telling.ensures.ingest
+    with_fact c.telling.result c.telling.ensures.advances c.telling.ensures.effect
     (λ ingest advances is voice s right asker knows.
     subst
     (λ (i : Ingested).
@@ -47,9 +49,13 @@ returns-clause-moves g c =
     (subst (λ (key : OriginKey). Advances old c.telling.new.self key j None) c.key_of-key.ensures advances)))
 
 pub returns-then-is_spent-clause-about : goal.returns-then-is_spent-clause-about
-returns-then-is_spent-clause-about g c = about_only c.args.coming.from.now _ _ c.only.ensures
+returns-then-is_spent-clause-about g c = about_only c.args.coming.from.now _ _ c.only.ensures.effect
 
 pub returns-clause-about : goal.returns-clause-about
 returns-clause-about g c =
-    from_fact c.telling.result c.telling.ensures.ingest (λ ingest is.
+    from_fact c.telling.result c.telling.ensures.effect (λ ingest is.
     about_sounds c.args.coming.from.now c.args.format (coming_of c.args.coming) _ _ _ _ is c.in_ok-items.ensures.items)
+
+pub returns-then-is_spent-clause-packet : goal.returns-then-is_spent-clause-packet
+returns-then-is_spent-clause-packet g c =
+    of_dropped c.args.self.now Spent _ c.only.ensures.effect c.only.ensures.begins (λ n e. cc)

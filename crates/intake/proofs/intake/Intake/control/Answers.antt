@@ -2,11 +2,12 @@ use Rattle.std.proofs.Common.{◌∙◌, ap, ℕ, Option, sym, subst, IfOk}
 use Rattle.rtcp_codec.specs.View.{packets_of}
 use Rattle.topology.specs.Looking.{member_from}
 use Rattle.intake.specs.declared.outcome.Outcome.TheVariants.{Unknown}
-use Rattle.intake.specs.Ingested.{ingested_of}
+use Rattle.intake.specs.inner.Effects.{effect_of}
 use Rattle.intake.specs.Taking.{of_member}
 use Rattle.intake.specs.Intakes.{Moves}
 use Rattle.intake.proofs.Read.{stays}
 use Rattle.intake.proofs.AboutLemmas.{about_only}
+use Rattle.intake.proofs.ReceivedLemmas.{none_began}
 use Rattle.intake.proofs.intake.Intake.control.Goals as goal
 
 pub returns-in-None-clause-moves : goal.returns-in-None-clause-moves
@@ -15,7 +16,7 @@ returns-in-None-clause-moves g c =
     (λ voice s.
     of_member (member_from c.args.rows.now c.args.from.now) c.args.from.now c.args.moment
     (packets_of c.args.packets.now) s)
-    c.only.ensures
+    c.only.ensures.effect
     (λ voice s.
     ap (λ m. of_member m c.args.from.now c.args.moment (packets_of c.args.packets.now) s)
     (sym c.member_from.ensures ∙ c.in-None.is))
@@ -23,10 +24,13 @@ returns-in-None-clause-moves g c =
 pub returns-in-Some-clause-moves : goal.returns-in-Some-clause-moves
 returns-in-Some-clause-moves g c =
     subst (λ (m : Option ℕ).
-    IfOk c.heard.result (λ ingest.
-    Moves c.args.self.now c.heard.new.self (ingested_of ingest)
+    IfOk c.heard.result (λ effect.
+    Moves c.args.self.now c.heard.new.self (effect_of effect)
     (λ voice s. of_member m c.args.from.now c.args.moment (packets_of c.args.packets.now) s)))
     (sym c.in-Some.is ∙ c.member_from.ensures) (c.heard.ensures.moves c.in-Some.field-0)
 
 pub returns-in-None-clause-about : goal.returns-in-None-clause-about
-returns-in-None-clause-about g c = about_only c.args.from.now _ _ c.only.ensures
+returns-in-None-clause-about g c = about_only c.args.from.now _ _ c.only.ensures.effect
+
+pub returns-in-None-clause-begins : goal.returns-in-None-clause-begins
+returns-in-None-clause-begins g c = c.only.ensures.begins ∙ none_began c.args.self.now.epochs

@@ -1,4 +1,4 @@
-use Rattle.std.proofs.Common.{◌∙◌, ap, sym, subst, length, map, []}
+use Rattle.std.proofs.Common.{◌≡◌, ◌∙◌, false, nat_lt, ap, sym, subst, length, map, []}
 use Rattle.std.proofs.lemmas.List.{length-map}
 use Rattle.std.specs.List.{list_all}
 use Rattle.rtcp_codec.specs.View.{packet_of, packets_of}
@@ -9,6 +9,7 @@ use Rattle.intake.specs.inner.Holding.{IntakeOf, Holds}
 use Rattle.intake.proofs.Answered.{ingested}
 use Rattle.intake.proofs.Sized.{sized_asks}
 use Rattle.intake.proofs.AboutLemmas.{about_asks}
+use Rattle.intake.proofs.ReceivedLemmas.{none_began}
 use Rattle.intake.proofs.intake.Intake.heard.Goals as goal
 
 pub invariant_of-result : goal.invariant_of-result
@@ -39,3 +40,8 @@ returns-clause-about g c =
     let items = map input_of c.in_ok-items.items.items in
     about_asks c.args.from.now (Rtcp (length packets)) items (packets_of packets) _
     (ap (λ up. ingested (Rtcp (length packets)) (map datagram_of up) items) c.new.ensures.items) c.in_ok-items.ensures
+
+pub returns-clause-begins : goal.returns-clause-begins
+returns-clause-begins g c =
+    subst (λ (i : IntakeOf). false ≡ nat_lt i.epochs c.self.inside.epochs) c.self.view_is
+    (none_began c.self.inside.epochs)

@@ -15,6 +15,8 @@ use Rattle.intake.proofs.Happens.{Gives, named_so, when_spent, when_plain, when_
 use Rattle.intake.proofs.Happens.{video_plain, range_of}
 use Rattle.intake.proofs.Results.{with_fact, from_fact}
 use Rattle.intake.proofs.AboutLemmas.{about_only}
+use Rattle.intake.proofs.ReceivedLemmas.{of_dropped}
+use Rattle.intake.specs.declared.outcome.Outcome.TheVariants.{Spent}
 use Rattle.intake.proofs.intake.Intake.video.Goals as goal
 
 pub returns-then-is_spent-clause-moves : goal.returns-then-is_spent-clause-moves
@@ -23,7 +25,8 @@ returns-then-is_spent-clause-moves g c = λ voice s right asker knows.
     let coming : Coming = coming_of c.args.coming in
     let j : JudgedOf = c.judged-judged.result in
     let judges = named_so old j _ _ _ _ c.key_of-key.ensures c.mark_of.ensures c.judged-judged.ensures.judges in
-    subst (λ (i : Ingested). Gives i old (sourced voice video_rate (video_course coming) coming s)) (sym c.only.ensures)
+    subst (λ (i : Ingested). Gives i old (sourced voice video_rate (video_course coming) coming s))
+    (sym c.only.ensures.effect)
     (when_spent video_rate (video_course coming) coming old j judges s knows voice
     (sym c.is_spent.ensures ∙ c.if-is_spent.true))
 
@@ -35,7 +38,7 @@ returns-in-None-clause-moves g c =
     let judges = named_so old j _ _ _ _ c.key_of-key.ensures c.mark_of.ensures c.judged-judged.ensures.judges in
     let none : accepted j.verdict ≡ None =
     ap (λ (x : JudgedOf). accepted x.verdict) (sym c.judged.view_is) ∙ sym c.accepted.ensures ∙ c.in-None.is in
-    with_fact c.plain.result c.plain.ensures.advances c.plain.ensures.ingest
+    with_fact c.plain.result c.plain.ensures.advances c.plain.ensures.effect
     (λ ingest advances is voice s right asker knows.
     subst (λ (i : Ingested). Gives i c.plain.new.self (sourced voice video_rate (video_course coming) coming s))
     (sym is)
@@ -61,8 +64,12 @@ returns-in-Some-clause-moves g c =
     (gates_so _ _ _ _ _ _ _ _ _ _ c.key_of-key.ensures same gates))
 
 pub returns-then-is_spent-clause-about : goal.returns-then-is_spent-clause-about
-returns-then-is_spent-clause-about g c = about_only c.args.coming.from.now _ _ c.only.ensures
+returns-then-is_spent-clause-about g c = about_only c.args.coming.from.now _ _ c.only.ensures.effect
 
 pub returns-in-None-clause-about : goal.returns-in-None-clause-about
 returns-in-None-clause-about g c =
-    from_fact c.plain.result c.plain.ensures.ingest (λ ingest is. about_only c.args.coming.from.now _ _ is)
+    from_fact c.plain.result c.plain.ensures.effect (λ ingest is. about_only c.args.coming.from.now _ _ is)
+
+pub returns-then-is_spent-clause-packet : goal.returns-then-is_spent-clause-packet
+returns-then-is_spent-clause-packet g c =
+    of_dropped c.args.self.now Spent _ c.only.ensures.effect c.only.ensures.begins (λ n e. cc)

@@ -1,11 +1,13 @@
-use Rattle.std.proofs.Common.{refl, ap, sym, subst, inr}
-use Rattle.intake.specs.Ingested.{answered_of}
+use Rattle.std.proofs.Common.{◌≡◌, length, refl, ap, sym, subst, inr}
+use Rattle.std.specs.declared.alloc.Global.{Global}
+use Rattle.intake.specs.declared.received.Received.{Received}
+use Rattle.intake.specs.Ingested.{Ingested, IsAbout, answered_of}
 use Rattle.intake.specs.Intakes.{WaitsFor}
 use Rattle.intake.specs.Sources.{Origin}
 use Rattle.intake.specs.inner.Holding.{IntakeOf}
-use Rattle.media_front.specs.Fronts.{FrontOf}
+use Rattle.media_front.specs.Fronts.{FrontOf, Arrival, HasHandled}
 use Rattle.media_front.specs.Waits.{silence, HasWaited, MayHaveWaited}
-use Rattle.media_front.proofs.WaitLemmas.{on_err, handled_at}
+use Rattle.media_front.proofs.WaitLemmas.{on_err, handled_at, with_answer}
 use Rattle.media_front.proofs.front.MediaFront.wait.Goals as goal
 
 pub returns-in_err-handle-clause-intake : goal.returns-in_err-handle-clause-intake
@@ -35,6 +37,8 @@ returns-clause-waited g c =
       ticks = here.ticks;
       reports = here.reports;
     } in
+    let is = c.silence-received.ensures in
+    let arrival : Arrival = silence desk o.address c.args.moment in
     let mid : FrontOf g.row.P.Denot g.row.S.Denot = record old { intake = c.wait.new.self } in
     subst (λ (f : FrontOf g.row.P.Denot g.row.S.Denot). HasWaited desk o c.args.moment f c.handle.new.self before after)
     c.self.view_is
@@ -46,7 +50,22 @@ returns-clause-waited g c =
           (sym (ap (λ (f : FrontOf g.row.P.Denot g.row.S.Denot). f.intake) c.handle.ensures.same))
           c.in_ok-answer.ensures.waits;
       handled =
-          handled_at (silence desk o.address c.args.moment) (answered_of answer) mid old c.handle.new.self before after
-          refl refl
-          refl c.wait.ensures.asker (c.in_ok-handle.ensures.handled desk);
+          handled_at arrival (answered_of answer) mid old c.handle.new.self before after refl refl
+          refl c.wait.ensures.asker
+          (subst (λ (i : Ingested). HasHandled arrival i mid c.handle.new.self before after)
+          (ap (λ (r : Received Global). with_answer r answer) is)
+          (c.in_ok-handle.ensures.handled arrival
+          (subst
+          (λ (r : Received Global).
+          r ≡ record r { from = o.address; moment = c.args.moment; octets = length arrival.octets })
+          (sym is) refl)));
     })
+
+pub handle-requires : goal.handle-requires
+handle-requires g c =
+    let answer = c.in_ok-answer.answer in
+    record {
+      about =
+          subst (λ (r : Received Global). IsAbout r.from (with_answer r answer)) (sym c.silence-received.ensures)
+          c.in_ok-answer.ensures.about;
+    }

@@ -1,7 +1,7 @@
 use Rattle.std.proofs.Common.{◌≡◌, subst}
 use Rattle.std.specs.Prelude.{IsOkAnd}
 use Rattle.rtp_codec.specs.View.{packet_of}
-use Rattle.bridge_stats.proofs.taken.header_in.Goals as goal
+use Rattle.intake.proofs.received.header_in.Goals as goal
 
 pub returns-in-Err-clause-none : goal.returns-in-Err-clause-none
 returns-in-Err-clause-none c = λ h has.
