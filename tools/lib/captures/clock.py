@@ -54,10 +54,11 @@ class Clock:
     def __init__(self, notes):
         self.notes, self.shift, self.before, self.streams = notes, 0, None, {}
 
-    def straighten(self, packets):
-        """The packets with their moments put right."""
+    def straighten(self, packets, count):
+        """So many of the packets with their moments put right, and a few more where one of them has a moment of its
+        own. What stands behind them tells which."""
         found, at = [], 0
-        while at < len(packets):
+        while at < min(count, len(packets)):
             packet = packets[at]
             moment = packet.moment + self.shift
             if self.before is not None and not -BACK <= moment - self.before <= AHEAD:

@@ -4,33 +4,52 @@ A model of the bridge holds a call, whose packets are written in each form that 
 and of nanoseconds, pcapng, both orders of octets, each link type, in fragments, behind a VLAN's tag, packed by gzip.
 All have to be read alike, and explained without a difference. Then it writes captures that are cut, short, out of
 order, incomplete, of two bridges or of another link type. Each fault has to be named, and the rest be explained. In
-further calls faults are planted, such as a slow clock or a muted source: each has to be told, and nothing else.
+further calls faults are planted, such as a slow clock or a muted source: each has to be told, and nothing else, also
+where the capture is explained by pieces. Last come captures that are made to do harm. What is shown of escape
+sequences prints, also by `watch`. What options, unknown senders and fragments take has a bound. Where no order of what
+happened explains the packets, the search for one ends.
 """
 
+import contextlib
 import gzip
 import io
+import pathlib
 import random
+import re
+import subprocess
+import sys
+import tempfile
 
 from lib.captures.files import frames_of
 from lib.captures.lines import ACK, SYN
-from lib.captures.links import COOKED, COOKED_2, ETHERNET, IPV4, LOOP, NULL, RAW, Packets
+from lib.captures.links import COOKED, COOKED_2, ETHERNET, IPV4, LOOP, MOST_OCTETS, MOST_WAITING, NULL, RAW, Packets
 from lib.captures.notes import BadCapture, Notes
 from lib.captures.writing import VLAN, pcap, pcapng, tcp_packet, udp_packets
+from lib.explain import hostile
+from lib.explain.amending import AGAIN, LEAST, UNTRIED
 from lib.explain.explaining import explained
 from lib.explain.given import given_by
 from lib.explain.made import BEGIN, BRIDGE, DESK, GAP, ONE, OPERATOR, OTHER, Made
+from lib.explain.findings import KINDS, OTHERS, STRANGERS
+from lib.explain.mutants import HOSTILE, OPTIONS, metrics_of, said_of, watch_told
 from lib.explain.operators import calls_of
-from lib.explain.planted import FAULTS, FOLLOWS, SAID, Call
-from lib.explain.telling import Telling, telling
+from lib.explain.pieces import Pieces, Source
+from lib.explain.planted import BEHIND, FAULTS, FOLLOWS, SAID, Call
+from lib.explain.telling import MOST_STRANGERS, Telling, telling
 from lib.explain.varied import disordered, variations, written, wrong
 from lib.explain.wire import wire_of
+from lib.make.captures import made
 from lib.packets import number
-from lib.shared import fail
+from lib.shared import ROOT, fail
+from lib.watch.seen import UNKNOWN
 
-NEEDS = "nothing, half a minute"
+NEEDS = "nothing, a minute or two"
 
 LINKS = [NULL, ETHERNET, RAW, COOKED, LOOP, IPV4, COOKED_2, 12]
 ALL = (0, float("inf"))
+BRIDGES = ROOT / "tools/bridge"
+# So many packets of a long capture are read at once, where it is none.
+FEW = 64
 
 
 def options(_parser):
@@ -261,6 +280,19 @@ def check_order():
     print("operators' lines have their answers in each order of their segments")
 
 
+def check_lost_lines():
+    """Where the capture lacks an operator's lines, the answers that follow aren't taken for those of other lines."""
+    call = Call(says={10: ["show"], 40: ["mute 202"], 80: ["unmute 202"]})
+    lost = [one for one in call.packets if b"add-source 201 " not in one[1] and b"add-source 202 " not in one[1]]
+    found, it = found_in(written(lost))
+    words = [text for text, _ in it.run.odd]
+    lacks = "the capture lacks call 4: the desk isn't known from then on, until a `show` or a `history`"
+    check(words == [lacks], f"of lost lines it is noted: {words}")
+    said = {(one.kind, one.about) for one in found}
+    check(said == {("muted", 202)}, f"of a capture that lacks an operator's lines it is told: {found}")
+    print("where an operator's lines are lost, nothing false is told")
+
+
 def calls_in(packets):
     """The calls of packets, with their answers."""
     return [(call.text, call.answer) for call in calls_of(wire_of(io.BytesIO(written(packets))))[0]]
@@ -280,6 +312,11 @@ def check_desks():
         found, it = found_in(written(rest), given=given_by("\n".join(lines)))
         differ = wrong(found, {("muted", 202)}, {("muted", 202)})
         check(not differ and not it.run.lost, f"by {name}: {differ} {it.run.odd}")
+    # A history in the capture, whose calls can be undone.
+    spoken = Call(says={40: ["mute 202"], 60: ["history"], 80: ["undo 9"], 100: ["redo 10"]}).packets
+    found, it = found_in(written([one for one in spoken if one[0] >= BEGIN + 50 * GAP]))
+    told = [(one.kind, one.about) for one in found]
+    check(told == 2 * [("muted", 202)] and not it.run.odd, f"by a history in the capture it is told: {found}")
     # What is said in one segment.
     for question, answer in (
         (["mute 202", "show"], ["ok 9", *rows]), (["show", "mute 202"], [*rows[:-2], "end 8", "ok 9"]),
@@ -315,6 +352,140 @@ def check_varied():
     print(f"{count + 1} worse captures are told as the whole one is")
 
 
+def check_sentences():
+    """Each sentence of DEBUGGING's table is told of its capture, and each kind of sentence is told of one."""
+    said, kinds = {}, set()
+    for name, packets in made().items():
+        with contextlib.suppress(BadCapture):
+            found, _ = found_in(written(packets))
+            kinds |= {one.kind for one in found}
+            said[f"{name}.pcap"] = "\n".join(one.text for one in found)
+    text = (ROOT / "docs/DEBUGGING.md").read_text()
+    rows = re.findall(r"^\| (`+) ?(.+?) ?\1 \| .* \| ([a-z]+\.pcap) \|$", text, re.MULTILINE)
+    lacking = [part for _, part, name in rows if part not in said.get(name, "")]
+    check(rows and not lacking, f"DEBUGGING has sentences that its captures don't show: {lacking}")
+    quoted = {name for name in said if name in text}
+    check(not said.keys() - quoted, f"DEBUGGING shows none of {sorted(said.keys() - quoted)}")
+    check(kinds == KINDS, f"no capture of DEBUGGING's shows {sorted(KINDS - kinds)}")
+    print(f"{len(KINDS)} kinds of sentences are shown by captures, and {len(rows)} rows of DEBUGGING's table")
+
+
+# Long captures
+
+
+def check_pieces():
+    """A capture by pieces is told as the whole one is, and its desk goes on from one to the next, with its calls."""
+    says = {60: ["mute 202"], 160: ["unmute 202"], 260: ["undo 10"], 290: ["redo 11"], 340: ["mute 101"]}
+    octets, texts = written(Call(ticks=400, says=says).packets), []
+    source = Source(io.BytesIO(octets), FEW)
+    for it, between in Pieces(source, 2).all():
+        one = Telling(it, None, between)
+        check(not one.differing() and not it.run.odd, f"a piece has differences: {one.differing()} {it.run.odd}")
+        texts.append([one.text for one in one.found()])
+        kept, most = len(source.reading.datagrams), 200 * (2 * 1.25 + 3) + 2 * FEW
+        check(kept < 2 * most, f"of a piece {kept} datagrams are kept")
+    wanted = [
+        ["202 is muted since call 9 of operator 0 at 1.210 s"],
+        ["202 was muted since call 9 of operator 0 at 1.210 s, until call 10 of operator 0 at 3.210 s"],
+        ["202 was muted since call 11 of operator 0 at 5.210 s, until call 12 of operator 0 at 5.810 s"],
+        [
+            "101 is muted since call 13 of operator 0 at 6.810 s",
+            "stream 501 of member 11 shows nothing at the end: 101 is muted",
+        ],
+    ]
+    check(texts == wanted, f"by pieces it is told: {texts}")
+    whole, parts = wire_of(io.BytesIO(octets)), Source(io.BytesIO(octets), FEW).whole().wire()
+    check((whole.into, whole.out) == (parts.into, parts.out), "what is read a few packets at a time is read otherwise")
+    for name, (how, fault, _) in (FAULTS | SAID).items():
+        call = Call(says=how) if name in SAID else Call(how)
+        may, said = {fault, *FOLLOWS.get(fault, ()), BEHIND.get(fault)}, set()
+        for it, between in Pieces(Source(io.BytesIO(written(call.packets)), FEW), 1.5).all():
+            found = Telling(it, None, between).found()
+            said |= {(one.kind, one.about) for one in found}
+            check(not wrong(found, may, set()), f"by pieces, of a call with {name}: {wrong(found, may, set())}")
+        # It takes longer than a piece to see that a clock is slow.
+        check(fault in said or fault[0] == "clock", f"by pieces, of a call with {name} it is told: {said}")
+    print(f"by pieces {len(FAULTS | SAID)} planted faults are told, and nothing else; a desk goes on with its calls")
+
+
+# Captures that are meant to do harm
+
+
+def shown_by(*words, given=b""):
+    """All that a tool shows of a capture, on both streams."""
+    run = subprocess.run([sys.executable, "-B", BRIDGES, *words], input=given, capture_output=True, check=False)
+    check(b"Traceback" not in run.stderr, f"{words} ends in a traceback: {run.stderr[-1000:]}")
+    return run.stdout + run.stderr
+
+
+def check_terminal():
+    """Whatever octets a capture, a row, a name or an argument has, what is shown of it prints."""
+    octets, escapes, count = hostile.for_terminals(), HOSTILE.decode("latin-1"), 0
+    with tempfile.TemporaryDirectory() as folder:
+        path, rows = pathlib.Path(folder, f"a{escapes.replace('/', '')}.pcap"), pathlib.Path(folder, "rows")
+        path.write_bytes(octets)
+        rows.write_bytes(hostile.ROWS)
+        for words, given in (
+            (["explain", path], b""), (["explain", path, "--desk", rows], b""),
+            (["explain", path, "--script", "-"], b""), (["explain", path, "--of", escapes], b""),
+            (["explain", path, "--udp", escapes], b""),
+            (["explain", f"{path}x"], b""), (["explain", "-"], HOSTILE), (["watch", "-"], octets),
+            (["watch", "-", "--udp", escapes], octets), (["watch", "-"], HOSTILE),
+        ):  # fmt: skip
+            text = shown_by(*words, given=given).decode()
+            strange = {one for one in text if not one.isprintable() and one != "\n"}
+            check(text and not strange, f"{words} shows {strange}: {text!r}")
+            count += 1
+    print(f"in {count} ways of reading a capture of escape sequences, what is shown prints")
+
+
+def check_hostile():
+    """Options of a pcapng that say nothing or too much are named; what strangers and fragments take has a bound."""
+    for number, octets in OPTIONS:
+        text, found, _ = told(hostile.with_option(number, octets))
+        check(found == 0 and "an interface has the" in text, f"of the option {number}, {octets}: it is told\n{text}")
+        lines = watch_told(hostile.with_option(number, octets))
+        check(any("an interface has the" in line for line in lines), f"of {octets}, `watch` tells {lines}")
+    octets = hostile.of_strangers(500)
+    lines = watch_told(octets)
+    unknown = sum(line.startswith("unknown: ") for line in lines)
+    # The call has one, too.
+    left = f"left out: {3 * 500 + 1 - UNKNOWN} datagrams of further unknown senders"
+    check(unknown == UNKNOWN and any(line.startswith(left) for line in lines), f"{unknown} strangers: {lines[-3:]}")
+    labels = {line.split(" ")[0] for line in metrics_of(octets) if "_source_packets_total{" in line}
+    check(len(labels) <= UNKNOWN + 4, f"of 500 strangers there are {len(labels)} label sets")
+    text, _, _ = told(octets)
+    # Two of the call's own are told of, too.
+    most = len(OTHERS) * STRANGERS + 2
+    check(text.count("sends SSRC") <= most, f"of 500 strangers {text.count('sends SSRC')} are told of")
+    check(text.count("\n      1 dropped Unknown") <= MOST_STRANGERS, "each stranger's counts are told")
+    packets = Packets(Notes())
+    check(not list(packets.of(frames_of(io.BytesIO(hostile.of_fragments(300)), Notes()))), "a fragment is a packet")
+    kept = sum(one.octets for one in packets.waiting.values())
+    check(kept <= MOST_OCTETS and len(packets.waiting) <= MOST_WAITING, f"{kept:,} octets of fragments are kept")
+    check(any("lacks a fragment" in line for line in packets.notes.lines()), "nobody says that fragments are missing")
+    print(f"{len(OPTIONS)} bad options of a pcapng are named; strangers and fragments have their bounds")
+
+
+def check_tries():
+    """Where packets differ for a reason that no order explains, the search for one ends, and a note says so."""
+    # Each of two orders hides the difference of a tick or of a picture behind the end of what is compared.
+    said = said_of(hostile.changed(hostile.VideoLast(6).packets, 4))
+    check(said == "told", f"a capture whose last tick and picture differ: {said}")
+    text, found, it = told(hostile.changed(Call().packets, 1000))
+    check(found > 100 and UNTRIED in text, f"of a capture that differs all the time it isn't told: {UNTRIED}\n{text}")
+    spent, most = it.search.spent, AGAIN * len(it.search.events) + LEAST
+    check(spent < most + len(it.search.events), f"{spent:,} events are gone through again for orders: {most:,} may be")
+    # No order puts a call before the one that it follows: the desk would be lost, and all differences with it.
+    packets = Call(says={61: ["mute 202"], 62: ["unmute 202"]}).packets
+    at = next(n for n, one in enumerate(packets) if one[0] > BEGIN + 61 * GAP and hostile.is_media_of_bridge(one[1]))
+    moment, octets = packets[at]
+    packets[at] = moment, octets[:-1] + bytes([octets[-1] ^ 1])
+    text, differ, it = told(written(packets))
+    check(differ == 1 and not it.run.odd, f"of one packet that differs before two calls it is told\n{text}")
+    print(f"for {found} differences that no order explains {spent:,} events are gone through again, and a note says so")
+
+
 def run(_args):
     packets = Made().packets
     check_forms()
@@ -324,7 +495,13 @@ def run(_args):
     check_middle()
     check_rows()
     check_order()
+    check_lost_lines()
     check_desks()
     check_varied()
     check_planted()
+    check_sentences()
+    check_pieces()
+    check_terminal()
+    check_hostile()
+    check_tries()
     return 0

@@ -6,7 +6,7 @@ INPUT is one of
   written as lines       operators' lines, over a connection to a served bridge
   scripts     lines of scripts, besides frames, each by a `replay` of its own: some hundred a second
   settings    TOML texts, by the program of crates/x_cases_front
-  captures    captures for `explain` and `watch`, by themselves: none ends in a traceback, and none never ends
+  captures    captures for `explain` and `watch`: none ends in a traceback, or takes over 60 s of a processor
 
 Each input is a case of the repository that is changed at one to four places, or joined with another. The readers are
 plain: those of tools/lib/models, and Python's `tomllib`. The first differences are printed. The status is 0 where there

@@ -10,21 +10,31 @@ the program does. A capture that begins in mid-call needs the desk: a `show` whi
 1 where a media packet differs from the model's, and 2 where nothing can be read.
 """
 
+import argparse
 import contextlib
 import pathlib
 import sys
 import textwrap
 
 from lib.captures.notes import BadCapture
-from lib.explain.explaining import explained
+from lib.explain.explaining import explain_wire
 from lib.explain.given import given_by
-from lib.explain.telling import telling
+from lib.explain.pieces import LONG, MANY, USUAL, Pieces, Source
+from lib.explain.telling import Telling, moment_text, telling
 from lib.printing import printable
 from lib.shared import first_difference, replay
 
 NEEDS = "nothing"
 
 COLUMNS = 118
+
+
+def piece(text):
+    """The seconds of a piece, from a text."""
+    seconds = float(text)
+    if not 1 <= seconds <= 10**6:
+        raise argparse.ArgumentTypeError("a piece has a second or more, and a million at most")
+    return seconds
 
 
 def options(parser):
@@ -34,6 +44,13 @@ def options(parser):
     )
     parser.add_argument(
         "--between", nargs=2, type=float, metavar=("A", "B"), help="tell of these seconds of the capture alone"
+    )
+    parser.add_argument(
+        "--each",
+        type=piece,
+        metavar="SECONDS",
+        help="explain pieces of so many seconds, as is done by itself "
+        f"where a capture has over {LONG // 10**9} s, or {MANY:,} datagrams ({USUAL})",
     )
     parser.add_argument(
         "--script",
@@ -99,11 +116,43 @@ def write_script(run, name):
         pathlib.Path(name).write_text(text)
 
 
+def tell_pieces(args, source, given):
+    """Tells of each piece of a capture. The exit status."""
+    seconds, is_same, is_known, pieces = args.each or USUAL, True, True, 0
+    for it, between in Pieces(source, seconds, args.udp, args.tcp, given).all():
+        if not pieces:
+            print(f"{args.capture}: explained by pieces of {seconds:g} s, from {moment_text(it.wire.zero)} on")
+            print(folded(printable(f"bridge: udp {it.wire.udp or 'not in it'}, tcp {it.wire.tcp or 'not in it'}")))
+        one = Telling(it, args.of, between)
+        for line in one.piece():
+            print(folded(printable(line)), flush=True)
+        pieces, is_known = pieces + 1, is_known and it.run is not None
+        is_same = is_same and not (it.run and one.differing())
+    if not pieces:
+        raise BadCapture("no datagram and no operator's line of a bridge is in it")
+    return 0 if is_same and is_known else 1
+
+
+def is_long(args, source):
+    """Whether a capture is explained by pieces: where that is asked for, or it is too long for one."""
+    if args.each or args.script or args.program or args.between:
+        return bool(args.each)
+    first = source.next_from(0)
+    if first is None:
+        return False
+    source.read_until(first + LONG)
+    moments = source.moments()
+    return max(moments) >= first + LONG or len(moments) >= MANY
+
+
 def run(args):
     try:
         given = given_by(pathlib.Path(args.desk).read_text(errors="replace")) if args.desk else None
         with opened(args.capture) as stream:
-            it = explained(stream, args.udp, args.tcp, given)
+            source = Source(stream)
+            if is_long(args, source):
+                return tell_pieces(args, source, given)
+            it = explain_wire(source.whole().wire(args.udp, args.tcp), given)
     except (BadCapture, OSError) as why:
         print(f"tools/bridge explain: {args.capture}: {why}", file=sys.stderr)
         return 2

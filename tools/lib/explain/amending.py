@@ -2,6 +2,11 @@
 
 A capture has the moments at which datagrams and lines came, not those at which the bridge took them. Where what the
 model sends differs from the wire, a tick or a call nearby may have been taken before or behind its neighbours.
+
+The search ends on any capture. Ticks keep their order, so each turn passes one more of them. What is gone through again
+for an order is counted, and no further order is tried once that is AGAIN times the events and LEAST more. A call that
+was held on a machine with six times the work that it can do took seven times its events for all orders. So what stays
+behind the bound is rarely a matter of order, and who reads it is told that none was tried.
 """
 
 import dataclasses
@@ -16,8 +21,15 @@ BACK, NEAR = 12, 3_000_000
 LAG = 250_000_000
 # One lane may be so far behind another one, in nanoseconds.
 BEHIND = 60_000_000
-# So many orders are tried for one difference, and so many in vain in all.
+# So many orders are tried for one difference, and so many in vain one after another. Each tick without a difference
+# takes one of these back, so that the search goes on behind a time that no order explains.
 TRIES, VAIN = 40, 200
+# Orders are tried for so many times the events of a capture, and so many events beside, as a short one may need.
+AGAIN, LEAST = 20, 20_000
+# So many of the last calls and ticks may move.
+MOVING = 100
+# What is told where no order is tried, although packets differ.
+UNTRIED = "so many packets differ that no other order of what happened is tried: explain such a time by itself"
 # Units of 90 kHz by which a moment may be mended, 20 ms, and of how many of the last differences.
 MOST_UNITS, AT_ONCE = 1800, 8
 
@@ -27,6 +39,9 @@ class Search:
 
     def __init__(self, run, events):
         self.run, self.events, self.vain, self.mended = run, events, 0, 0
+        # How many events were gone through again, and how many may be; where no order was tried although packets
+        # differ.
+        self.spent, self.most, self.untried = 0, AGAIN * len(events) + LEAST, []
         # The places behind the last ticks with the states of the run there, what the usual order wrote down since the
         # first of them, and the place that it has come to.
         self.states, self.usual, self.end = [], None, 0
@@ -40,15 +55,15 @@ class Search:
                 # Nothing behind it explains what was before.
                 self.states = []
             self.states = [*self.states[-BACK:], (at, self.run.state())]
-            found = len(self.run.cursor.found)
+            found, last = len(self.run.cursor.found), self.events[end - 1]
             self.run.go(self.events[at:end])
-            if (
-                len(self.run.cursor.found) > found
-                and self.vain < VAIN
-                and self.events[end - 1].kind != PAUSE
-                and self.events[end - 1].place > self.run.settled
-            ):
-                end = self.mend(end, found)
+            if len(self.run.cursor.found) == found:
+                self.vain = max(0, self.vain - 1)
+            elif last.kind != PAUSE and last.place > self.run.settled:
+                if self.vain < VAIN and self.spent < self.most:
+                    end = self.mend(end, found)
+                else:
+                    self.untried.append(last.place)
             at = end
 
     def behind_tick(self, at):
@@ -64,13 +79,17 @@ class Search:
         """Tries other orders until no more than so many differences are left, and keeps the best. The place behind the
         last tick."""
         least, best, last = len(self.run.cursor.found), None, self.events[end - 1]
+        unknown = self.unknown()
         first, states = self.states[0][0], self.states
         usual, self.usual = self.events[first:end], self.run.behind(states[0][1])
         for tried, order in enumerate(self.orders(first, end)):
-            if tried == TRIES:
+            if tried == TRIES or self.vain == VAIN or self.spent >= self.most:
                 break
             self.vain += 1
             count = self.again(states, usual, order, last)
+            if self.unknown() > unknown:
+                # It hides what differs.
+                continue
             if count < least:
                 least, best = count, order
             if count <= goal:
@@ -81,9 +100,14 @@ class Search:
         self.again(states, usual, best or usual, last)
         return self.end
 
+    def unknown(self):
+        """How often the desk became unknown."""
+        return len(self.run.unknown) + bool(self.run.lost)
+
     def again(self, states, usual, order, last):
-        """Goes through events again in another order than the usual one, of which there are states, up to a tick. How
-        many differences there are then."""
+        """Goes through events again in another order than the usual one, of which there are states, up to a tick, or
+        through all of them where the last one is no tick: else a call that moves would hide what comes of it. How many
+        differences there are then."""
         first = states[0][0]
         same = next((n for n, (one, other) in enumerate(zip(usual, order)) if one is not other), len(usual) - 1)
         self.states = [state for state in states if state[0] <= first + same]
@@ -93,7 +117,7 @@ class Search:
         self.run.go_back(state)
         begun = at - first
         for n, event in enumerate(order[begun:], begun + 1):
-            is_last = event.kind == last.kind and event.what is last.what
+            is_last = event.kind == last.kind == TICK and event.what is last.what
             if event.kind == TICK or is_last or n == len(order):
                 self.states.append((first + begun, self.run.state()))
                 self.run.go(order[begun:n])
@@ -101,6 +125,8 @@ class Search:
             if is_last:
                 break
         self.end = first + begun
+        # To put an order together takes as long as its events.
+        self.spent += self.end - first
         return len(self.run.cursor.found)
 
     # Orders
@@ -109,9 +135,9 @@ class Search:
         """Other orders of the events from a place on, the likeliest first."""
         yield from self.other_moments(first, end)
         moves, last = [], self.events[end - 1]
-        for at in range(end - 1, first - 1, -1):
-            if self.events[at].kind in (TICK, CALL):
-                moves += self.moves(at, first)
+        moving = [at for at in range(end - 1, first - 1, -1) if self.events[at].kind in (TICK, CALL)]
+        for at in moving[:MOVING]:
+            moves += self.moves(at, first)
         for at in range(end, len(self.events)):
             if self.events[at].place > last.latest + BEHIND or self.events[at].kind == PAUSE:
                 break
@@ -145,15 +171,19 @@ class Search:
         return early <= other.place <= event.latest + NEAR
 
     def order_with(self, first, end, at, place):
-        """The events from a place on where one of them moves. Those of its kind behind it stay behind it."""
+        """The events from a place on where one of them moves. Those of its kind behind it stay behind it, and calls
+        before it before it."""
         last = max(end, at + 1)
         while last < len(self.events) and self.events[last].place <= place:
             last += 1
         order = self.events[first:last]
         moved = order[at - first]
-        for n in range(at - first, len(order)):
-            if order[n].kind == moved.kind and (order[n] is moved or order[n].place < place):
-                order[n] = dataclasses.replace(order[n], place=place)
+        for n, event in enumerate(order):
+            is_behind = n >= at - first and event.kind == moved.kind and (event is moved or event.place < place)
+            # Calls have the order of their numbers.
+            is_before = n < at - first and event.kind == moved.kind == CALL and event.place > place
+            if is_behind or is_before:
+                order[n] = dataclasses.replace(event, place=place)
         return sorted(order, key=Event.key)
 
     def other_moments(self, first, end):
@@ -168,10 +198,17 @@ class Search:
             for more in (1000, 5000, -3000):
                 event, shift = self.events[at], difference.ahead * 100_000 // 9 + more
                 if event.kind == TICK:
-                    event = dataclasses.replace(event, place=event.place + shift)
+                    event = dataclasses.replace(event, place=self.between_ticks(at, event.place + shift))
                 else:
                     event = dataclasses.replace(event, moment=event.moment + shift)
                 yield [*self.events[first:at], event, *self.events[at + 1 : end]]
+
+
+    def between_ticks(self, at, place):
+        """The place nearest to a wanted one at which a tick stays between those before it and behind it."""
+        before = next((one.place for one in self.events[at - 1 :: -1] if one.kind == TICK), place) if at else place
+        behind = next((one.place for one in self.events[at + 1 :] if one.kind == TICK), place)
+        return max(before, min(place, behind))
 
 
 def counts(event, other):

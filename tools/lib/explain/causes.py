@@ -38,15 +38,16 @@ class Moved:
 
 def moved_in(sources, desks):
     """The sources of the desk whose packets come from an address of no member, once those from their own end."""
-    found = []
+    found, elsewhere = [], collections.defaultdict(list)
+    for one in sources:
+        if one.ssrc in desks.sources and desks.member_at(one.address) is None:
+            elsewhere[one.ssrc, one.pt].append(one)
     for old in sources:
         row = desks.sources.get(old.ssrc)
         if not row or desks.member_at(old.address) != row["member"]:
             continue
-        for new in sources:
-            if (new.ssrc, new.pt) != (old.ssrc, old.pt) or desks.member_at(new.address) is not None:
-                continue
-            last = max((one for one in old.track), key=lambda one: one.moment)
+        last = max((one for one in old.track), key=lambda one: one.moment)
+        for new in elsewhere[old.ssrc, old.pt]:
             first = min((one for one in new.track), key=lambda one: one.moment)
             is_soon = -SOON < first.moment - last.moment < SOON
             if 0 < ahead(last.seq, first.seq, 16) < GOES_ON and is_soon:

@@ -74,6 +74,8 @@ class Desks:
                 self.mark(moment, call, open_marks)
                 before = now
         self.marked += [Marked(what, *begun) for what, begun in open_marks.items()]
+        # An address may have been of several members, one after another: it is the last one's.
+        self.at_address = {member["address"]: number for number, member in self.members.items()}
 
     def keep(self, moment, by_call):
         """Remembers the rows of the desk, and when a call added a source."""
@@ -105,7 +107,7 @@ class Desks:
         return [change for change in self.changes if change.call is call]
 
     def member_at(self, address):
-        return next((number for number, member in self.members.items() if member["address"] == address), None)
+        return self.at_address.get(address)
 
 
 def by_call(call):

@@ -2,7 +2,7 @@
 
 import dataclasses
 
-from lib.explain.amending import Search
+from lib.explain.amending import UNTRIED, Search
 from lib.explain.comparing import Streams
 from lib.explain.desks import streams_of
 from lib.explain.events import events_of, pauses_of, who_speaks
@@ -13,6 +13,8 @@ from lib.explain.wire import wire_of
 
 # What would be sent so shortly before the end may come behind it, in nanoseconds.
 TAIL = 40_000_000
+# What tells the desk of a piece of a long capture.
+BEFORE = "what came before"
 # By so many ticks a bridge may have been late from the beginning.
 LATE, MOST_LATE = 2, 250
 
@@ -20,7 +22,7 @@ LATE, MOST_LATE = 2, 250
 @dataclasses.dataclass
 class Explained:
     """A capture, the calls of its operators, and the run of the model over it, or None where the desk is unknown. From
-    the moment `begin` on the desk is known."""
+    the moment `begin` on the desk is known. `search` looked for the order of what happened."""
 
     wire: object
     calls: list
@@ -28,6 +30,7 @@ class Explained:
     grid: object
     run: object
     begin: int
+    search: object = None
 
     def is_known(self, moment):
         """Whether the desk was known at a moment."""
@@ -77,8 +80,9 @@ def explain_wire(wire, given=None):
     run.numbers = sorted(call.number for call in calls if call.number)
     run.tail = wire.end - TAIL - grid.lateness()
     if base:
-        text = f"the capture begins in mid-call: the desk is that of {base.by}, and what waited in buffers is unknown"
-        wire.notes.add(text, begin)
+        if base.by != BEFORE:
+            text = f"the capture begins in mid-call: the desk is that of {base.by}"
+            wire.notes.add(f"{text}, and what waited in buffers is unknown", begin)
         run.settled = max(run.settled, begin + run.settled - base.until)
         run.running.update(running_sources(wire, begin))
         for packets in streams.firsts.values():
@@ -97,7 +101,8 @@ def explain_wire(wire, given=None):
                 f"the bridge was late from the beginning, by {late * GAP // 10**6} ms or more: its machine is busy",
                 begin,
             )
-    Search(run, events_of(wire, calls, later, grid, streams.control, known)).go()
-    for text, moment in run.odd:
+    search = Search(run, events_of(wire, calls, later, grid, streams.control, known))
+    search.go()
+    for text, moment in [*run.odd, *((UNTRIED, moment) for moment in search.untried)]:
         wire.notes.add(text, moment)
-    return Explained(wire, calls, streams, grid, run, begin)
+    return Explained(wire, calls, streams, grid, run, begin, search)

@@ -5,6 +5,7 @@ import dataclasses
 
 from lib.explain.causes import clock_text, lacks_in, moved_in, payload_text, sound_text, unheard_in
 from lib.explain.changes import by_call
+from lib.explain.explaining import BEFORE
 from lib.explain.receivers import STILL
 from lib.explain.senders import AUDIO
 from lib.explain.tracks import RATES
@@ -17,8 +18,19 @@ SLOW = 100_000_000
 QUIET = -55
 # Nothing came of a source where its desk was known for so long, in nanoseconds.
 LONG = 1_000_000_000
-# So many senders that no member is are told of one by one.
+# The kinds of sentences. docs/DEBUGGING.md has a row for each, with a capture that shows it.
+KINDS = {
+    *("address", "alone", "before", "busy", "clock", "early", "events", "fault", "gain", "late", "lost", "moved"),
+    *("muted", "other", "overrun", "posing", "probation", "restarted", "silence", "silent", "slot", "spacing", "ssrc"),
+    *("still", "stranger", "type", "undeclared"),
+}
+# Of each kind of senders that nobody declared so many are told of one by one. What is said of the others.
 STRANGERS = 16
+OTHERS = {
+    "undeclared": "members send SSRCs that are no sources of theirs",
+    "posing": "their SSRCs are sources of members, whose addresses they don't have",
+    "stranger": "no member has their addresses",
+}
 # So many packets of the bridge's own have to be there before those that are missing say what the capture lost.
 ENOUGH = 50
 
@@ -44,10 +56,11 @@ class Finding:
 class Findings:
     """Collects sentences."""
 
-    def __init__(self, explained, desks, senders, outgoing, seconds):
+    def __init__(self, explained, desks, senders, outgoing, seconds, between):
         self.explained, self.desks, self.senders, self.outgoing, self.seconds = (
             explained, desks, senders, outgoing, seconds
         )
+        self.between = between
         self.found, self.named = [], set()
         self.sources = list(senders.sources.values())
         # The sources whose address changed, by their SSRCs; and the share of packets that the capture itself lost.
@@ -55,18 +68,27 @@ class Findings:
         self.own = own_share(outgoing)
 
     def add(self, kind, about, text, *members):
+        if kind not in KINDS:
+            raise ValueError(kind)
         self.found.append(Finding(kind, about, text, frozenset(members)))
 
     def all(self):
         for one in self.moved.values():
             self.of_moved(one)
-        strangers = [source for source in self.sources if self.is_stranger(source)]
-        left_out = set(map(id, strangers[STRANGERS:]))
+        told, left_out = set(map(id, self.sources)), {}
+        for kind in OTHERS:
+            # There may be any number of these: those that send most are told of.
+            some = sorted((one for one in self.sources if self.kind_of(one) == kind), key=lambda one: -one.packets)
+            left_out[kind] = some[STRANGERS:]
+            told -= set(map(id, left_out[kind]))
         for source in self.sources:
-            if id(source) not in left_out and not self.is_moved(source):
+            if id(source) in told and not self.is_moved(source):
                 self.of_source(source)
-        if left_out:
-            self.add("stranger", None, f"{counted(len(left_out), 'further sender')}: no member has their addresses")
+        for kind, some in left_out.items():
+            # No lead names an address of these.
+            self.named |= {one.address for one in some}
+            if some:
+                self.add(kind, None, f"{counted(len(some), 'further sender')}: {OTHERS[kind]}")
         self.of_others()
         self.of_marks()
         self.of_silent()
@@ -76,9 +98,12 @@ class Findings:
         self.of_load()
         return self.found
 
-    def is_stranger(self, source):
-        """Whether the address of a source is no member's, nor its SSRC of the desk."""
-        return self.desks.member_at(source.address) is None and source.ssrc not in self.desks.sources
+    def kind_of(self, source):
+        """Whose a source is: a member's own, or which of the others."""
+        member, row = self.desks.member_at(source.address), self.desks.sources.get(source.ssrc)
+        if member is None:
+            return "posing" if row else "stranger"
+        return "own" if row and row["member"] == member else "undeclared"
 
     def is_moved(self, source):
         return source.ssrc in self.moved and source is self.moved[source.ssrc].new
@@ -207,6 +232,8 @@ class Findings:
     def of_marks(self):
         """Mutes and gains of 0."""
         for mark in self.desks.marked:
+            if mark.since > self.between[1] or mark.until is not None and mark.until < self.between[0]:
+                continue
             is_mute = mark.what.endswith("muted")
             ssrc = int(mark.what.split(" ")[0] if is_mute else mark.what.split(" ")[3])
             owner = self.desks.sources.get(ssrc, {}).get("member")
@@ -214,7 +241,7 @@ class Findings:
             since = (
                 f"since {by_call(mark.call)} at {self.seconds(mark.since):.3f} s"
                 if mark.call
-                else "since before the desk was known"
+                else self.since_before()
                 if mark.since <= self.explained.begin
                 else f"since {self.seconds(mark.since):.3f} s or before"
             )
@@ -223,6 +250,11 @@ class Findings:
             )
             text = mark.what.replace(" is ", " was ") if until else mark.what
             self.add("muted" if is_mute else "gain", ssrc, f"{text} {since}{until}", owner, *others)
+
+    def since_before(self):
+        """Since when something was so when a capture or a piece began."""
+        shown = self.explained.run.shown
+        return "since before this piece" if shown and shown.by == BEFORE else "since before the desk was known"
 
     def of_silent(self):
         """Sources of whom nothing came while the desk had them, and members who are alone."""
@@ -251,8 +283,9 @@ class Findings:
     def known_since(self, ssrc):
         """Since when a source was known to be of the desk, if that was for long enough."""
         added, run = self.desks.first_at[ssrc], self.explained.run
-        since = max(self.explained.begin, added or 0, *(end for _, end in run.unknown or [(0, 0)]))
-        return since if not run.lost and self.explained.wire.end - since >= LONG else None
+        begin, end = max(self.explained.begin, self.between[0]), min(self.explained.wire.end, self.between[1])
+        since = max(begin, added or 0, *(end for _, end in run.unknown or [(0, 0)]))
+        return since if not run.lost and end - since >= LONG else None
 
     def strangers_near(self, address):
         """The addresses with a member's host that are no member's, and that nothing else is said of."""
@@ -323,11 +356,14 @@ class Findings:
             text = f"packets of all senders are missing at once {self.time_of(one)}: {what}"
             self.add("overrun", None, f"{text}. They were lost on their common way, or the capture lost them")
         for one in unheard_in(self.explained.run.cursor.found, self.desks):
-            if one.begin > self.explained.run.settled:
+            if one.begin > self.explained.run.settled and self.is_within(one.begin):
                 when = f"around {self.seconds(one.begin):.2f} s"
                 text = f"the bridge passed nothing on of {', '.join(map(str, one.sources))} {when}"
                 why = "its receive buffer ran over (`nstat -az UdpRcvbufErrors`), or its machine stood still"
                 self.add("overrun", None, f"{text}, though packets came: {why}")
+
+    def is_within(self, moment):
+        return self.between[0] <= moment <= self.between[1]
 
     def time_of(self, one):
         """When something began, and for how long it was."""
@@ -335,7 +371,8 @@ class Findings:
 
     def of_load(self):
         """Answers that came late: the bridge or its machine is busy."""
-        late = [call for call in self.explained.calls if call.until - call.moment > SLOW]
+        calls = [call for call in self.explained.calls if self.is_within(call.moment)]
+        late = [call for call in calls if call.until - call.moment > SLOW]
         if late:
             worst = max(late, key=lambda call: call.until - call.moment)
             took, when = (worst.until - worst.moment) / 1e9, self.seconds(worst.moment)

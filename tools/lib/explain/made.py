@@ -20,6 +20,8 @@ SETUP = [
     "add-slot 501 11 0 65535 1000",
     "subscribe 501 101",
 ]
+# A history has so many calls at most.
+MANY = 10**6
 # Each 23rd packet of video is lost, and but for this one sent again.
 LOST, NEVER_AGAIN = 23, 22
 # What an operator says, by the tick before which it does.
@@ -60,8 +62,13 @@ class Made:
         """An operator's line, and its answer 100 us later."""
         self.moment += 200_000
         self.segment(OPERATOR, self.tcp, line + "\n")
-        said = self.bridge.desk.shown(self.bridge.version) if line == "show" else self.bridge.answer(f"desk 0 {line}")
-        self.segment(self.tcp, OPERATOR, "".join(f"{one}\n" for one in said), 100_000)
+        self.segment(self.tcp, OPERATOR, "".join(f"{one}\n" for one in self.said_to(line)), 100_000)
+
+    def said_to(self, line):
+        """What the bridge answers."""
+        if line == "show":
+            return self.bridge.desk.shown(self.bridge.version)
+        return self.bridge.log.history(MANY) if line == "history" else self.bridge.answer(f"desk 0 {line}")
 
     def sends(self, said, after=200_000):
         """What the bridge sends for a line of its script."""

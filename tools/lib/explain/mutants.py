@@ -11,15 +11,19 @@ from lib.captures.notes import BadCapture, Notes
 from lib.captures.writing import block, pcap, pcapng, tcp_packet, udp_packets
 from lib.explain.explaining import explained
 from lib.explain.made import BEGIN, BRIDGE, DESK, ONE, OPERATOR, SETUP, STRANGER, Made
-from lib.explain.telling import telling
+from lib.explain.pieces import Pieces, Source
+from lib.explain.telling import Telling, telling
 from lib.packets import rtp
 from lib.printing import printable
 from lib.watch.metrics import text_of
 from lib.watch.seen import Seen
 from lib.watch.table import Table
 
-# A capture that takes longer is one that never ends, in seconds. It has no more lines than this.
+# A capture that takes longer is one that never ends, in seconds of a processor: these take one or two at most. It has
+# no more lines than this.
 LONGEST, MOST_LINES = 60, 2000
+# So many packets of a capture that is explained by pieces are read at once.
+FEW = 16
 ALL = (0, float("inf"))
 HOSTILE = b"\x1b]0;x\x07\x1b[2J\x9b31m\r\xe2\x80\xae"
 # Lines that desks and operators may send: good ones, rows without sense, and what is meant for a terminal.
@@ -122,14 +126,32 @@ def explain_told(octets):
     return list(telling(it, "it", None, ALL))
 
 
+def pieces_told(octets):
+    """What `explain --each 1` tells of a capture."""
+    found = []
+    for it, between in Pieces(Source(io.BytesIO(octets), FEW), 1).all():
+        found += Telling(it, None, between).piece()
+    return found
+
+
+def watched(octets):
+    """What `watch` has seen when a capture is over."""
+    seen = Seen(Notes(), "5004", "7000")
+    for packet in Packets(seen.notes).of(frames_of(io.BytesIO(octets), seen.notes)):
+        seen.take(packet)
+    return seen
+
+
 def watch_told(octets):
     """What `watch` tells of a capture."""
-    seen = Seen(Notes(), "5004", "7000")
-    packets, table = Packets(seen.notes), Table(seen)
-    for packet in packets.of(frames_of(io.BytesIO(octets), seen.notes)):
-        seen.take(packet)
+    seen = watched(octets)
     text_of(seen)
-    return list(table.lines()) if seen.now is not None else []
+    return list(Table(seen).lines()) if seen.now is not None else []
+
+
+def metrics_of(octets):
+    """What `watch --listen` tells of a capture."""
+    return text_of(watched(octets)).splitlines()
 
 
 def too_long(*_):
@@ -137,10 +159,10 @@ def too_long(*_):
 
 
 def said_of(octets):
-    """How `explain` and `watch` end on a capture: in words, or by a traceback."""
+    """How `explain`, as a whole and by pieces, and `watch` end on a capture: in words, or by a traceback."""
     # By the time that this process itself takes: a busy machine gives it little.
     signal.signal(signal.SIGPROF, too_long)
-    for name, told in ("explain", explain_told), ("watch", watch_told):
+    for name, told in ("explain", explain_told), ("explain --each", pieces_told), ("watch", watch_told):
         signal.setitimer(signal.ITIMER_PROF, LONGEST)
         try:
             lines = told(octets)

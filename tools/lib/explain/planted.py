@@ -121,6 +121,24 @@ def slow(tick):
     yield 300_000 * (tick % 33) % 10_000_000, *one(tick - tick // 33)
 
 
+def fast(tick):
+    """Behind each 33rd packet comes a further one: 3 percent."""
+    yield 300_000 * (32 - tick % 33), *one(tick + tick // 33)
+    if tick % 33 == 32:
+        yield 9_600_000, *one(tick + tick // 33 + 1)
+
+
+def burst(tick):
+    """Six packets come at once, and all later ones 100 ms before their time."""
+    yield 0, *one(tick if tick < 10 else tick + 5)
+    for more in range(5 if tick == 9 else 0):
+        yield 1_000_000 + more * 100_000, *one(10 + more)
+
+
+def scattered(tick):
+    yield 0, *one(tick, seq=tick * 3)
+
+
 def half(tick):
     """A packet holds 10 ms."""
     yield 0, *one(tick, payload=tone(1000, tick)[:80])
@@ -166,6 +184,8 @@ FAULTS = {
     "a late path": (late, ("late", 202), "packets come more than 60 ms late"),
     "silence": (silence, ("silence", 202), "202 sends silence, or nearly so: -inf dBFS"),
     "a slow clock": (slow, ("clock", 202), "ppm slow, by its timestamps"),
+    "a fast clock": (fast, ("clock", 202), "ppm fast, by its timestamps"),
+    "scattered numbers": (scattered, ("probation", 202), "no two of its numbers follow one another"),
     "half packets": (half, ("spacing", 202), "each packet holds 10 ms of sound, and timestamps go on by 20 ms"),
     "seldom packets": (seldom, ("spacing", 202), "each packet holds 10 ms of sound, and one comes each 20 ms"),
     "nothing": (nothing, ("silent", 202), "no packet of 202 came: member 11 has to send from"),
@@ -176,12 +196,17 @@ FAULTS = {
 SAID = {
     "a mute": ({HERE: ["mute 202"]}, ("muted", 202), "202 is muted since call 9 of operator 0"),
     "a gain of 0": ({HERE: ["set-gain 10 202 0"]}, ("gain", 202), "the gain of 202 for 10 is 0 since call 9"),
+    "no floor": ({HERE: ["take-floor 1"]}, ("slot", 501), "it has no subscription, and its room no pin and no floor"),
+    "a source that comes back": (
+        {20: ["remove-source 202"], HERE: ["add-source 202 11 audio"]}, ("before", 202), ", while it was no source",
+    ),
     "another room": ({HERE: ["add-room 2", "move-member 11 2"]}, ("alone", 11), "member 11 is alone in room 2"),
 }
 # Up to which second of a call it can be cut, so that the rest shows a fault; of the others up to this one.
 SHOWS_UNTIL, USUAL = {
     "keys": 0.6, "a late path": 0.6, "another address": 0.6, "numbers that jump": 0.6, "a full receive buffer": 0.3,
-    "a slow clock": 0.4, "a mute": 2.2, "a gain of 0": 2.2, "another room": 2.2,
+    "a slow clock": 0.4, "a fast clock": 0.4, "a source that comes back": 0.4, "no floor": 2.2, "a mute": 2.2,
+    "a gain of 0": 2.2, "another room": 2.2,
 }, 1.2  # fmt: skip
 # The second at which faults begin that have a beginning, and how near to it either may be told.
 BEGINS, NEAR = HERE * 0.02, 0.15

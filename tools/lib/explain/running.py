@@ -38,8 +38,23 @@ def running_sources(wire, begin):
     """The sources that seem to have been heard before a moment, as they are named by their packets."""
     at = bisect.bisect_left(wire.into, begin, key=lambda one: one.moment)
     end = bisect.bisect_left(wire.into, begin + SOON, key=lambda one: one.moment)
-    near = [d for d in wire.into[at:end] if len(d.octets) >= 12 and not 192 <= d.octets[1] <= 223]
-    return {(d.peer, d.octets[8:12]): 1 for d in near}
+    near = {named(d): 1 for d in wire.into[at:end] if len(d.octets) >= 12 and not 192 <= d.octets[1] <= 223}
+    # A source without two numbers in a row stays on probation.
+    last, found = {}, {}
+    for datagram in wire.into[at:]:
+        key = named(datagram)
+        if key in near and key not in found:
+            if key in last and (seq_of(datagram.octets) - last[key]) % 65536 == 1:
+                found[key] = 1
+                if len(found) == len(near):
+                    break
+            last[key] = seq_of(datagram.octets)
+    return found
+
+
+def named(datagram):
+    """A source as its packets name it."""
+    return datagram.peer, datagram.octets[8:12]
 
 
 class Run:
@@ -92,7 +107,7 @@ class Run:
             self.say(f"desk {seat} {text}", shown)
         for _ in shown.undone:
             self.say(f"desk 0 undo {self.bridge.version}", shown)
-        self.shift, self.floor = shown.version - self.bridge.version, 0
+        self.shift, self.floor = shown.version - self.bridge.version, shown.floor
 
     def see(self, shown):
         """Compares the model's desk with the one that was told. Where they differ, the model gets the bridge's."""
@@ -137,6 +152,9 @@ class Run:
             self.lose(f"the capture lacks {lacking(due, call.number - 1)}", call.moment)
         if self.lost or 0 < call.number < due:
             return
+        if call.is_lost():
+            self.lose(f"the capture lacks {lacking(call.number, call.number)}", call.moment)
+            return
         if words[0] in ("undo", "redo"):
             if words[0] == "undo" and self.floor and len(self.bridge.log.done) <= self.floor and call.number:
                 self.lose(f"`{call.text}` takes back a call from before the capture", call.moment)
@@ -172,7 +190,7 @@ class Run:
 
     def prime(self, event):
         """In mid-call, puts a packet without payload before the first of a source, which is past probation."""
-        octets, key = event.what.octets, (event.what.peer, event.what.octets[8:12])
+        octets, key = event.what.octets, named(event.what)
         if self.running[key]:
             self.running[key] = 0
             before = bytes([0x80, octets[1] & 127]) + ((seq_of(octets) - 1) % 65536).to_bytes(2, "big") + octets[4:12]
@@ -199,15 +217,20 @@ class Run:
             if event.place > self.tail and not self.cursor.next(out):
                 continue
             if self.in_middle and out not in self.firsts:
-                self.begin(out, octets, tick)
+                self.begin(event, out, octets, tick)
             kind, sent = self.cursor.take(event, out, words[3], octets, tick)
             if kind in ("numbers", "octets", "unsent"):
                 self.take_over(out, sent)
 
-    def begin(self, out, octets, tick):
+    def begin(self, event, out, octets, tick):
         """In mid-call, finds the first number of a stream that the model begins."""
         first = self.cursor.at[out]
-        for at, sent in enumerate(self.cursor.streams.firsts.get(out, ())[first:], first):
+        packets = self.cursor.streams.firsts.get(out, ())
+        for at in range(first, len(packets)):
+            sent = packets[at]
+            if sent.moment > event.place + SETTLED:
+                # What the model sends for the event leaves before that.
+                return
             last = self.cursor.comparable(sent, tick)
             if sent.tick == tick if tick is not None else sent.octets[16:last] == octets[16:last]:
                 raise Begun(out, at, (seq_of(sent.octets), number(sent.octets[4:8])))

@@ -76,6 +76,8 @@ class Source:
         # What became of the packets; how far ahead of the next sample they came, in units of 8000 Hz; the longest time
         # without one. How often its jitter buffer began anew.
         self.outcomes, self.far, self.pause, self.renewed = collections.Counter(), [], 0, 0
+        # When sound of it was last put to a jitter buffer that there was.
+        self.heard = 0
         # The packets themselves, where they are kept, and what they seem to be.
         self.track, self.kind = [], None
         # How many packets of other types from there have numbers between its own.
@@ -136,8 +138,10 @@ class Source:
 class Senders:
     """All sources of a capture, and what is no RTP by its sender and its outcome."""
 
-    def __init__(self):
+    def __init__(self, forgotten=()):
         self.sources, self.others = {}, collections.Counter()
+        # The moments at which the model has forgotten what waits in buffers.
+        self.forgotten = forgotten
 
     def take(self, moment, address, octets, outcome=None, far=None, kept=None):
         """Counts a datagram and what became of it. The source that it is of, if it is of one."""
@@ -154,7 +158,8 @@ class Senders:
             source.outcomes[outcome] += 1
         if far is not None:
             source.far.append(far)
-        elif outcome == "accepted" and source.far:
+            source.heard = moment
+        elif outcome == "accepted" and source.far and not any(source.heard < one <= moment for one in self.forgotten):
             source.renewed += 1
         return source
 
@@ -169,7 +174,8 @@ def outcome_of(said):
 
 def senders_of(explained, between):
     """The senders of a capture in a time, with their packets."""
-    senders, run = Senders(), explained.run
+    run = explained.run
+    senders = Senders([end for _, end in run.unknown] if run else ())
     told = [(datagram, UNKNOWN if run else None, None) for datagram in explained.wire.into]
     if run:
         told = [one for one in told if one[0].moment < explained.begin]
@@ -182,12 +188,15 @@ def senders_of(explained, between):
             source = senders.take(it.moment, it.peer, it.octets, outcome, far, it.kept)
             if source:
                 source.track.append(came_of(it))
+    # The payload types of one SSRC from one address share its numbers.
+    together = collections.defaultdict(list)
     for source in senders.sources.values():
         source.kind = kind_of(source.track)
-        source.shared = sum(
-            (one.seq - source.least) % 65536 <= source.greatest - source.least
-            for other in senders.sources.values()
-            if (other.address, other.ssrc) == (source.address, source.ssrc) and other is not source
-            for one in other.track
-        )
+        together[source.address, source.ssrc].append(source)
+    for some in together.values():
+        for source in some:
+            source.shared = sum(
+                (one.seq - source.least) % 65536 <= source.greatest - source.least
+                for other in some if other is not source for one in other.track
+            )
     return senders

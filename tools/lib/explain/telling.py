@@ -8,7 +8,7 @@ from lib.explain.findings import Findings, counted, own_share
 from lib.explain.receivers import MIX_GAP, VIDEO_GAP, Causes, outgoing_of
 from lib.explain.senders import AUDIO, senders_of
 
-# So many differences are told one by one, and so many senders that are no member's.
+# So many differences are told one by one, and so many sources that are no member's own.
 MOST_TOLD, MOST_STRANGERS = 20, 256
 REASONS = {
     "unsent": "a lane that was late followed a later call, or a full ring dropped its item",
@@ -24,6 +24,12 @@ def telling(explained, name, wanted, between):
     """The lines that tell of a capture. `wanted` is a member, an SSRC or an address, or None for all; `between` two
     moments."""
     return Telling(explained, wanted, between).lines(name)
+
+
+def moment_text(moment):
+    """A moment in words."""
+    it = datetime.datetime.fromtimestamp(moment / 1e9, datetime.timezone.utc)
+    return f"{it:%Y-%m-%d %H:%M:%S}.{it.microsecond // 1000:03} UTC"
 
 
 class Telling:
@@ -51,7 +57,7 @@ class Telling:
         return self.members is None or bool(self.members & set(members))
 
     def seconds(self, moment):
-        return (moment - self.wire.begin) / 1e9
+        return (moment - self.wire.zero) / 1e9
 
     def is_within(self, moment):
         return self.between[0] <= moment <= self.between[1]
@@ -67,12 +73,11 @@ class Telling:
             yield from self.differences()
 
     def head(self, name):
-        begin = datetime.datetime.fromtimestamp(self.wire.begin / 1e9, datetime.timezone.utc)
         seconds = self.seconds(self.wire.end)
         counts = f"{len(self.wire.into):,} datagrams in, {len(self.wire.out):,} out"
-        yield f"{name}: {seconds:.1f} s from {begin:%Y-%m-%d %H:%M:%S}.{begin.microsecond // 1000:03} UTC, {counts}"
+        yield f"{name}: {seconds:.1f} s from {moment_text(self.wire.begin)}, {counts}"
         yield f"bridge: udp {self.wire.udp or 'not in it'}, tcp {self.wire.tcp or 'not in it'}"
-        for line in [*self.wire.notes.lines(self.wire.begin), *self.notes()]:
+        for line in [*self.wire.notes.lines(self.wire.zero), *self.notes()]:
             yield f"note: {line}"
         if not self.it.run:
             yield (
@@ -81,12 +86,38 @@ class Telling:
             )
             yield "      on, give `show` while you capture, or name a file with the lines of `show` by --desk"
 
+    def piece(self):
+        """What is told of a piece of a long capture."""
+        a, b = self.seconds(self.between[0]), self.seconds(min(self.between[1], self.wire.end))
+        counts = [sum(self.is_within(one.moment) for one in some) for some in (self.wire.into, self.wire.out)]
+        yield f"{a:.1f} to {b:.1f} s: {counts[0]:,} datagrams in, {counts[1]:,} out"
+        for line in [*self.wire.notes.lines(self.wire.zero), *self.notes()]:
+            yield f"  note: {line}"
+        if not self.it.run:
+            yield "  note: the desk isn't known, until a `show` or a `history`"
+            return
+        for one in self.found():
+            yield f"  {one.text}"
+        differ = len(self.differing())
+        if differ:
+            why = "of the wire or of the model differ, or follow from what came before this piece"
+            yield f"  {counted(differ, 'media packet')} {why}"
+
+    def differing(self):
+        """The differences in the time that is told of, and of whom it is told."""
+        return [
+            one
+            for one in self.it.run.cursor.found
+            if self.is_within(one.moment) and self.concerns(self.desks.outs.get(one.stream, (0, None))[1])
+        ]
+
     def notes(self):
         """What is to be known of the capture as a whole."""
-        unknown = sum(not self.it.is_known(one.moment) for one in self.wire.into) if self.it.run else 0
+        into = [one for one in self.wire.into if self.is_within(one.moment)]
+        unknown = sum(not self.it.is_known(one.moment) for one in into) if self.it.run else 0
         if unknown:
             yield (
-                f"for {unknown:,} of {len(self.wire.into):,} datagrams in, the desk isn't known: nobody knows what the "
+                f"for {unknown:,} of {len(into):,} datagrams in, the desk isn't known: nobody knows what the "
                 "bridge did with them"
             )
         own = own_share(self.outgoing)
@@ -103,7 +134,7 @@ class Telling:
 
     def found(self):
         """What stands out."""
-        found = Findings(self.it, self.desks, self.senders, self.outgoing, self.seconds).all()
+        found = Findings(self.it, self.desks, self.senders, self.outgoing, self.seconds, self.between).all()
         return [one for one in found if not one.members or self.concerns(*one.members)]
 
     def findings(self):
@@ -113,12 +144,12 @@ class Telling:
 
     def of_senders(self):
         yield "\nsenders"
-        last = None
-        strangers = 0
+        last, strangers = None, 0
         for source in sorted(self.senders.sources.values(), key=lambda one: (one.address, one.ssrc, one.pt)):
             member = self.desks.member_at(source.address) if self.desks else None
-            strangers += member is None
-            if not self.concerns(member) or member is None and strangers > MOST_STRANGERS:
+            is_own = member is not None and self.owner(source.ssrc) == member
+            strangers += not is_own
+            if not self.concerns(member) or not is_own and strangers > MOST_STRANGERS:
                 continue
             if source.address != last:
                 last = source.address
@@ -128,7 +159,7 @@ class Telling:
             if source.outcomes:
                 yield "      " + ", ".join(f"{count:,} {outcome}" for outcome, count in source.outcomes.most_common())
         if strangers > MOST_STRANGERS and self.members is None:
-            yield f"  and {strangers - MOST_STRANGERS:,} further senders of no known member"
+            yield f"  and {strangers - MOST_STRANGERS:,} further sources of no known member"
         for (address, kind, outcome), count in sorted(self.senders.others.items(), key=str)[:MOST_STRANGERS]:
             if self.concerns(self.desks.member_at(address) if self.desks else None):
                 yield f"  {address}  {counted(count, 'datagram')} of {kind}{f': {outcome}' if outcome else ''}"
@@ -186,6 +217,9 @@ class Telling:
             ]
             if not call.is_call() or not self.is_within(call.moment) or (self.members is not None and not changes):
                 continue
+            if call.is_lost():
+                yield f"  {self.seconds(call.moment):8.3f} s  call {call.number}: its line isn't in the capture"
+                continue
             name = f"call {call.number}" if call.number else "refused" if call.answer.startswith("no ") else "a call"
             answer = "" if call.number else f" > {call.answer or 'no answer in the capture'}"
             yield f"  {self.seconds(call.moment):8.3f} s  operator {call.seat}, {name}: {call.text}{answer}"
@@ -205,11 +239,7 @@ class Telling:
         """How the wire compares with the model."""
         cursor, compared = self.it.run.cursor, compounds.compare(self.it, self.desks)
         total = sum(map(len, cursor.streams.firsts.values()))
-        found = [
-            one
-            for one in cursor.found
-            if self.is_within(one.moment) and self.concerns(self.desks.outs.get(one.stream, (0, None))[1])
-        ]
+        found = self.differing()
         yield "\nthe wire against the model"
         how = "by their headers, since they are cut" if self.wire.is_cut() else "octet by octet"
         yield f"  media: {cursor.equal:,} of {total:,} packets are the model's, {how}"

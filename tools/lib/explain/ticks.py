@@ -1,5 +1,6 @@
 """When the bridge ticked, by the mixes that it sent and by its sender reports."""
 
+import bisect
 import collections
 
 from lib.packets import is_rtcp, number, ssrc_of
@@ -67,7 +68,7 @@ def earliest(found):
 
 def report_bounds(reports, found):
     """The bounds of the moment of a stream's first mix that its sender reports give. A sender report's RTP timestamp is
-    that of the last tick, and the time since (docs/FORMATS.md, Reports)."""
+    that of the last tick, and the time since (docs/MEDIA.md, Reports)."""
     first, rate = found[0][0].octets, 44100 if found[0][0].octets[1] & 127 == 11 else 8000
     for octets in reports:
         units = (number(octets[16:20]) - number(first[4:8])) % 2**32
@@ -84,8 +85,10 @@ def narrowed(base, bounds):
         bounds = [
             (bound[0] + ahead, bound[1] + ahead) for bound in bounds for ahead in [round((base - bound[1]) / GAP) * GAP]
         ]
-    tries = sorted({high for _, high in bounds} | {low + 1 for low, _ in bounds}, reverse=True)
-    return max(tries, key=lambda moment: sum(low < moment <= high for low, high in bounds))
+    lows, highs = (sorted(one) for one in zip(*bounds))
+    tries = sorted({*highs, *(low + 1 for low in lows)}, reverse=True)
+    # As many allow a moment as begin before it and haven't ended before it.
+    return max(tries, key=lambda moment: bisect.bisect_left(lows, moment) - bisect.bisect_left(highs, moment))
 
 
 def grid_of(wire, outs):

@@ -45,6 +45,8 @@ class Wire:
         # The operators whose connections begin in the capture.
         self.begun = set()
         self.begin = self.end = 0
+        # The moment of which seconds are told, and the seats that are known of operators, by their addresses.
+        self.zero, self.seats = 0, {}
         # How many datagrams were cut before what is needed of them.
         self.cut = 0
 
@@ -223,39 +225,48 @@ class Reading:
         self.notes, self.clock, self.connections = notes, Clock(notes), Connections(notes, REORDERED)
         self.lines, self.datagrams, self.frames = [], [], 0
 
-    def take(self, packets):
-        """Reads some packets, in the order of the file."""
-        for packet in self.clock.straighten(packets):
+    def take(self, packets, count):
+        """Reads so many of some packets, or a few more, in the order of the file. How many it read."""
+        found = self.clock.straighten(packets, count)
+        for packet in found:
             self.frames += 1
             if packet.protocol == UDP:
                 self.datagrams.append(packet)
             else:
                 self.lines += self.connections.take(packet)
+        return len(found)
 
-    def wire(self, udp=None, tcp=None):
-        """What there is of the bridge whose addresses or ports are named. Where none is, the capture says which."""
+    def end(self):
+        """Reads what the end of the capture leaves of lines."""
         self.lines += self.connections.end()
         if not self.frames:
             raise BadCapture("it has no UDP or TCP over IPv4" + "".join(f"; {line}" for line in self.notes.lines()))
+
+    def wire(self, udp=None, tcp=None):
+        """What there is of the bridge whose addresses or ports are named. Where none is, the capture says which."""
         desks, wire = desks_in(self.lines, self.connections.listening), Wire(self.notes)
         choice = Choice(desks, Media(self.datagrams))
         wire.udp, wire.tcp = choice.pair(udp, tcp)
         if not wire.udp and not wire.tcp:
             raise BadCapture("no datagram and no operator's line of a bridge is in it")
         wire.others = sorted(one for one in choice.known if one != wire.tcp)
-        self.datagrams.sort(key=lambda packet: packet.moment)
-        for packet in self.datagrams:
+        return self.filled(wire, self.datagrams, desks.get(wire.tcp, ()))
+
+    def filled(self, wire, datagrams, lines):
+        """A bridge with what there is of it among some datagrams and lines."""
+        for packet in sorted(datagrams, key=lambda packet: packet.moment):
             if packet.target == wire.udp:
                 self.put(wire, wire.into, packet, packet.source)
             elif packet.source == wire.udp:
                 self.put(wire, wire.out, packet, packet.target)
-        wire.asked = [line for line in desks.get(wire.tcp, ()) if line.target == wire.tcp]
-        wire.answered = [line for line in desks.get(wire.tcp, ()) if line.source == wire.tcp]
+        wire.asked = [line for line in lines if line.target == wire.tcp]
+        wire.answered = [line for line in lines if line.source == wire.tcp]
         moments = [one.moment for one in (*wire.into, *wire.out, *wire.asked, *wire.answered)]
         if not moments:
             cut = f": {wire.cut:,} packets are cut before the end of their headers; capture with `-s 96` or more"
             raise BadCapture(f"no datagram and no operator's line of a bridge is in it{cut if wire.cut else ''}")
         wire.begin, wire.end = min(moments), max(moments)
+        wire.zero = wire.begin
         wire.begun = {one for ends in self.connections.listening for one in ends - {wire.tcp} if wire.tcp in ends}
         wire.ends = {one: moment for (one, other), moment in self.connections.ends.items() if other == wire.tcp}
         return wire
@@ -278,5 +289,7 @@ class Reading:
 def wire_of(stream, udp=None, tcp=None):
     """What a capture has of the bridge whose addresses or ports are named. Where none is, the capture says which."""
     reading = Reading(Notes())
-    reading.take(list(Packets(reading.notes).of(frames_of(stream, reading.notes))))
+    packets = list(Packets(reading.notes).of(frames_of(stream, reading.notes)))
+    reading.take(packets, len(packets))
+    reading.end()
     return reading.wire(udp, tcp)

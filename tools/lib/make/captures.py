@@ -17,15 +17,19 @@ In each call member 10 sends the sound 201 and the video 101, and Bob, who is me
   nat.pcap      Bob's address changes
   full.pcap     the bridge's receive buffer runs over
   two.pcap      another bridge is in it
+
+And one for each further sentence of `explain`, by DEBUGGING's table of them: alone, back, broken, busy, early, fast,
+gain, gap, jump, lost, many, nothing, padding, scattered, seldom, slot, ssrc, stranger.
 """
 
 import pathlib
 
-from lib.captures.writing import pcap
+from lib.captures.links import UDP
 from lib.demo import picture, tone
-from lib.explain.made import BEGIN, GAP, ONE, OTHER, STRANGER, Made
-from lib.explain.planted import FAULTS, Call
-from lib.explain.varied import beside
+from lib.explain.made import BEGIN, GAP, ONE, OPERATOR, OTHER, STRANGER, Made
+from lib.explain.hostile import PORT, strangers
+from lib.explain.planted import FAULTS, HERE, SAID, Call, burst, one, overrun
+from lib.explain.varied import beside, written
 from lib.packets import number, rtp
 
 NEEDS = "nothing, some seconds"
@@ -43,8 +47,12 @@ SETUP = [
 # Captures of planted faults.
 PLANTED = {
     "opus": "Opus", "keys": "keys", "silence": "silence", "slow": "a slow clock", "half": "half packets",
-    "nat": "another address", "full": "a full receive buffer",
+    "nat": "another address", "full": "a full receive buffer", "fast": "a fast clock", "seldom": "seldom packets",
+    "jump": "numbers that jump", "lost": "loss", "nothing": "nothing", "scattered": "scattered numbers",
+    "ssrc": "another SSRC", "stranger": "a stranger",
 }  # fmt: skip
+# And those in which an operator says something.
+SPOKEN = {"alone": "another room", "back": "a source that comes back", "gain": "a gain of 0", "slot": "no floor"}
 # The addresses of the second bridge, and of its members.
 OTHERS = ("127.0.0.1:5104", "127.0.0.1:7100"), ("127.0.0.1:6100", "127.0.0.1:6102")
 # Bob's packets are late from this tick on, by so many ticks.
@@ -100,6 +108,40 @@ class Shown(Made):
             self.sends(self.bridge.answer(f"report {self.moment}"))
 
 
+class Busy(Call):
+    """A call in which the bridge answers an operator's line late."""
+
+    def call(self, line):
+        if line != "show":
+            super().call(line)
+            return
+        self.segment(OPERATOR, self.tcp, line + "\n", -150_000_000)
+        self.segment(self.tcp, OPERATOR, "".join(f"{one}\n" for one in self.said_to(line)))
+
+
+def broken(tick):
+    """Each tenth tick a compound comes whose first packet is none that may stand there."""
+    yield 0, *one(tick)
+    if tick % 10 == 0:
+        yield 100_000, OTHER, bytes([0x80, 204, 0, 1]) + bytes(4)
+
+
+def padded(tick):
+    """Each tenth packet has more padding than octets."""
+    address, octets = one(tick)
+    yield 0, address, bytes([octets[0] | 0x20]) + octets[1:-1] + b"\xff" if tick % 10 == 5 else octets
+
+
+def without_all(packets):
+    """The packets but for the datagrams to the bridge in the ticks in which its receive buffer is full."""
+    begin = BEGIN + HERE // 5 * 5 * GAP
+    return [
+        (moment, octets)
+        for moment, octets in packets
+        if not (octets[9] == UDP and octets[22:24] == PORT and begin <= moment < begin + 5 * GAP)
+    ]
+
+
 def is_lacking(packet):
     """Whether an IPv4 packet has the sound of Bob that a capture lacks."""
     octets = packet[28:]
@@ -114,13 +156,18 @@ def made():
     found = {wrong: Shown(wrong, count).packets for wrong, count in ticks.items()}
     found["lacking"] = [(moment, packet) for moment, packet in found["call"] if not is_lacking(packet)]
     found |= {name: Call(FAULTS[fault][0]).packets for name, fault in PLANTED.items()}
+    found |= {name: Call(says=SAID[fault][0]).packets for name, fault in SPOKEN.items()}
+    found |= {name: Call(fault).packets for name, fault in (("early", burst), ("broken", broken), ("padding", padded))}
+    found["busy"] = Busy(says={60: ["show"]}).packets
+    found["gap"] = without_all(Call(overrun).packets)
+    found["many"] = strangers(20, Made(2).packets)
     found["two"] = beside(found["call"], Call(bridge=OTHERS[0], members=OTHERS[1]).packets)
     return found
 
 
 def write(folder):
     for name, packets in made().items():
-        (pathlib.Path(folder) / f"{name}.pcap").write_bytes(pcap(sorted(packets, key=lambda one: one[0]), units=10**9))
+        (pathlib.Path(folder) / f"{name}.pcap").write_bytes(written(packets))
 
 
 def run(args):

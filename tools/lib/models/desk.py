@@ -23,8 +23,11 @@ class Desk:
 
     def one(self, table, **fields):
         """The first row with these fields, or None."""
-        found = [row for row in getattr(self, table) if all(row[name] == value for name, value in fields.items())]
-        return found[0] if found else None
+        (name, value), *others = fields.items()
+        for row in getattr(self, table):
+            if row[name] == value and all(row[other] == each for other, each in others):
+                return row
+        return None
 
     def source(self, ssrc):
         return self.one("sources", ssrc=ssrc)
@@ -52,16 +55,22 @@ class Desk:
         )
 
     def audio_in(self, room):
-        return sum(s["media"] == "audio" and self.room_of(s["member"]) == room for s in self.sources)
+        rooms = {m["member"]: m["room"] for m in self.members}
+        return sum(s["media"] == "audio" and rooms[s["member"]] == room for s in self.sources)
 
     def slots_of(self, member):
         return sorted((s for s in self.slots if s["member"] == member), key=lambda s: s["index"])
 
+    def count(self):
+        """How many rows there are."""
+        tables = self.rooms, self.members, self.sources, self.slots, self.subs, self.mutes, self.gains
+        return sum(map(len, (*tables, self.pins, self.floors)))
+
     def sweep(self):
         """Removes all rows that name a row which is gone, until none does."""
         before = None
-        while before != self.shown(0):
-            before = self.shown(0)
+        while before != self.count():
+            before = self.count()
             rooms = {r["room"] for r in self.rooms}
             self.members = [m for m in self.members if m["room"] in rooms]
             members = {m["member"] for m in self.members}

@@ -239,6 +239,12 @@ def good_name(value):
     return isinstance(value, str) and 1 <= len(value) <= 255 and all(32 <= ord(it) <= 126 for it in value)
 
 
+def good_buffer(value):
+    return good_number(value, 4_096, 1_000_000_000)
+
+
+# How many octets a buffer is asked to have where the settings don't say.
+USUAL_BUFFER = 4_194_304
 # What stands for the address of a trace where there is none.
 NO_TRACE = object()
 KEYS = {
@@ -250,6 +256,8 @@ KEYS = {
     "bridge_ssrc": (1, lambda value: good_number(value, 0, U32)),
     "cname": ("bridge", good_name),
     "trace": (NO_TRACE, lambda value: good_address(value, True)),
+    "receive_buffer": (USUAL_BUFFER, good_buffer),
+    "send_buffer": (USUAL_BUFFER, good_buffer),
 }
 
 
@@ -268,11 +276,13 @@ def settings_of(text):
         found[key] = table.get(key, usual)
         if found[key] is not NO_TRACE and not is_good(found[key]):
             return f"3 BadValue {key}"
-    traced = found["trace"] is not NO_TRACE
-    if traced and (found["operators"] < 2 or " " in found["cname"]):
-        return "3 BadValue trace"
+        if key == "trace" and found[key] is not NO_TRACE and (found["operators"] < 2 or " " in found["cname"]):
+            return "3 BadValue trace"
     others = sorted((key.encode(), key) for key in table if key not in KEYS)
     if others:
         return f"4 UnknownKey {others[0][1]}"
     shown = "udp {udp} and tcp {tcp} {lanes} {operators} {report_ms} {bridge_ssrc} {cname}".format(**found)
-    return f"{shown} trace {found['trace']}" if traced else shown
+    trace = "" if found["trace"] is NO_TRACE else f" trace {found['trace']}"
+    sizes = found["receive_buffer"], found["send_buffer"]
+    buffers = "" if sizes == (USUAL_BUFFER, USUAL_BUFFER) else " buffers {} {}".format(*sizes)
+    return f"{shown}{trace}{buffers}"

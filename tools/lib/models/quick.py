@@ -3,7 +3,8 @@
     quick.py LOG TCP:UDP:FIRST:ROOMS:MEMBERS ..
 
 Each has rooms from FIRST on at its begin, with so many members. LOG gets a line for each room that a desk gets (`+`) or
-loses (`-`), with the moment. served.py has all commands, and takes longer for each.
+loses (`-`), with the moment. A line on standard input is answered by how many looks there were at desks to which
+nothing had happened (`history 0`). served.py has all commands, and takes longer for each.
 """
 
 import asyncio
@@ -25,7 +26,7 @@ class Desk:
     def __init__(self, name, log):
         self.name, self.log, self.version = name, log, 0
         # Rooms with their members; members with their rooms and the rest of their rows; sources with their rows.
-        self.rooms, self.members, self.sources, self.watching = {}, {}, {}, set()
+        self.rooms, self.members, self.sources, self.watching, self.looks = {}, {}, {}, set(), 0
 
     def call(self, line):
         """The answer to a call, which is carried out as a whole or not at all."""
@@ -100,6 +101,7 @@ class Desk:
                 if line == "watch":
                     self.watching.add(writer)
                 said = f"end {self.version}" if line in ("watch", "history 0") else None
+                self.looks += line == "history 0"
                 said = self.shown() if line == "show" else said or self.call(line)
                 writer.write(f"{said}\n".encode())
                 for one in self.watching if said.startswith("ok ") else ():
@@ -135,9 +137,12 @@ async def run(log, given):
         one.bind(("127.0.0.1", udp))
         desk = Desk(tcp, log)
         fill(desk, first, rooms, members)
-        kept.append((one, await asyncio.start_server(desk.serve, "127.0.0.1", tcp)))
+        kept.append((one, desk, await asyncio.start_server(desk.serve, "127.0.0.1", tcp)))
     print("ready", flush=True)
-    await asyncio.Event().wait()
+    loop, reader = asyncio.get_running_loop(), asyncio.StreamReader()
+    await loop.connect_read_pipe(lambda: asyncio.StreamReaderProtocol(reader), sys.stdin)
+    while await reader.readline():
+        print(sum(desk.looks for _, desk, _ in kept), flush=True)
 
 
 if __name__ == "__main__":
