@@ -11,7 +11,7 @@ import traceback
 
 from copied import Copy
 from desk import BUSY
-from etcd import ANY, GONE
+from etcd import ANY, GONE, PATIENCE
 from known import DESKS, FLEET, NEW, Store
 from leader import AT_ONCE, EMPTY, Leader
 from leased import Lease
@@ -24,6 +24,9 @@ PAUSE, TROUBLED = 1, 0.25
 BEGINS = 5
 # How many calls that were lost are remembered.
 LOST = 64
+# Of how many rooms etcd gets the rows at once, and how many octets: it takes 128 changes, of which a room has three,
+# and requests of 1.5 MB.
+MOST_KEPT, MOST_OCTETS = 40, 400_000
 
 
 def log(text):
@@ -33,7 +36,8 @@ def log(text):
 class Agent:
     def __init__(self, settings, bridges, user=None):
         self.url, self.lasts, self.log = settings["agent"]["url"], settings["agent"]["lease"], log
-        self.store, self.bridges = Store(settings["etcd"]["servers"], user), {one.name: one for one in bridges}
+        etcd, self.bridges = settings["etcd"], {one.name: one for one in bridges}
+        self.store = Store(etcd["servers"], user, etcd.get("patience", PATIENCE))
         self.copy, self.troubles, self.spoiled = Copy(self.store), {}, set()
         self.lease = Lease(self.store, self.lasts, self.begins, log)
         self.leader = Leader(self)
@@ -105,6 +109,16 @@ class Agent:
         if not self.lease.is_good():
             raise Refused(GONE)
 
+    def in_words(self, why):
+        """What is said of a refusal where the agent has lost the others: they may have given its rooms away."""
+        lost = self.lease.lost_for()
+        if str(why) != GONE or not lost:
+            return why
+        names = ", ".join(name for name, bridge in self.bridges.items() if bridge.is_there)
+        words = f"{GONE.partition('. ')[0]}. This agent has had no word of its fleet for {lost:.0f} s."
+        rooms = f" The rooms of {names} may be on others by now, and calls at that desk may be lost." if names else ""
+        return Refused(f"{words}{rooms} Ask another agent.")
+
     def tell_of(self, spoiled):
         """Says of keys that they hold what no agent has put there."""
         for key in list(spoiled - self.spoiled)[:10]:
@@ -125,10 +139,10 @@ class Agent:
                     self.loses(bridge)
                 raise
             self.announce(bridge)
-            for room, (record, revision) in self.records(bridge).items():
-                if record["on"] == bridge.name:
-                    self.keep(bridge, room, record, revision)
-                    self.end_empty(bridge, room, record, revision)
+            here = {room: one for room, one in self.records(bridge).items() if one[0]["on"] == bridge.name}
+            self.keep(bridge, here)
+            for room, (record, revision) in here.items():
+                self.end_empty(bridge, room, record, revision)
             bridge.is_anew = False
             may_come = lambda one: one["to"] == bridge.name != one["on"] and (one["on"] is None or one["ready"])
             coming = {room: one for room, one in self.records(bridge).items() if may_come(one[0])}
@@ -162,17 +176,19 @@ class Agent:
 
     def give_up(self, bridge):
         """Gives up the rooms of a desk that have gone elsewhere, and takes in those that an operator has added."""
-        for room in list(bridge.rooms):
-            with self.copy.lock:
-                known = self.copy.known
-                (record, _), revision = known.rooms.get(room, (None, 0)), known.revision(room)
+        added = {}
+        with self.copy.lock:
+            known = self.copy.known
+            found = {room: (known.rooms.get(room, (None, 0))[0], known.revision(room)) for room in bridge.rooms}
+        for room, (record, revision) in found.items():
             if record is None:
-                # If the number is taken by now, the next look removes the room.
-                self.copy.put_room(room, NEW | {"on": bridge.name}, revision)
+                added[room] = NEW | {"on": bridge.name}, revision
             elif bridge.name not in (record["on"], record["to"]):
                 log(f"room {room} leaves {bridge.name}: it is on {record['on']}")
                 bridge.remove(room)
                 bridge.left.add(room)
+        # If a number is taken by now, the next look removes the room.
+        self.put(bridge, added)
         if bridge.is_cut and self.lease.is_good():
             bridge.is_cut = False
             log(f"{bridge.name} is back: {len(bridge.left)} of its rooms had gone elsewhere")
@@ -214,48 +230,91 @@ class Agent:
         if before != told and not self.copy.swap([(f"{FLEET}bridges/{bridge.name}", told, revision)]):
             raise Refused(f"another agent has just announced {bridge.name}")
 
-    def keep(self, bridge, room, record, revision):
-        """Keeps a room's rows, where they have changed or where the room is about to go."""
-        if room not in bridge.rooms:
-            if bridge.is_anew or bridge.version < record["version"]:
-                log(f"{bridge.name} was started anew, without room {room}")
-                self.copy.put_room(room, record | {"on": None, "ready": False}, revision)
-            else:
-                log(f"room {room} was removed from {bridge.name}")
-                self.copy.end_room(room, revision)
-            return
-        ready, kept = record["to"] is not None, bridge.kept.get(room)
-        if bridge.is_kept(room) and record["ready"] == ready:
-            return
-        later, others = record | {"members": len(bridge.members(room)), "version": bridge.version, "ready": ready}, []
-        if not bridge.is_kept(room):
-            number, what, kept = bridge.changes_to_keep(room)
-            if number is None:
-                others = [(f"{DESKS}{room}", what, ANY), (f"{DESKS}{room}/", None, ANY)]
-            else:
-                others = [(f"{DESKS}{room}/{number:04}", what, ANY)]
-        # Where that fails, somebody has changed the record, and all is put anew.
+    def keep(self, bridge, rooms):
+        """Keeps the rows of rooms, given by their records and revisions, where they have changed or where a room is
+        about to go."""
+        later = {}
+        for room, (record, revision) in rooms.items():
+            ready = record["to"] is not None
+            if room not in bridge.rooms:
+                self.misses(bridge, room, record, revision)
+            elif record["ready"] != ready or not bridge.is_kept(room):
+                later[room] = record | {"ready": ready}, revision
+        self.put(bridge, later)
+
+    def misses(self, bridge, room, record, revision):
+        """A room isn't on the desk of its bridge any more."""
         bridge.kept.pop(room, None)
-        if self.copy.put_room(room, later, revision, *others):
-            bridge.kept[room] = kept
+        if bridge.is_anew or bridge.version < record["version"]:
+            log(f"{bridge.name} was started anew, without room {room}")
+            self.copy.put_room(room, record | {"on": None, "ready": False}, revision)
+        else:
+            log(f"room {room} was removed from {bridge.name}")
+            self.copy.end_room(room, revision)
+
+    def put(self, bridge, rooms):
+        """Gives rooms these records where they have these revisions, and with a record on this bridge the rows that
+        aren't kept yet. The rooms for which that was done."""
+        changes, kept, done = {}, {}, set()
+        for room, (record, revision) in rooms.items():
+            others = []
+            if record["on"] == bridge.name and room in bridge.rooms:
+                others, kept[room] = self.rows_to_keep(bridge, room)
+                record = record | {"members": len(bridge.members(room)), "version": bridge.version}
+            changes[room] = [(f"{FLEET}rooms/{room}", record, revision), *others]
+            # Where that fails, somebody has changed the record, and all is put anew.
+            bridge.kept.pop(room, None)
+        for part in portions(changes):
+            done |= self.swapped(part, changes)
+        bridge.kept |= {room: one for room, one in kept.items() if room in done}
+        return done
+
+    def swapped(self, rooms, changes):
+        """Makes the changes of rooms at once, or one by one where some record has changed meanwhile. The rooms for
+        which that was done."""
+        if self.copy.swap([one for room in rooms for one in changes[room]]):
+            return {*rooms}
+        return set().union(*(self.swapped([room], changes) for room in rooms)) if len(rooms) > 1 else set()
+
+    def rows_to_keep(self, bridge, room):
+        """The changes after which etcd has a room's rows as they are, and what it has then."""
+        if bridge.is_kept(room):
+            return [], bridge.kept[room]
+        number, what, kept = bridge.changes_to_keep(room)
+        if number is None:
+            return [(f"{DESKS}{room}", what, ANY), (f"{DESKS}{room}/", None, ANY)], kept
+        return [(f"{DESKS}{room}/{number:04}", what, ANY)], kept
 
     def bring(self, bridge, rooms):
         """Makes rooms on a bridge by their records and revisions, and then says which of them are there."""
         groups, later = self.store.groups(rooms), {}
         refusals = dict.fromkeys(rooms, "etcd keeps lines of it that make anything but its rows")
         refusals |= bridge.bring({room: one for room, one in groups.items() if one is not None})
-        for room, (record, _) in rooms.items():
-            later[room] = record | {"to": None, "ready": False}
+        for room, (record, revision) in rooms.items():
+            after = record | {"to": None, "ready": False}
             if refusals[room] is None:
-                later[room] |= {"on": bridge.name, "version": bridge.version, "tried": [], "why": ""}
+                after |= {"on": bridge.name, "tried": [], "why": ""}
             else:
                 why = f"Bridge {bridge.name} refuses room {room}: {refusals[room]}"
-                later[room] |= {"tried": [*record["tried"], bridge.name], "why": why}
+                after |= {"tried": [*record["tried"], bridge.name], "why": why}
                 log(why)
-        revisions = {room: revision for room, (_, revision) in rooms.items()}
-        if self.copy.put_rooms(later, revisions):
-            return
-        # Some record has changed meanwhile: that room isn't to come any more.
-        for room in rooms:
-            if not self.copy.put_room(room, later[room], revisions[room]) and refusals[room] is None:
+            later[room] = after, revision
+        done = self.put(bridge, later)
+        for room in rooms.keys() - done:
+            # Its record has changed meanwhile: the room isn't to come any more.
+            if refusals[room] is None:
                 bridge.remove(room)
+
+
+def portions(changes):
+    """The rooms of these changes, in parts of which etcd takes each at once."""
+    part, octets = [], 0
+    for room, some in changes.items():
+        size = sum(len(str(value)) for _, value, _ in some)
+        if len(part) == MOST_KEPT or part and octets + size > MOST_OCTETS:
+            yield part
+            part, octets = [], 0
+        part.append(room)
+        octets += size
+    if part:
+        yield part

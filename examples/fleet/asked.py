@@ -5,6 +5,7 @@
                           its `udp` which one is best for a room without a bridge
     GET  /where?room=12&follow   the same as server-sent events: now, and whenever it changes. Without `room`: those of
                           all rooms, as they change
+    GET  /pages           where browsers join at the bridges. An agent that is cut off refuses
     POST /join    {"room": 12, "address": "10.0.0.9:6000", "voice": SSRC, "camera": SSRC, "slots": 3, "codec": "pcmu"}
                   A room gets its bridge now. Without `address` it gets no member: a gateway adds its own, and the room
                   goes where there is none after 10 s. `source` says for whom a room is opened (left out: the host of
@@ -53,6 +54,14 @@ class Asked:
     def __init__(self, agent, secret, most):
         """`most`: how many rooms that one source has opened there may be."""
         self.agent, self.copy, self.secret, self.most = agent, agent.copy, secret, most
+
+    @contextlib.contextmanager
+    def told(self):
+        """Who asks an agent that has lost the others is told so."""
+        try:
+            yield
+        except Refused as why:
+            raise self.agent.in_words(why) from None
 
     def place(self, words):
         """What is known, once a room has a bridge or goes to one: the leader has chosen it."""
@@ -170,7 +179,7 @@ class Asked:
                 raise Refused(f"{in_words(refusal)} ({bridge.name}: {refusal})")
             # It is a member. Where etcd doesn't answer just now, its rows are kept later.
             with contextlib.suppress(Refused):
-                self.agent.keep(bridge, room, record, revision)
+                self.agent.keep(bridge, {room: (record, revision)})
         return joined | {"bridge": bridge.name}
 
     def leave(self, words):
@@ -184,7 +193,7 @@ class Asked:
             refusal = bridge.leave(room, words["member"])
             if refusal:
                 raise Refused(f"The bridge refuses: {refusal}", 404)
-            self.agent.keep(bridge, room, record, revision)
+            self.agent.keep(bridge, {room: (record, revision)})
         return {"bridge": bridge.name}
 
     def move(self, words):
@@ -257,13 +266,22 @@ class ForFleet(Handler):
     }  # fmt: skip
 
     def carried_out(self, path, words):
-        return getattr(self.asked, path)(words)
+        with self.asked.told():
+            return getattr(self.asked, path)(words)
 
     def questioned(self, path, query):
+        with self.asked.told():
+            return self.answer(path, query)
+
+    def answer(self, path, query):
         if path == "where" and "follow" in query:
             return Followed(room_of(query) if "room" in query else None)
         if path == "where":
             return self.asked.where({"room": ""} | query)
+        if path == "pages":
+            self.asked.agent.demand()
+            bridges = self.asked.copy.known.bridges.values()
+            return {"pages": sorted({one["page"] for one in bridges} - {""})}
         if path:
             raise Refused(f"There is no question /{path[:40]}.", 404)
         agent, copy = self.asked.agent, self.asked.copy

@@ -120,9 +120,11 @@ class Bridge:
     def bring(self, rooms):
         """Makes rooms by their groups, which make nothing else. The refusal of each, which leaves nothing behind, or
         None."""
-        for room in rooms.keys() & self.rooms.keys():
-            # Half of a move that was cut.
-            self.remove(room)
+        for room in rooms:
+            self.kept.pop(room, None)
+            if room in self.rooms:
+                # Half of a move that was cut.
+                self.remove(room)
         # All at once: a bridge that has little of its processor would make each answer a wait.
         groups = [group for one in rooms.values() for group in one]
         if not groups:
@@ -144,7 +146,7 @@ class Bridge:
 
     def seconds_empty(self, room):
         """For how long a room has had no member."""
-        if room not in self.rooms or self.members(room):
+        if room not in self.rooms or any(row.startswith("member ") for row in self.rooms[room]):
             self.empty.pop(room, None)
             return 0
         return time.monotonic() - self.empty.setdefault(room, time.monotonic())

@@ -96,6 +96,7 @@ job "confbridge" {
           lease = 3
           [etcd]
           servers = ["${var.etcd}"]
+          patience = 2
           user = "fleet"
           password = "/secrets/etcd.password"
           [bridges.bridge{{ env "NOMAD_ALLOC_INDEX" }}]

@@ -7,9 +7,9 @@ from etcd import ANY, GONE
 from known import FLEET, Known, gone
 from refused import Refused
 
-# After how many seconds the copy is read anew where the watch has ended, and where it doesn't tell of the agent's own
-# change.
-PAUSE, UNTOLD = 0.2, 5
+# After how many seconds the copy is read anew where the watch has ended; and after how many times what an answer may
+# take, where it doesn't tell of the agent's own change.
+PAUSE, UNTOLD = 0.2, 2.5
 
 
 class Copy:
@@ -78,7 +78,7 @@ class Copy:
     def current(self, seconds=0.0):
         """What is known now. Where the watch has ended, it is waited for."""
         with self.lock:
-            if self.waits and time.monotonic() - self.waits > UNTOLD:
+            if self.waits and time.monotonic() - self.waits > UNTOLD * self.store.patience:
                 self.ends()
             if not self.lock.wait_for(lambda: self.is_current, seconds):
                 raise Refused(GONE)

@@ -15,6 +15,8 @@ GONE = "The fleet's memory (etcd) doesn't answer. Try again in a minute."
 ANY = None
 
 
+# How many seconds an answer may take, where the settings don't say.
+PATIENCE = 2
 # How many seconds it takes at most to see whether a password is right, which is meant to be slow.
 SEEING = 20
 # How many octets of an answer are read, and of one line of a watch.
@@ -68,20 +70,22 @@ class Ended(OSError):
 class Etcd:
     """The servers of one etcd, of which the first that answers is asked. Values are those of JSON.
 
-    `user` is a name and a password, or None where etcd has no users.
+    `user` is a name and a password, or None where etcd has no users. A server that takes longer than `patience`, in
+    seconds, is taken for one that doesn't answer; five times that long where it is asked for much.
     """
 
-    def __init__(self, servers, user=None):
+    def __init__(self, servers, user=None, patience=PATIENCE):
         self.servers, self.user, self.token, self.lock = list(servers), user, None, threading.Lock()
+        self.patience = patience
         # Connections that wait for a request, by their server. `idle` has a lock of its own: a password takes long.
         self.idle, self.free = {}, threading.Lock()
 
-    def ask(self, path, seconds=2, **words):
-        """What is answered, by a server that answers within so many seconds."""
+    def ask(self, path, times=1, **words):
+        """What is answered, by a server that answers before its time is over."""
         for _ in range(len(self.servers)):
             server = self.servers[0]
             try:
-                return self.asked(server, path, seconds, words)
+                return self.asked(server, path, times * self.patience, words)
             except (OSError, ValueError, KeyError, http.client.HTTPException):
                 self.passes_over(server)
         raise Refused(GONE)
@@ -149,7 +153,7 @@ class Etcd:
     def read_at(self, folder):
         """The values below a folder such as "/rooms/", each with its revision, by the rest of its key; and the revision
         of the whole. What is no JSON is False."""
-        said = self.ask("kv/range", 10, key=packed(folder), range_end=packed(above(folder)))
+        said = self.ask("kv/range", 5, key=packed(folder), range_end=packed(above(folder)))
         found = {unpacked(one["key"])[len(folder) :]: one for one in said.get("kvs", [])}
         return {key: (put_value(one), int(one["mod_revision"])) for key, one in found.items()}, revision_of(said)
 
@@ -206,7 +210,7 @@ class Etcd:
         for key in keys:
             asked.append({"request_range": {"key": packed(key)}})
             asked.append({"request_range": {"key": packed(f"{key}/"), "range_end": packed(above(f"{key}/"))}})
-        said = self.ask("kv/txn", 10, success=asked)["responses"] if asked else []
+        said = self.ask("kv/txn", 5, success=asked)["responses"] if asked else []
         found = [list(map(value_of, one["response_range"].get("kvs", []))) for one in said]
         return [(own[0] if own else None, below) for own, below in zip(found[::2], found[1::2])]
 

@@ -97,8 +97,9 @@ class Known:
         self.revisions = {}
         # The rooms of each bridge, with those that go there, and their members; and how many rooms a source has opened.
         self.of, self.members, self.sources = collections.defaultdict(set), collections.Counter(), collections.Counter()
-        # Rooms that get a bridge in this moment, which etcd hasn't said yet: the bridge, the members and the source.
-        self.held = {}
+        # Rooms that get a bridge in this moment, which etcd hasn't said yet: the bridge, the members and the source. And
+        # how many of them each bridge gets.
+        self.held, self.held_at = {}, collections.Counter()
         for key, (value, revision) in dict(values).items():
             self.put(key, value, revision)
 
@@ -143,6 +144,7 @@ class Known:
         """Counts a room at a bridge that it gets in this moment, and a new one at its source."""
         self.let_go(room)
         self.held[room] = bridge, members, source
+        self.held_at[bridge] += 1
         self.members[bridge] += members
         self.counts(source, 1)
 
@@ -150,6 +152,7 @@ class Known:
         """The room that was held is known by etcd now, or hasn't got the bridge."""
         if room in self.held:
             bridge, members, source = self.held.pop(room)
+            self.held_at[bridge] -= 1
             self.members[bridge] -= members
             self.counts(source, -1)
 
@@ -172,8 +175,7 @@ class Known:
 
     def load(self, bridge):
         """How many members and rooms a bridge has, those on their way included."""
-        held = sum(one[0] == bridge for one in self.held.values())
-        return self.members[bridge], len(self.of.get(bridge, ())) + held
+        return self.members[bridge], len(self.of.get(bridge, ())) + self.held_at[bridge]
 
     def chosen(self, members=0, without=(), at=None):
         """The bridge with the fewest members, and then rooms, that takes a further room with so many members. The one

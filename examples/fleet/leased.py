@@ -5,8 +5,8 @@ import time
 
 from refused import Refused
 
-# How many renewals may be unanswered at once, and for how many seconds each may be.
-MOST, SECONDS = 5, 5
+# How many renewals may be unanswered at once, and how many times longer than any other question each may be.
+MOST, TIMES = 5, 2.5
 
 
 class Lease:
@@ -21,6 +21,10 @@ class Lease:
     def is_good(self):
         """Whether it is certain that the others know this agent."""
         return time.monotonic() < self.until
+
+    def lost_for(self):
+        """For how many seconds others may know no more that this agent runs: 0 where they know, or never did."""
+        return max(0.0, time.monotonic() - self.until) if self.until else 0.0
 
     def run(self):
         while not self.closed.is_set():
@@ -48,12 +52,12 @@ class Lease:
     def renews(self, lease, turn):
         began = time.monotonic()
         try:
-            is_there = self.store.renew(lease, SECONDS, turn)
+            is_there = self.store.renew(lease, TIMES * self.store.patience, turn)
             if is_there:
                 self.until = max(self.until, began + self.lasts)
             elif self.id == lease:
                 # Other agents may have lost theirs as well.
-                self.id = None
+                self.id, self.until = None, min(self.until, time.monotonic())
                 self.lost.set()
             self.says("")
         except Refused as why:

@@ -53,12 +53,12 @@ PARTS = [
         "step_kubernetes", "step_pods", "step_compose", "step_podman", "step_nomad", "step_ports_of_job", "step_units",
         "step_ports_of_units", "step_compaction", "step_confined",
     ]),
-    (Memory, ["etcd"], ["step_changes", "step_watch", "step_database"]),
+    (Memory, ["etcd"], ["step_changes", "step_watch", "step_many", "step_database"]),
     (Fleet, ["etcd"], [
         "step_opens", "step_bodies", "step_secret", "step_questions", "step_leave", "step_halves", "step_kill",
-        "step_etcd_lines", "step_empty", "step_move", "step_cut_moves", "step_agent_alone", "step_leader",
-        "step_follows", "step_cut_off", "step_gateways", "step_etcd", "step_full_and_busy", "step_machine",
-        "step_dispatcher", "step_drain",
+        "step_etcd_lines", "step_empty", "step_move", "step_cut_moves", "step_agent_alone", "step_lease_lost",
+        "step_leader", "step_follows", "step_cut_off", "step_gateways", "step_etcd", "step_full_and_busy",
+        "step_machine", "step_dispatcher", "step_drain",
     ]),
 ]  # fmt: skip
 

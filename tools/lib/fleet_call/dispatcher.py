@@ -142,6 +142,7 @@ class Dispatched:
         for method, route, status in (
             ("INVITE", routes[0], "403"), ("INVITE", routes[2], "403"), ("MESSAGE", routes[1], "403"),
             ("MESSAGE", "X: x", "405"), ("REGISTER", "X: x", "405"), ("OPTIONS", "X: x", "200"),
+            ("INVITE", "Expires: never", "400"),
         ):  # fmt: skip
             said = kamailio.said(f"{method} {to_victim}", route)
             text = f"{method} with `{route.replace(there, 'VICTIM').replace(own, 'OWN')}`: {status}"

@@ -6,14 +6,19 @@ import threading
 import time
 import urllib.request
 
+from lib.fleet_call.gateways import Engine, Gateway
 from lib.fleet_call.machines import Clock, Way
-from lib.fleet_call.parts import LEASE, SECRET, AgentPart, BridgePart, signed
+from lib.fleet_call.parts import LEASE, PAGES, SECRET, AgentPart, BridgePart, signed
+from lib.gateway_call.again import Page
 
 from copied import Copy  # noqa: E402
-from known import NEW  # noqa: E402
+from etcd import packed  # noqa: E402
+from known import FLEET, NEW  # noqa: E402
 
 # A room that is moved from here and there, and one of a bridge that is cut off.
 FOLLOWED, CUT = 62, 63
+# Rooms of the bridges that are drained for a while: a drained bridge without a room is stopped.
+HELD = {"a": 6301, "b": 6302}
 # An address that no machine has here.
 NOWHERE = "198.18.0.1"
 
@@ -89,6 +94,24 @@ class Failing:
         leaders = {one.ask("")[1]["leader"] for one in self.agents.values()}
         self.check(len(leaders) == 1 and leader not in leaders, "all know the same leader", leaders)
 
+    def step_lease_lost(self):
+        """An agent's lease is lost, while the agent and its bridge run."""
+        self.settles([*self.records()])
+        room, before, old = self.one_on("b"), self.desks(), self.lease_of("b")
+        self.etcd.store.ask("lease/revoke", ID=old)
+        text = "an agent's lease is lost, and its bridge answers: it has another lease"
+        self.comes(lambda: self.lease_of("b") not in (None, old), text)
+        time.sleep(LEASE)
+        after = self.desks()
+        self.check(after == before, "no desk changes, and no room goes elsewhere", (before, after))
+        self.comes(lambda: self.join("a", room)[0] == 200, "members join there", 60)
+
+    def lease_of(self, name):
+        """The lease of an agent, None where it has none."""
+        key = packed(f"{FLEET}agents/127.0.0.1:{self.agents[name].port}")
+        found = self.etcd.store.ask("kv/range", key=key).get("kvs")
+        return found[0]["lease"] if found else None
+
     def step_follows(self):
         """Signalling follows a room that moves, loses its bridge and ends."""
         port = next(self.ports)
@@ -134,25 +157,72 @@ class Failing:
         bridge = self.begun(BridgePart("d", self.folder, self.bridges["a"].program))
         agent = self.begun(AgentPart(bridge, self.folder, self.etcd, etcd_url=way.url, udp=f"{NOWHERE}:{bridge.udp}"))
         self.comes(lambda: agent.knows() == 4, "a fourth machine comes", 60)
+        members = {}
+        for name, room in HELD.items():
+            members[room] = self.join("a", room)[1]["member"]
+            self.comes(lambda room=room: self.at(room), f"{name} gets a room that keeps it")
+            self.goes_to(room, name)
         ssrc = next(self.ports)
         self.join("a", CUT, voice=ssrc)
         self.comes(lambda: self.at(CUT), "a room is opened")
         self.goes_to(CUT, "d")
+        page, there = self.page_at(bridge, agent)
         way.tell("cut")
         self.comes(lambda: "d is cut off" in agent.log.read_text(), "it is cut off, and its agent says so", 30)
-        self.told(agent.ask("join", room=CUT, address="127.0.0.1:9"), 503, "doesn't answer", "who asks it is refused")
+        self.refuses(agent)
         bridge.do(f"group mute {ssrc}")
         on = lambda: (self.records().get(CUT) or {}).get("on") in (*"abc",)
         self.comes(on, "its room goes elsewhere", 30)
+        self.leaves_cut_off(page, there)
         way.tell("join")
         self.comes(lambda: CUT not in bridge.desk()[0], "the way is there again: it gives the room up", 60)
         lost = lambda: any(f"mute {ssrc}" in one for one in agent.ask("")[1]["lost"])
         self.comes(lost, "and says which call of an operator is lost")
+        page.parts.ask("leave", id=page.id)
         member = next(int(row.split(" ")[2]) for row in self.rows(CUT) if row.startswith("member "))
         self.agents["a"].ask("leave", room=CUT, member=member)
-        for part in agent, bridge, way:
+        for part in self.gateways["d"], there, agent, bridge, way:
             part.close()
+        for name in HELD:
+            self.agents["a"].ask("drain", bridge=name, off=True)
+        for room, one in members.items():
+            self.agents["a"].ask("leave", room=room, member=one)
         self.comes(lambda: self.agents["a"].knows() == 3, "it is switched off, and forgotten", 30)
+
+    def page_at(self, bridge, agent):
+        """A page in a room of the machine that is cut off, and the gateway of the bridge to which that goes then."""
+        engine = self.begun(Engine())
+        self.gateways = {"d": self.begun(Gateway(self.folder, bridge, engine, agent, 1_000_200_000, bridge_ip=NOWHERE))}
+        there = self.begun(Gateway(self.folder, self.bridges["c"], engine, self.agents["c"], 1_000_300_000))
+        page = Page(self.gateways["d"], "cut", next(self.ports), CUT)
+        self.check(page.said[0] == 200, "a browser joins at its gateway", page.said)
+        for name in HELD:
+            self.agents["a"].ask("drain", bridge=name)
+        kept = lambda: str(page.told["member"]) in str(self.etcd.store.groups([CUT]))
+        self.comes(kept, "and is kept")
+        return page, there
+
+    def leaves_cut_off(self, page, there):
+        """The page is told that its bridge is cut off, and comes again where the room is now."""
+        state = lambda: page.state()[1]
+        self.comes(lambda: state()["cut"], "its page is told", 30)
+        words = "This bridge is cut off from its fleet: your room may be on another one by now."
+        self.comes(lambda: words in state()["trouble"], f"in words: `{words}`", 30)
+        self.check(f"{PAGES}/c" in state()["pages"], "and where it may ask", state())
+        member, page.parts = page.told["member"], there
+        said = page.comes_again(next(self.ports))
+        good = said[0] == 200 and said[1]["member"] == member
+        self.check(good, "it comes again at the bridge that has the room now, as the member that it was", said)
+
+    def refuses(self, agent):
+        """An agent that is cut off refuses each request, and says what may be lost."""
+        words = "The rooms of d may be on others by now, and calls at that desk may be lost. Ask another agent."
+        asked = [("join", {"address": "127.0.0.1:9"}), ("leave", {"member": 1}), ("move", {"to": "a"})]
+        said = [agent.ask(path, room=CUT, **more) for path, more in asked] + [agent.ask("drain", bridge="d")]
+        said += [agent.sent(signed(SECRET, f"{agent.url}/{path}")) for path in ("", f"where?room={CUT}", "pages")]
+        good = lambda status, text: status == 503 and words in text and "no word of its fleet" in text
+        wrong = [one for one in said if not good(one[0], str(one[1]))]
+        self.check(not wrong, f"it refuses {len(said)} requests: `{words}`", wrong)
 
     def at(self, room):
         return self.records().get(room, NEW)["on"]

@@ -250,13 +250,13 @@ class Fleet(Dispatched, Failing, Gatewayed, Strangers):
         self.comes(stands, "all rooms stand still")
 
     def step_etcd(self):
-        before = self.desks()
+        room, before = self.one_on("b"), self.desks()
         self.etcd.close()
         took = until(lambda: self.join("a", 77)[0] == 503)
         self.check(took is not None, "etcd is gone")
         words = "The fleet's memory (etcd) doesn't answer"
         for path, more in ("join", {"address": "127.0.0.1:9"}), ("move", {"to": "a"}), ("drain", {"bridge": "a"}):
-            self.told(self.agents["b"].ask(path, room=self.one_on("b"), **more), 503, words, path)
+            self.told(self.agents["b"].ask(path, room=room, **more), 503, words, path)
         time.sleep(LEASE + 3)
         self.check(self.desks() == before, "no desk changes meanwhile")
         self.etcd.start()

@@ -5,12 +5,15 @@ import json
 import time
 
 from lib.fleet_call.parts import PAGES, until
-from lib.gateway_call.parts import Parts
+from lib.gateway_call.again import Page
+from lib.gateway_call.parts import AWAY, Parts
 from lib.gateway_call.refusals import answer_of, offer_of
 from lib.serving import Answering
 
 # The rooms that this uses, and the SSRC of a browser that keeps it: real ones draw another one for each call.
 HERE, THERE, FALLEN, SSRC = 60, 61, 66, 600_000
+# After how many seconds a member that the fleet has brought is still to be there.
+STAYS = 3
 # How many strangers only ask, and the first of their rooms.
 STRANGERS, NOBODY = 32, 6001
 
@@ -38,14 +41,15 @@ class Engine(Answering):
             return {"tags": {"browser": {"medias": [{"streams": [{"stats": {"packets": self.calls[call]}}]}]}}}
         if words["command"] == "delete":
             self.calls.pop(call, None)
-        return {}
+        return {"calls": []} if words["command"] == "list" else {}
 
 
 class Gateway(Parts):
     """An agent of examples/gateway beside a bridge, and browsers that ask it."""
 
-    def __init__(self, folder, bridge, engine, agent, first_member):
-        super().__init__(folder, bridge.udp, bridge.tcp, engine.port, first_member, f"http://127.0.0.1:{agent.port}")
+    def __init__(self, folder, bridge, engine, agent, first_member, **more):
+        fleet = f"http://127.0.0.1:{agent.port}"
+        super().__init__(folder, bridge.udp, bridge.tcp, engine.port, first_member, fleet, **more)
         self.start("agent")
 
     def offered(self, room):
@@ -63,42 +67,66 @@ class Gateway(Parts):
 
 
 class Gatewayed:
-    """The step of a fleet's check that has gateways beside two bridges."""
+    """The step of a fleet's check that has gateways beside its bridges."""
 
     def step_gateways(self):
         engine = self.begun(Engine())
         self.gateways = {
             name: self.begun(Gateway(self.folder, self.bridges[name], engine, self.agents[name], first))
-            for name, first in (("b", 1_000_000_000), ("c", 1_000_100_000))
+            for name, first in (("a", 1_000_200_000), ("b", 1_000_000_000), ("c", 1_000_100_000))
         }
-        b, c = self.gateways.values()
+        b, c = self.gateways["b"], self.gateways["c"]
         self.opened(HERE, "b")
         self.opened(THERE, "c")
         # Signalling's own member stays in the room, whatever becomes of calls.
         own = self.join("a", HERE)[1]["member"]
-        ids = [b.joined(HERE), c.joined(THERE, SSRC + 1)]
-        self.check([one[1][0] for one in ids] == [200, 200], "browsers join at the gateways of two bridges", ids)
+        self.page, ids = Page(b, "moved", SSRC, HERE), [c.joined(THERE, SSRC + 1)]
+        said = self.page.said, ids[0][1]
+        self.check([one[0] for one in said] == [200, 200], "browsers join at the gateways of two bridges", said)
+        self.bridges["b"].do(f"mute {SSRC}")
         self.only_asks(b)
         words = f"Room {HERE} is on bridge b of the fleet now. Join it at {PAGES}/b/?room={HERE}"
         self.told(c.joined(HERE)[1], 421, words, "at the gateway of another bridge one is told where the room is")
         self.goes(HERE, "c", "the room of a call moves there")
-        id, said = c.joined(HERE)
-        self.check(said[0] == 200, "who joins there at once, under the same SSRC, is a member", said)
-        wanted = [own, said[1]["member"]] if said[0] == 200 else None
-        # The old bridge gives the room up at its agent's next look.
-        self.comes(lambda: self.members(HERE) == wanted, "and the old call's member is gone")
-        ended = until(lambda: b.ask("state", id=ids[0][0])[0] == 410)
-        words = f"Room {HERE} is on bridge c of the fleet now"
-        self.told(b.ask("state", id=ids[0][0]) if ended else (0, ""), 410, words, "the page of the old call says so")
+        self.follows_room(self.page, c, "c", SSRC + 10, "its room has moved")
+        self.check(self.members(HERE) == sorted([own, self.page.told["member"]]), "nobody is a member twice")
         self.moves_while_joining(c)
         self.ends_below(b)
-        self.comes(lambda: self.members(HERE) == [own], "no call leaves a row behind")
+        self.page.parts.ask("leave", id=self.page.id)
+        text = "no call leaves a row behind, once all who may come again had their time"
+        self.comes(lambda: self.members(HERE) == [own], text, AWAY + 20)
         self.agents["a"].ask("leave", room=HERE, member=own)
-        c.ask("leave", id=ids[1][0])
+        c.ask("leave", id=ids[0][0])
         gone = lambda: not {HERE, THERE} & (self.places().keys() | self.records().keys())
         self.comes(gone, "rooms and their records go with the last call or member that leaves")
         for one in self.gateways.values():
             one.close()
+
+    def follows_room(self, page, gateway, name, ssrc, text):
+        """A page whose room is on another bridge now comes again there without a click. It is the member that it was,
+        and muted as that one was."""
+        member = page.told["member"]
+        told = f"{text}: its page is told where it is, and comes again by itself"
+        self.comes(lambda: page.may_come() and page.parted["page"] == f"{PAGES}/{name}", told)
+        time.sleep(STAYS)
+        kept = member in self.members(page.room)
+        self.check(kept, f"{text}: {STAYS} s later the member that was brought is still there", self.rows(page.room))
+        page.parts = gateway
+        said = (0, "")
+
+        def comes():
+            nonlocal said
+            said = page.comes_again(ssrc)
+            return said[0] == 200
+
+        self.comes(comes, f"{text}: the gateway there takes the call over")
+        good = said[0] == 200 and said[1]["member"] == member
+        self.check(good, f"{text}: it is the member that it was", said)
+        rows = self.rows(page.room)
+        self.check(f"mute {ssrc}" in rows, f"{text}: what an operator muted stays muted, under its new SSRC", rows)
+        state = page.state()
+        good = state[0] == 200 and state[1]["muted"] == [ssrc] and state[1]["room"] == page.room
+        self.check(good, f"{text}: its page says so", state)
 
     def only_asks(self, gateway):
         """Strangers ask for offers, and never join."""
@@ -130,12 +158,18 @@ class Gatewayed:
         port = next(self.ports)
         self.opened(FALLEN, "b")
         member = self.join("a", FALLEN, voice=port)[1]["member"]
-        id, said = gateway.joined(FALLEN, SSRC + 4)
-        self.check(said[0] == 200, "a browser joins at a bridge that is killed then", said)
+        page = Page(gateway, "fallen", SSRC + 4, FALLEN)
+        self.check(page.said[0] == 200, "a browser joins at a bridge that is killed then", page.said)
+        if page.said[0] != 200:
+            return
+        self.bridges["b"].do(f"mute {SSRC + 4}")
+        self.comes(lambda: f"mute {SSRC + 4}" in str(self.etcd.store.groups([FALLEN])), "an operator mutes it")
         self.bridges["b"].close()
-        ended = until(lambda: gateway.ask("state", id=id)[0] == 410)
-        words = f"Room {FALLEN} is on bridge"
-        self.told(gateway.ask("state", id=id) if ended else (0, ""), 410, words, "its page says where the room is now")
+        place = lambda: self.places().get(FALLEN, [])
+        self.comes(lambda: place() in (["a"], ["c"]), "its room goes to another bridge")
+        name = [*place(), "c"][0]
+        self.follows_room(page, self.gateways[name], name, SSRC + 14, "its bridge is killed")
+        page.parts.ask("leave", id=page.id)
         self.bridges["b"].start()
         self.comes(lambda: self.agents["a"].knows() == 3, "the bridge is started anew")
         self.agents["a"].ask("leave", room=FALLEN, member=member)

@@ -1,8 +1,11 @@
 """The machines of a large fleet: models of bridges, real agents, and a way to etcd that counts and can be slow."""
 
 import atexit
+import bisect
 import collections
+import contextlib
 import json
+import math
 import os
 import pathlib
 import random
@@ -15,13 +18,15 @@ import time
 import urllib.error
 import urllib.request
 
-from lib.fleet_call.parts import FLEET, SECRET, USER, begun, ended, secret_file, signed
+from lib.fleet_call.parts import FLEET, LEASE, SECRET, USER, begun, ended, secret_file, signed
 from lib.serving import free_port
 from lib.shared import ROOT
 
+from copied import Copy  # noqa: E402
+
 MODELS = ROOT / "tools/lib/models"
-# How many octets of an answer are read.
-MOST_OCTETS = 10_000_000
+# How many seconds it may take to know all anew; and how many octets of an answer are read.
+READS, MOST_OCTETS = 300, 10_000_000
 TICKS = os.sysconf("SC_CLK_TCK")
 
 
@@ -31,38 +36,93 @@ def processor_time(process):
     return (int(words[11]) + int(words[12])) / TICKS
 
 
+def asked_for(process):
+    """The processor time that each thread of a process has had, and that it has waited for, in nanoseconds."""
+    found = {}
+    with contextlib.suppress(OSError):
+        for thread in os.listdir(f"/proc/{process}/task"):
+            with contextlib.suppress(OSError):
+                words = pathlib.Path(f"/proc/{process}/task/{thread}/schedstat").read_text().split()
+                found[thread] = int(words[0]), int(words[1])
+    return found
+
+
 class Clock(threading.Thread):
-    """The simulation's own clock: seconds of a thread that sleeps again and again. On a machine that has no time for it
-    this thread is late as all others are, and its seconds are longer."""
+    """The simulation's own clock. Where its processes get a share of GRANTED, or more, of the processor time that they
+    ask for, its seconds are the machine's. Where they get less, its seconds are longer, by as much: on a machine that
+    has no time for the simulation all that is done there is late, and none of it by this clock."""
 
-    STEP = 0.01
+    # Every STEP seconds it sees what they got, and lets go of a part of what it has seen before. It never stands still.
+    STEP, GRANTED, KEPT, LEAST = 0.5, 0.1, 0.75, 0.01
 
-    def __init__(self):
+    def __init__(self, processes=lambda: []):
         super().__init__(daemon=True)
-        # For each step the machine's time.
-        self.moments = [time.monotonic()]
+        self.processes, self.threads, self.had, self.waited, self.rate = processes, {}, 0.0, 0.0, 1.0
+        # The machine's time at each step, and the clock's.
+        self.moments = [(time.monotonic(), 0.0)]
         self.start()
 
     def run(self):
         while True:
             time.sleep(self.STEP)
-            self.moments.append(time.monotonic())
+            now, (moment, told) = time.monotonic(), self.moments[-1]
+            later = told + (now - moment) * self.rate
+            self.see()
+            self.moments.append((now, later))
+
+    def see(self):
+        """Sees what the processes had since the last step, and what they waited for."""
+        before, self.threads = self.threads, {}
+        for process in {os.getpid(), *self.processes()}:
+            self.threads |= {(process, thread): one for thread, one in asked_for(process).items()}
+        rise = lambda at: sum(now[at] - before[one][at] for one, now in self.threads.items() if one in before)
+        self.had = self.had * self.KEPT + rise(0)
+        self.waited = self.waited * self.KEPT + rise(1)
+        share = self.had / (self.had + self.waited) if self.waited else 1.0
+        self.rate = min(1.0, max(self.LEAST, share / self.GRANTED))
 
     def now(self):
-        return len(self.moments) * self.STEP
+        return self.at(time.monotonic())
 
     def at(self, moment):
         """The clock's time at a moment of the machine's."""
-        low, high = 0, len(self.moments)
-        while low < high:
-            middle = (low + high) // 2
-            low, high = (middle + 1, high) if self.moments[middle] < moment else (low, middle)
-        return low * self.STEP
+        place = bisect.bisect(self.moments, (moment, math.inf))
+        (before, told), *after = self.moments[max(0, place - 1) : place + 1]
+        if after:
+            return told + (after[0][1] - told) * (moment - before) / (after[0][0] - before)
+        return told + max(0.0, moment - before) * self.rate
 
     def sleep(self, seconds):
         end = self.now() + seconds
-        while self.now() < end:
-            time.sleep(self.STEP)
+        while (left := end - self.now()) > 0:
+            # No second of the clock is shorter than the machine's.
+            time.sleep(max(0.01, left))
+
+
+class Observer(Copy):
+    """What all agents know, as this test sees it: where rooms are, which keys have changed, and when others went."""
+
+    def __init__(self, store):
+        super().__init__(store)
+        self.changes, self.went = 0, {}
+        self.heard.append(self.hears)
+        threading.Thread(target=self.run, daemon=True).start()
+
+    def hears(self, key):
+        if key is None:
+            return
+        self.changes += 1
+        if key not in self.known.revisions:
+            self.went[key] = time.monotonic()
+
+    def rooms(self):
+        """The record of each room, as far as etcd tells in this moment."""
+        with self.lock:
+            return {room: record for room, (record, _) in self.current(READS).rooms.items()}
+
+    def close(self):
+        self.closed.set()
+        self.ends()
 
 
 class Way:
@@ -92,18 +152,21 @@ class Way:
 class Machine:
     """An agent and the models of its bridges."""
 
-    def __init__(self, name, folder, etcd, bridges, rooms):
+    def __init__(self, name, folder, etcd, bridges, rooms, slower=1):
+        """`slower`: how many times longer than elsewhere a lease lasts, and an answer of etcd may take."""
         self.name, self.folder, self.rooms = name, folder, rooms
         ports = [(free_port(socket.SOCK_STREAM), free_port(socket.SOCK_DGRAM)) for _ in range(bridges)]
         self.bridges = {f"{name}b{at}": pair for at, pair in enumerate(ports)}
         self.port, self.path, self.log = free_port(socket.SOCK_STREAM), folder / f"{name}.toml", folder / f"{name}.log"
         self.url = f"http://127.0.0.1:{self.port}"
-        lines = [f'[agent]\nlisten = "127.0.0.1:{self.port}"\nurl = "{self.url}"\nlease = 3\nrooms_of_source = 8']
-        lines += [f'secret = "{secret_file(folder)}"\n[etcd]\nservers = ["{etcd.url}"]\nuser = "{USER[0]}"']
-        lines += [f'password = "{folder / "etcd.password"}"']
+        lines = [f'[agent]\nlisten = "127.0.0.1:{self.port}"\nurl = "{self.url}"\nlease = {LEASE * slower:.0f}']
+        lines += [f'rooms_of_source = 8\nsecret = "{secret_file(folder)}"']
+        lines += [f'[etcd]\nservers = ["{etcd.url}"]\nuser = "{USER[0]}"']
+        lines += [f'password = "{folder / "etcd.password"}"\npatience = {2 * slower:.1f}']
         for one, (tcp, udp) in self.bridges.items():
             lines += [f'[bridges.{one}]\nudp = "127.0.0.1:{udp}"\ntcp = "127.0.0.1:{tcp}"\nrooms = 64\nmembers = 1024']
         self.path.write_text("\n".join(lines) + "\n")
+        self.models = self.agent = None
 
     def start_models(self, members):
         words = [sys.executable, "-B", MODELS / "quick.py", self.folder / "rooms.log"]
@@ -111,7 +174,19 @@ class Machine:
             words.append(f"{tcp}:{udp}:{self.rooms[at]}:{self.rooms[at + 1] - self.rooms[at]}:{members}")
         self.models = subprocess.Popen(words, stdin=-1, stdout=-1, text=True)
         atexit.register(ended, self.models)
-        self.models.stdout.readline()
+
+    def have_begun(self):
+        """Waits until the models answer."""
+        return self.models.stdout.readline()
+
+    def looks(self):
+        """How often its agent has looked at a desk at which nothing had happened."""
+        self.models.stdin.write("count\n")
+        self.models.stdin.flush()
+        return int(self.models.stdout.readline())
+
+    def processes(self):
+        return [one.pid for one in (self.models, self.agent) if one and one.poll() is None]
 
     def start_agent(self):
         self.agent = begun([sys.executable, "-B", FLEET, self.path], self.log)
@@ -123,11 +198,11 @@ class Machine:
             one.wait()
 
     def close(self):
-        ended(self.agent)
-        ended(self.models)
+        for one in filter(None, (self.agent, self.models)):
+            ended(one)
 
 
-def asked(url, path, words=None, seconds=30):
+def asked(url, path, words=None, seconds=READS):
     """The status of a request to an agent, and what it is answered."""
     body = None if words is None else json.dumps(words).encode()
     try:

@@ -3,11 +3,10 @@
 import itertools
 import random
 import threading
-import types
 
 from lib.fleet_call.parts import EtcdPart, commands_of, groups_of, until
 
-from agent import Agent  # noqa: E402
+from agent import MOST_KEPT, MOST_OCTETS as MOST_AT_ONCE, Agent, portions  # noqa: E402
 from bridge import Bridge  # noqa: E402
 from copied import Copy  # noqa: E402
 from etcd import ANY, Ended  # noqa: E402
@@ -16,6 +15,8 @@ from known import FLEET, NEW  # noqa: E402
 
 # How many changes of a room there are, by how many at once, and how many octets of a database they may make.
 CHANGES, WRITERS, MOST_OCTETS = 10_000, 10, 20_000_000
+# The first of many rooms that are kept at once, and how many these are.
+FIRST, MANY = 1000, 100
 # By how many octets it may grow once old changes are forgotten.
 MOST_MORE = 100_000
 
@@ -25,15 +26,15 @@ class Keeper:
 
     def __init__(self, store, room, rows):
         self.room, self.rows, self.copy = room, rows, Copy(store)
-        self.bridge = Bridge("a", {"tcp": "127.0.0.1:9"})
+        self.bridge, self.agent = Bridge("a", {"tcp": "127.0.0.1:9"}), Agent.__new__(Agent)
+        self.agent.copy = self.copy
         self.copy.put_room(room, NEW | {"on": "a"}, 0)
 
     def changes(self, turn):
         """An operator mutes and pins others."""
         mute, pin = f"mute {2001 + turn % 16}", f"pin {self.room} {3001 + turn // 3 % 16}"
         self.bridge.rooms, self.bridge.version = {self.room: [*self.rows, mute, pin]}, turn + 1
-        record, revision = self.copy.known.rooms[self.room]
-        Agent.keep(types.SimpleNamespace(copy=self.copy), self.bridge, self.room, record, revision)
+        self.agent.keep(self.bridge, {self.room: self.copy.known.rooms[self.room]})
         if self.room not in self.bridge.kept:
             raise ValueError(f"change {turn} of room {self.room} isn't kept")
 
@@ -44,6 +45,8 @@ class Memory:
     def __init__(self, check, folder, program):
         self.check, self.folder, self.etcd = check, folder, EtcdPart(folder)
         self.store = self.etcd.store
+        # A machine may have little time for etcd.
+        self.store.patience = 300
 
     def step_changes(self):
         """Changes of a room's rows, drawn by chance."""
@@ -85,6 +88,28 @@ class Memory:
         copy.closed.set()
         copy.ends()
 
+    def step_many(self):
+        """Many rooms of a bridge are kept at once. One of their records has changed, and the agent doesn't know yet."""
+        one, rows = Keeper(self.store, FIRST, []), self.large()
+        rooms = range(FIRST, FIRST + MANY)
+        one.copy.put_rooms({room: NEW | {"on": "a"} for room in rooms[1:]}, dict.fromkeys(rooms, 0))
+        self.store.put_room(rooms[-1], NEW | {"on": "a", "version": 1}, self.store.room(rooms[-1])[1])
+        one.bridge.rooms = {room: [row.format(room) for row in rows] for room in rooms}
+        revision = self.store.read_at(FLEET)[1]
+        one.agent.keep(one.bridge, {room: one.copy.known.rooms[room] for room in rooms})
+        puts = self.store.read_at(FLEET)[1] - revision
+        kept = [room for room in rooms if room in one.bridge.kept]
+        text = f"{MANY} rooms are kept at once, but for the one whose record has changed"
+        self.check(kept == [*rooms[:-1]], text, kept)
+        # 40 at once, and the last ones one by one.
+        wanted = MANY // MOST_KEPT + MANY % MOST_KEPT - 1
+        self.check(puts == wanted, f"by {puts} changes of etcd", wanted)
+        found = self.store.groups(kept)
+        wrong = [room for room in kept if found[room] != groups_of(commands_of(one.bridge.rooms[room]))]
+        self.check(not wrong, "each is there as it is", wrong)
+        sizes = [len(part) for part in portions({room: [("", "x" * MOST_AT_ONCE, ANY)] for room in rooms[:3]})]
+        self.check(sizes == [1, 1, 1], "rooms that are large are put one by one", sizes)
+
     def step_database(self):
         """Many changes of a room of 16 with pictures, each as an agent puts it."""
         rows, wrong, after = self.large(), [], {}
@@ -109,7 +134,7 @@ class Memory:
         octets = int(self.store.ask("maintenance/status")["dbSize"])
         self.check(octets < MOST_OCTETS, f"etcd's database has {octets / 1e6:.1f} MB", octets)
         revision = self.store.read_at(FLEET)[1]
-        self.store.ask("kv/compaction", 20, revision=str(revision), physical=True)
+        self.store.ask("kv/compaction", 10, revision=str(revision), physical=True)
         for turn in range(1000):
             self.store.swap([(f"{FLEET}rooms/1", NEW | {"version": turn}, ANY)])
         later = int(self.store.ask("maintenance/status")["dbSize"])
