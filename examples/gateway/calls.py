@@ -1,12 +1,15 @@
 """The calls of browsers and phones: each is a call of rtpengine and a member at the desk."""
 
 import contextlib
+import hmac
 import itertools
 import secrets
 import threading
 import time
 
 import sdp
+from again import NO_MEMBER, Absents, calls_of, key_of, opened_by, tied
+from call import Call, log
 from desk import MUSIC, FULL, ROOMS, SPEECH, Desk, Rows, in_words
 from fleet_rooms import LEAST, Fleet
 from own_rooms import EMPTY, OwnRooms
@@ -18,6 +21,8 @@ from targets import Targets, without_others
 LONGEST_GROUP = 44
 # An agent's members have as many numbers, from `first_member` of the settings on.
 NUMBERS = 100_000
+# In how many of the desk's last calls an agent looks for the rooms that one before it has opened.
+CALLS = 4096
 # How often, each tenth of a second, an agent looks for a room that its fleet has placed.
 LOOKS = 50
 # For rtpengine: RTP and RTCP have one port; addresses are known, of browsers by ICE, and not to be learnt from packets.
@@ -28,36 +33,6 @@ MUX, KNOWN = ["offer", "require"], ["asymmetric", "strict-source"]
 # port when a phone offers again.
 LEARNT = ["SIP-source-address", "strict-source", "port-latching"]
 NEAREST, LAST = "endpoint-learning-heuristic", "endpoint-learning-delayed"
-
-
-def log(text):
-    print(f"gateway: {text}", flush=True)
-
-
-def numbers():
-    """The first numbers of a stream. SRTP may take a sequence number above 2^15 for one of the round before."""
-    return f"{secrets.randbits(15)} {secrets.randbits(32)}"
-
-
-class Call:
-    """A call. `side` is the name that rtpengine has for who calls: browser or phone.
-
-    `source` is who asked for it: an account, or an address. A page knows its call by `id`, a secret, and a phone its by
-    the Call-ID and its own tag, together with the gateway's (RFC 3261 section 12).
-    """
-
-    def __init__(self, side, room, name, source, slots):
-        self.side, self.room, self.name, self.source, self.id = side, room, name[:40], source, secrets.token_hex(16)
-        # The streams that the member gets. Slot 0 is the stage: it shows what operators pin, or who has the floor.
-        self.mix, self.slots = secrets.randbits(32), [secrets.randbits(32) for _ in range(slots)]
-        self.member = self.voice = self.camera = self.refused = None
-        # Whether rtpengine has the call, and why it has ended.
-        self.is_open, self.why = False, None
-        # A phone's: the gateway's tag, where the bridge is to send, whether it is held, and how many packets had come
-        # when it was told where to send: until more come, it gets none.
-        self.tag, self.address, self.is_held, self.waits_at = None, None, False, None
-        # How many packets had come when they were last counted, and when a sign of life came last.
-        self.packets, self.alive = 0, time.monotonic()
 
 
 def shown(slots, cameras):
@@ -81,34 +56,84 @@ class Calls:
         self.seen = Rows()
         # Members that have to go from the desk, with their cameras, and the rooms that the agent added.
         self.leaving, self.own_rooms = [], OwnRooms()
+        # Members whose calls may come again, and the secret by which a page shows that one is its own.
+        self.absent = Absents(self.settings["away"])
+        self.secret = self.fleet.secret if self.fleet else secrets.token_bytes(32)
 
     def __iter__(self):
         return iter([*self.pages.values(), *self.phones.values()])
 
     def rows(self):
-        """Reads the desk. What an agent before this one left behind has to go, and all calls of an earlier bridge."""
+        """Reads the desk. Members without a call have to go after a while, if no call comes again. All calls of an
+        earlier bridge come again."""
         with self.lock:
-            before, self.seen = self.seen, self.desk.rows()
+            before, now = self.seen, self.desk.rows()
+            if before.version < 0:
+                self.takes_up(now)
+            self.seen = now
             if before.version < 0 or self.fleet:
                 known = {call.member for call in self} | {member for member, _ in self.leaving}
-                self.leaving += [(one, None) for one in self.seen.members if one in self.numbers and one not in known]
-            if self.seen.version < before.version:
-                self.end_all("The bridge has been restarted. Press Join to come back.")
+                for member in now.members.keys() - known:
+                    if member in self.numbers:
+                        self.absent.add(member, now)
+            if now.version < before.version:
+                self.begins_anew(before)
+            self.absent.see(now)
+            self.leaving += [(member, one.camera) for member, one in self.absent.over().items()]
             self.clear()
             return self.seen
 
+    def takes_up(self, rows):
+        """Takes up the calls of an agent before this one, and the rooms that it has opened."""
+        found = {call.member: call for call in calls_of(self.engine, rows, self.settings["first_member"])}
+        for call in found.values():
+            call.table = self.pages if call.side == "browser" else self.phones
+            call.key = call.id if call.side == "browser" else call.key
+            call.table[call.key] = call
+        # In a fleet rooms end by its agents.
+        for room, member in {} if self.fleet else opened_by(self.desk.history(CALLS), self.numbers).items():
+            if room in rows.rooms:
+                self.own_rooms.add(room, found[member].source if member in found else "")
+        if found:
+            log(f"{len(found)} calls of an agent before this one go on")
+
+    def begins_anew(self, before):
+        """The bridge is another one. Pages come again; phones are members again, as they were. In a fleet its agents
+        bring rooms here, or elsewhere."""
+        stays = lambda call: call.side == "phone" and (self.fleet or call.member in self.seen.members)
+        gone = [call for call in self if call.member is not None and not stays(call)]
+        for call in gone:
+            self.absent.add(call.member, before, call)
+        self.absent.begins_anew(before)
+        for call in gone:
+            if call.side == "browser":
+                self.lose(call, "The bridge has been restarted. Press Join to come back.")
+                continue
+            # What comes from an earlier stream with this SSRC would make a phone wait for its numbers.
+            call.again, call.member, call.mix = (call.member, call.mix), None, secrets.randbits(32)
+            try:
+                self.comes_again(call)
+            except Refused as why:
+                self.end(call, str(why))
+
     # Joining
 
-    def offer(self, room, name, source):
-        """The offer for a browser. The agent offers, so that all browsers have one payload type for VP8."""
+    def offer(self, room, name, source, again=None):
+        """The offer for a browser. The agent offers, so that all browsers have one payload type for VP8. `again` says
+        which member it was, and shows that."""
         call = Call("browser", room, name, source, 1 + self.settings["pictures"])
+        if again:
+            key = key_of(self.secret, again["member"], again["mix"])
+            if not hmac.compare_digest(key.encode(), again["key"].encode()):
+                raise Refused(NO_MEMBER, 410)
+            call.again = again["member"], again["mix"]
         self.begin(call, self.pages, call.id)
         with self.whole_or_not(call):
             # AVPF: where one side is AVP, rtpengine takes NACK and PLI away.
             own = sdp.plain(self.bridge, "RTP/AVPF")
             ways = {"ICE": "force", "SDES": ["off"], "rtcp_mux": MUX, "direction": ["bridge", "outside"]}
             ways |= {"transport_protocol": "UDP/TLS/RTP/SAVPF", "flags": KNOWN}
-            said = self.opened(call, from_tag="bridge", sdp=own, **ways)
+            said = self.opened(call, from_tag="bridge", sdp=own, label=self.label(call), **ways)
             return {"id": call.id, "sdp": sdp.bundled(said["sdp"], [call.mix, *call.slots])}
 
     def answer(self, call, text):
@@ -119,7 +144,15 @@ class Calls:
             own = sdp.plain(("127.0.0.1", 9), "UDP/TLS/RTP/SAVPF", found[0].transport())
             said = self.engine.ask("answer", call_id=call.id, from_tag="bridge", to_tag="browser", sdp=own, flags=KNOWN)
             self.join(call, sdp.plain_address(said["sdp"]))
-        return {"member": call.member, "voice": call.voice, "camera": call.camera}
+        return {"member": call.member, "voice": call.voice, "camera": call.camera} | self.way_back(call)
+
+    def way_back(self, call):
+        """By what a page comes again, within how many seconds, and where else it may ask."""
+        key = {"member": call.member, "mix": call.mix, "key": key_of(self.secret, call.member, call.mix)}
+        return {"again": key, "away": self.absent.away, "pages": self.fleet.pages if self.fleet else []}
+
+    def label(self, call, **more):
+        return call.label(self.settings["first_member"], **more)
 
     def phone(self, room, words):
         """Takes a phone's offer, and answers. It is a member once its sound comes (`heard`)."""
@@ -154,9 +187,11 @@ class Calls:
                 learning = LAST if self.targets.is_elsewhere(words["sdp"], words["source"]) else NEAREST
                 # Without a reset an address that was learnt within the last three seconds counts more than the new one.
                 ways |= {"to_tag": "bridge", "flags": [*LEARNT, learning, "reset"]}
+            is_held = direction in ("sendonly", "inactive")
+            ways["label"] = self.label(call, is_held=is_held)
             said = self.opened(call, from_tag="phone", **given, **ways)
             answer = self.engine.ask("answer", call_id=call.id, from_tag="phone", to_tag="bridge", **own)
-            call.address, call.is_held = sdp.plain_address(said["sdp"]), direction in ("sendonly", "inactive")
+            call.address, call.is_held = sdp.plain_address(said["sdp"]), is_held
             call.alive, call.waits_at = time.monotonic(), self.engine.received(call.id, "phone").media
         return {"sdp": answer["sdp"]}
 
@@ -249,47 +284,92 @@ class Calls:
             self.rows()
             if call.why or call.member is not None:
                 raise Refused(call.why or "You have joined this call already.", 410)
+            call.address = address
+            if call.again:
+                self.comes_again(call)
+                return
             for _ in range(3):
                 rows = self.desk.rows()
                 self.demand_room(call, rows)
-                member = next(one for one in itertools.count(self.settings["first_member"]) if one not in rows.members)
+                taken = rows.members.keys() | self.absent.keys()
+                member = next(one for one in itertools.count(self.settings["first_member"]) if one not in taken)
                 # Where no answer comes, the bridge may have taken the group: the member goes once the desk is back.
                 self.leaving.append((member, None))
-                refusal = self.desk.group(self.joining(call, member, address, rows))
+                refusal = self.desk.group(self.joining(call, member, rows))
                 self.leaving.pop()
                 if refusal is None:
-                    call.member, call.alive = member, time.monotonic()
-                    if call.room not in rows.rooms:
-                        self.own_rooms.add(call.room, call.source)
-                    self.seen = self.desk.rows()
-                    log(f"{call.side} {call.name!r} has joined room {call.room} as member {member}")
+                    self.is_in(call, member, rows)
                     return
                 # Where an operator has changed the desk meanwhile: again on what it is now.
                 if self.desk.rows().version == rows.version:
                     break
         raise Refused(in_words(refusal))
 
+    def is_in(self, call, member, before):
+        """A call has become a member. `before`: the desk as it was."""
+        call.member, call.again, call.alive = member, None, time.monotonic()
+        if call.room not in before.rooms:
+            self.own_rooms.add(call.room, call.source)
+        self.seen = self.desk.rows()
+        log(f"{call.side} {call.name!r} has joined room {call.room} as member {member}")
+
+    def comes_again(self, call):
+        """Makes a call the member that it was, with all that operators have made of that one. Its old rows go in the
+        same group, in which are its mutes."""
+        (member, mix), rows = call.again, self.desk.rows()
+        self.absent.see(rows)
+        old = Absents.as_at(member, rows) if member in rows.members else self.absent.get(member)
+        if old is None or old.mix != mix:
+            raise Refused(NO_MEMBER, 410)
+        for one in [one for one in self.pages.values() if one.member == member]:
+            self.lose(one, "This call goes on by another connection.")
+        call.room = old.room
+        group = [f"remove-member {member}"] if member in rows.members else []
+        group += [f"add-room {call.room}"] if call.room not in rows.rooms else []
+        ties = tied(old.ties, call, member, rows)
+        group += [*call.commands(member, call.address), *(one for one in ties if one.startswith("mute "))]
+        more = [one for one in ties if not one.startswith("mute ")]
+        fit = max(0, LONGEST_GROUP - len(group))
+        if self.desk.group(group + more[:fit]) is None:
+            more = more[fit:]
+        elif refusal := self.desk.group(group):
+            raise Refused(in_words(refusal))
+        self.absent.pop(member, None)
+        for one in more:
+            # What is refused of these has changed meanwhile.
+            self.desk.group([one])
+        self.is_in(call, member, rows)
+        # Who has joined meanwhile.
+        met = self.meeting(call, self.seen)
+        if met:
+            self.desk.group(met[:LONGEST_GROUP])
+
     def arrive(self, call):
         """Waits until a call's room is on the bridge that the fleet has chosen. It may be another one."""
         for _ in range(LOOKS):
-            if call.room in self.desk.rows().rooms:
+            rows = self.desk.rows()
+            if call.room in rows.rooms and (not call.again or call.again[0] in rows.members):
                 return
-            self.fleet.place(call.room, call.source)
+            if not call.again:
+                self.fleet.place(call.room, call.source)
             time.sleep(0.1)
         raise Refused(f"Room {call.room} is on its way to a bridge. Join again in a second.")
 
-    def joining(self, call, member, address, rows):
+    def joining(self, call, member, rows):
         """The commands by which a call becomes a member, sees the others of its room, and they it."""
         group = [] if call.room in rows.rooms else [f"add-room {call.room}"]
-        group.append(f"add-member {member} {call.room} {address} pcmu {call.mix} {numbers()}")
-        sources = (call.voice, "audio"), (call.camera, "video")
-        group += [f"add-source {ssrc} {member} {kind}" for ssrc, kind in sources if ssrc is not None]
-        group += [f"add-slot {slot} {member} {index} {numbers()}" for index, slot in enumerate(call.slots)]
-        others = self.in_room(call.room, rows)
-        group += shown(call.slots[1:], [other.camera for other in others if other.camera is not None])
-        for other in others if call.camera is not None else []:
-            group += shown([slot for slot in other.slots[1:] if slot not in rows.subs], [call.camera])
-        return group[:LONGEST_GROUP]
+        group += call.commands(member, call.address)
+        return (group + self.meeting(call, rows))[:LONGEST_GROUP]
+
+    def meeting(self, call, rows):
+        """The commands by which a call sees the others of its room, and they it, where slots are free."""
+        others = [other for other in self.in_room(call.room, rows) if other is not call]
+        free = lambda one: [slot for slot in one.slots[1:] if slot not in rows.subs]
+        sees = lambda one, camera: camera in {rows.subs.get(slot) for slot in one.slots}
+        group = shown(free(call), [one.camera for one in others if one.camera and not sees(call, one.camera)])
+        for other in others:
+            group += shown(free(other), [call.camera] if call.camera and not sees(other, call.camera) else [])
+        return group
 
     def in_room(self, room, rows):
         """The calls whose members are in a room, as they joined. An operator may have moved or removed a member."""
@@ -304,7 +384,7 @@ class Calls:
                 return
             call.why = why
             if call.side == "browser":
-                self.ended = dict([*self.ended.items(), (call.id, why)][-1000:])
+                self.ended = dict([*self.ended.items(), (call.id, (why, 410))][-1000:])
             if call.member is not None:
                 log(f"{call.side} {call.name!r} has left room {call.room}: {why}")
                 self.leaving.append((call.member, call.camera))
@@ -312,6 +392,26 @@ class Calls:
             self.clear()
         with contextlib.suppress(Refused):
             self.engine.ask("delete", call_id=call.id, delete_delay=0)
+
+    def lose(self, call, why, page=""):
+        """Ends a call whose page comes again by itself. Its member stays for a while."""
+        with self.lock:
+            if call.table.pop(call.key, None) is None:
+                return
+            call.why = why
+            self.ended = dict([*self.ended.items(), (call.id, (why, 410, True, page))][-1000:])
+            if call.member is not None:
+                log(f"{call.side} {call.name!r} is away from room {call.room}: {why}")
+                self.absent.add(call.member, self.seen, call)
+        with contextlib.suppress(Refused):
+            self.engine.ask("delete", call_id=call.id, delete_delay=0)
+
+    def lost(self, call, why, page=""):
+        """A call has lost its way, and not by who calls: a page comes again by itself, and a phone can't."""
+        if call.side == "browser":
+            self.lose(call, why, page)
+        else:
+            self.end(call, why)
 
     def end_all(self, why):
         for call in self:

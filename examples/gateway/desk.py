@@ -28,12 +28,22 @@ class Rows:
 
     def __init__(self, lines=("end -1",)):
         rows = [line.split() for line in lines]
+        of = lambda kind: [row[1:] for row in rows if row[0] == kind]
         self.version = int(rows[-1][1])
         # The rate of each room: a row names it where it isn't that of speech.
-        self.rooms = {int(row[1]): int([*row, SPEECH][2]) for row in rows if row[0] == "room"}
-        self.members = {int(row[2]): int(row[3]) for row in rows if row[0] == "member"}
-        self.subs = {int(row[1]): int(row[2]) for row in rows if row[0] == "sub"}
-        self.mutes = {int(row[1]) for row in rows if row[0] == "mute"}
+        self.rooms = {int(row[0]): int([*row, SPEECH][1]) for row in of("room")}
+        # The room of each member, and the SSRC of its mix; and who has each address.
+        self.members = {int(row[1]): int(row[2]) for row in of("member")}
+        self.mixes = {int(row[1]): int(row[5]) for row in of("member")}
+        self.addresses = {row[3]: int(row[1]) for row in of("member")}
+        # Whose a source is, and of what kind; whose a slot is, and the how manieth.
+        self.sources = {int(ssrc): (int(member), kind) for ssrc, member, kind in of("source")}
+        self.slots = {int(row[0]): (int(row[1]), int(row[2])) for row in of("slot")}
+        self.subs = {int(slot): int(ssrc) for slot, ssrc in of("sub")}
+        self.mutes = {int(ssrc) for ssrc, in of("mute")}
+        self.gains = {(int(member), int(ssrc)): int(q8) for member, ssrc, q8 in of("gain")}
+        self.pins = {int(room): int(ssrc) for room, ssrc in of("pin")}
+        self.floors = {int(room): int(member) for room, member in of("floor")}
 
 
 class Desk:
@@ -63,6 +73,10 @@ class Desk:
                     self.lines.close()
                 self.lines = None
                 raise Refused(BUSY if str(why) == "busy" else GONE) from why
+
+    def history(self, most):
+        """The last calls in force."""
+        return self.ask(f"history {most}", lambda said: said.startswith("end "))[:-1]
 
     def rows(self):
         return Rows(self.ask("show", lambda said: said.startswith("end ")))

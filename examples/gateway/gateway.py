@@ -21,7 +21,8 @@ import sys
 import threading
 import tomllib
 
-from calls import Calls, log
+from call import log
+from calls import Calls
 from watch import Watch
 from web import ForBrowsers, ForKamailio, served
 
@@ -31,7 +32,7 @@ ADDRESSES = [("bridge", "udp"), ("bridge", "tcp"), ("rtpengine", "control"), ("p
 DEFAULTS = {
     "page": {"proxies": []},
     "phones": {"accounts": {}, "targets": [], "proxies": []},
-    "calls": {"hold": 600, "unanswered": 8, "rooms": 8},
+    "calls": {"away": 30, "hold": 600, "unanswered": 8, "rooms": 8},
 }
 
 
@@ -47,8 +48,8 @@ def read(path):
 
 
 def agent(settings, _):
-    """Runs until it is asked to end."""
-    ends = signal.SIGINT, signal.SIGTERM
+    """Runs until it is asked to end. By SIGHUP it leaves its calls to the next one."""
+    ends = signal.SIGINT, signal.SIGTERM, signal.SIGHUP
     signal.pthread_sigmask(signal.SIG_BLOCK, ends)
     calls = Calls(settings)
     watch, page = Watch(calls), settings["page"]
@@ -58,10 +59,11 @@ def agent(settings, _):
     ]
     log(f"the page is {page['sites'][0]}/?room=1")
     threading.Thread(target=watch.run, daemon=True).start()
-    signal.sigwait(ends)
+    by = signal.sigwait(ends)
     for server in servers:
         server.server_close()
-    calls.end_all("The gateway has been stopped.")
+    if by != signal.SIGHUP:
+        calls.end_all("The gateway has been stopped.")
 
 
 def rtpengine(settings, _):

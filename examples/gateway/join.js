@@ -3,19 +3,24 @@ const at = id => document.getElementById(id);
 const asked = new URLSearchParams(location.search);
 // `?plain` leaves the sound as the microphone gives it: for music, and for tones of a test.
 const plain = asked.has("plain");
-// The call: its id, what the agent said of the member, the connection, and the own devices.
+// The call: its id at the gateway (`base`), what that said of the member, the connection, and the own devices.
 let call = null;
+// In ms: between two tries of a page to come again, and between two at others where its bridge is cut off.
+// And after how many questions that nobody has answered it asks the others.
+const TRY = 1000, CUT = 10000, SILENT = 4;
 
 function say(text, wrong = false) {
   at("state").textContent = text;
   at("state").classList.toggle("wrong", wrong);
 }
 
-async function ask(path, words) {
-  const said = await fetch(path, { method: "POST", body: JSON.stringify(words) }).catch(() => null);
+async function ask(base, path, words) {
+  const said = await fetch(base + path, { method: "POST", body: JSON.stringify(words) }).catch(() => null);
   if (!said) throw new Error("The gateway doesn't answer.");
-  if (!said.ok) throw Object.assign(new Error(await said.text()), { gone: said.status === 410 });
-  return said.json();
+  if (said.ok) return said.json();
+  const text = await said.text(), isTold = said.headers.get("Content-Type").startsWith("application/json");
+  const { words: why, again, page } = isTold ? JSON.parse(text) : { words: text };
+  throw Object.assign(new Error(why), { status: said.status, again, page });
 }
 
 // Microphone and camera, or what there is of them. Who has neither, or doesn't allow them, listens.
@@ -31,7 +36,7 @@ async function devices() {
   return new MediaStream();
 }
 
-function connected(own) {
+function connected(mine) {
   const peer = new RTCPeerConnection();
   peer.ontrack = ({ track, streams: [stream], transceiver }) => {
     if (track.kind === "audio") { at("mix").srcObject = stream; return; }
@@ -42,7 +47,8 @@ function connected(own) {
     figure.querySelector("video").srcObject = stream;
   };
   peer.onconnectionstatechange = () => {
-    if (peer.connectionState === "failed") leave("The way to the media server is closed. Is a firewall between?", true);
+    if (peer.connectionState !== "failed" || mine !== call || mine.peer !== peer || mine.isComing) return;
+    leave("The way to the media server is closed. Is a firewall between?", true);
   };
   return peer;
 }
@@ -60,16 +66,10 @@ async function gathered(peer) {
 async function join() {
   at("join").disabled = at("name").disabled = at("room").disabled = true;
   say("Joining ..");
-  const mine = call = {};
+  const mine = call = { base: "", pages: [], room: at("room").value, name: at("name").value, silent: 0 };
   try {
     mine.own = await devices();
-    const { id, sdp } = await ask("offer", { room: at("room").value, name: at("name").value });
-    mine.id = id;
-    mine.peer = connected(mine.own);
-    await mine.peer.setRemoteDescription({ type: "offer", sdp });
-    // The tracks take the sections that the offer has for them.
-    for (const track of mine.own.getTracks()) mine.peer.addTrack(track, mine.own);
-    mine.told = await ask("answer", { id, sdp: await gathered(mine.peer) });
+    await connect(mine, mine.base);
     if (call !== mine) return;
     at("own").querySelector("video").srcObject = mine.own;
     at("own").hidden = !mine.own.getVideoTracks().length;
@@ -79,18 +79,83 @@ async function join() {
     mine.timers = [setInterval(look, 1000), setInterval(draw, 200)];
     look();
   } catch (why) {
-    leave(why.message, true);
+    if (call === mine) leave(why.message, true);
   }
+}
+
+// Becomes a member by an offer of the gateway at `base`, or the member again that it was by `again`. The connection
+// before it lasts until then.
+async function connect(mine, base, again) {
+  const { room, name } = mine, was = { id: mine.id, base: mine.base };
+  const { id, sdp } = await ask(base, "offer", again ? { room, name, again } : { room, name });
+  const before = mine.peer, peer = connected(mine);
+  if (!before) Object.assign(mine, { id, base, peer });
+  try {
+    clear();
+    await peer.setRemoteDescription({ type: "offer", sdp });
+    // The tracks take the sections that the offer has for them.
+    for (const track of mine.own.getTracks()) peer.addTrack(track, mine.own);
+    const told = await ask(base, "answer", { id, sdp: await gathered(peer) });
+    if (call !== mine) throw new Error("It has been left.");
+    Object.assign(mine, { id, base, peer, told, pages: told.pages });
+    if (before) before.close();
+    if (was.id) ask(was.base, "leave", { id: was.id }).catch(() => {});
+  } catch (why) {
+    peer.close();
+    ask(base, "leave", { id }).catch(() => {});
+    throw why;
+  }
+}
+
+// Comes again as the same member, without a click: at this gateway, or at the one where the room is now.
+async function comeAgain(mine, why, time = mine.told.away * 1000) {
+  mine.isComing = true;
+  let page = why.page, last = why;
+  const end = Date.now() + time;
+  for (let isTime = true; isTime && call === mine; isTime = Date.now() < end) {
+    say(`${last.message.replace(/ (Press Join|Join it|Join again|Try again).*/, "")} Coming back ..`, true);
+    const asked = page;
+    for (const base of new Set([page ? page + "/" : mine.base, mine.base, ...mine.pages.map(one => one + "/")])) {
+      try {
+        await connect(mine, base, mine.told.again);
+        Object.assign(mine, { isComing: false, silent: 0 });
+        look();
+        return;
+      } catch (wrong) {
+        if (call !== mine) return;
+        if (wrong.status === 410) { leave(wrong.message, true); return; }
+        last = wrong;
+        if (wrong.page) { page = wrong.page; break; }
+      }
+    }
+    if (page === asked) await new Promise(done => setTimeout(done, TRY));
+  }
+  if (call !== mine) return;
+  // Where nobody answers, the call itself may go on.
+  if (why.again) leave(last.message, true);
+  Object.assign(mine, { isComing: false, silent: 0 });
 }
 
 // Asks the agent how things stand.
 async function look() {
   const mine = call;
-  const state = await ask("state", { id: mine.id }).catch(why => why);
-  if (call !== mine) return;
-  if (state.gone) { leave(state.message, true); return; }
-  if (state instanceof Error) { say(state.message, true); return; }
-  mine.names = state.names;
+  if (mine.isComing) return;
+  const state = await ask(mine.base, "state", { id: mine.id }).catch(why => why);
+  if (call !== mine || mine.isComing) return;
+  if (state instanceof Error) {
+    if (state.status === 410 && !state.again) { leave(state.message, true); return; }
+    mine.silent = state.status ? 0 : mine.silent + 1;
+    say(state.message, true);
+    if (state.again || mine.silent >= SILENT && mine.pages.length) comeAgain(mine, state);
+    return;
+  }
+  Object.assign(mine, { names: state.names, silent: 0, pages: state.pages, room: state.room ?? mine.room });
+  mine.told.again = state.again;
+  if (state.cut && mine.pages.length && Date.now() > (mine.next || 0)) {
+    mine.next = Date.now() + CUT;
+    comeAgain(mine, new Error(state.trouble), 0);
+    return;
+  }
   const { member, voice, camera } = mine.told;
   const isIn = state.room !== null;
   const parts = ["An operator has taken you out of the call."];
@@ -117,16 +182,22 @@ function draw() {
   }
 }
 
+// Shows nobody.
+function clear() {
+  document.querySelectorAll("[id^=slot]").forEach(one => one.remove());
+  at("stage").hidden = true;
+  at("heard").textContent = "";
+}
+
 function leave(text, wrong = false) {
-  const { id, peer, own, timers = [] } = call || {};
+  const { id, base, peer, own, timers = [] } = call || {};
   call = null;
   timers.forEach(clearInterval);
-  if (id) ask("leave", { id }).catch(() => {});
+  if (id) ask(base, "leave", { id }).catch(() => {});
   if (peer) peer.close();
   if (own) own.getTracks().forEach(track => track.stop());
-  document.querySelectorAll("[id^=slot]").forEach(one => one.remove());
-  at("stage").hidden = at("own").hidden = true;
-  at("heard").textContent = "";
+  clear();
+  at("own").hidden = true;
   at("join").disabled = at("name").disabled = at("room").disabled = false;
   for (const { name, texts } of switches) turn(at(name), texts, false, []);
   at("leave").disabled = at("microphone").disabled = at("camera").disabled = true;
@@ -153,5 +224,5 @@ at("name").value = asked.get("name") || "guest";
 at("form").onsubmit = event => { event.preventDefault(); join(); };
 at("leave").onclick = () => leave("You have left.");
 addEventListener("pagehide", () => {
-  if (call && call.id) navigator.sendBeacon("leave", JSON.stringify({ id: call.id }));
+  if (call && call.id) navigator.sendBeacon(call.base + "leave", JSON.stringify({ id: call.id }));
 });

@@ -5,11 +5,11 @@ FAILED = "The agent has failed at this. Try again, and tell who runs it to look 
 
 
 class Refused(Exception):
-    """Words for the person who joins, and a status of HTTP."""
+    """Words for the person who joins, and a status of HTTP. `again`: a page may come again by itself; `page`: where."""
 
-    def __init__(self, words, status=503):
+    def __init__(self, words, status=503, again=False, page=""):
         super().__init__(words)
-        self.status = status
+        self.status, self.again, self.page = status, again, page
 
 
 def words_of(why):

@@ -5,7 +5,7 @@ import itertools
 import time
 import traceback
 
-from calls import log
+from call import log
 from desk import Rows, in_words
 from refused import FAILED, Refused, words_of
 from rtpengine import UnknownCall
@@ -29,8 +29,7 @@ class Watch:
                 if turn % 5:
                     self.look_at_phones()
                     continue
-                self.look()
-                trouble = ""
+                trouble = self.look()
             except Exception as why:
                 # A fault of the agent ends the look, and not the watch.
                 trouble = words_of(why)
@@ -49,7 +48,7 @@ class Watch:
                     self.look_at(call)
 
     def look(self):
-        """Ends the calls that the bridge, rtpengine or the caller has left."""
+        """Ends the calls that the bridge, rtpengine or the caller has left. What is wrong, in words."""
         try:
             rows = self.calls.rows()
         except Refused:
@@ -64,19 +63,21 @@ class Watch:
             self.calls.engine.ask("ping")
         except Refused as why:
             if time.monotonic() - self.answered > self.settings["silence"]:
-                self.calls.end_all(str(why))
+                for call in self.calls:
+                    self.calls.lost(call, str(why))
             raise
         self.answered = time.monotonic()
         for call in self.calls:
             self.look_at(call)
+        return self.calls.fleet.see() if self.calls.fleet else ""
 
     def follow(self, rows):
         """Ends the calls whose room has gone to another bridge of the fleet, which tells where it is."""
         for call in self.calls:
             call.room = rows.members.get(call.member, call.room)
-            words = call.member is not None and call.room not in rows.rooms and self.calls.fleet.moved(call.room)
-            if words:
-                self.calls.end(call, words)
+            moved = call.member is not None and call.room not in rows.rooms and self.calls.fleet.moved(call.room)
+            if moved:
+                self.calls.lost(call, *moved)
 
     def look_at(self, call):
         """Asks rtpengine what comes from who calls. A page that asks how things stand is a sign of life too."""
@@ -85,7 +86,7 @@ class Watch:
         try:
             came = self.calls.engine.received(call.id, call.side)
         except UnknownCall as why:
-            self.calls.end(call, str(why))
+            self.calls.lost(call, str(why))
             return
         if came.packets != call.packets:
             call.packets = came.packets
@@ -133,11 +134,13 @@ class Watch:
         those of its room, and none before it is there."""
         self.is_alive(call)
         rows = self.calls.seen
-        room = rows.members.get(call.member)
+        # What is undone of a call that came again brings back rows that aren't its own.
+        room = rows.members.get(call.member) if rows.mixes.get(call.member) == call.mix else None
         others = [] if room is None else self.calls.in_room(room, rows)
         return {
             "names": {ssrc: one.name for one in others for ssrc in (one.voice, one.camera) if ssrc is not None},
             "room": room,
             "muted": [ssrc for ssrc in (call.voice, call.camera) if ssrc in rows.mutes],
             "trouble": self.trouble,
-        }
+            "cut": bool(self.calls.fleet and self.calls.fleet.cut),
+        } | self.calls.way_back(call)

@@ -7,20 +7,24 @@ import re
 import traceback
 import urllib.parse
 
-from body import ROOM, fields_of, text
+from body import ROOM, fields_of, is_text, text
 from bounded import SECONDS, Bounded
 from refused import FAILED, Refused
 
 FOLDER = pathlib.Path(__file__).parent
 FILES = {"/": ("join.html", "text/html"), "/join.js": ("join.js", "text/javascript")}
-# The page takes nothing from elsewhere, and no other page shows it in a frame.
-POLICY = "default-src 'self'; style-src 'self' 'unsafe-inline'; frame-ancestors 'none'"
+# The page takes nothing from elsewhere, and no other page shows it in a frame. In a fleet it asks the other gateways.
+POLICY = "default-src 'self'; connect-src 'self' {}; style-src 'self' 'unsafe-inline'; frame-ancestors 'none'"
 
 
 # How many octets of a body are read.
 MOST_OCTETS = 100_000
 # What names a call; a name, of which the first 40 characters are shown; and a session description.
 ID, NAME, SDP = text(200), text(200), text(50_000)
+# What a page shows of the call that it was in before.
+AGAIN = "a member, its mix and its key", lambda one: (
+    isinstance(one, dict) and all(type(one.get(key)) is int for key in ("member", "mix")) and is_text(one.get("key"))
+)
 
 
 class Handler(http.server.BaseHTTPRequestHandler):
@@ -29,6 +33,8 @@ class Handler(http.server.BaseHTTPRequestHandler):
     Its REQUESTS are by path: the fields that a body must have, and those that it may have.
     """
 
+    # Whether who asks may come again by itself.
+    is_for_pages = False
     protocol_version = "HTTP/1.1"
     server_version, sys_version = "confbridge", ""
     timeout = SECONDS
@@ -42,6 +48,9 @@ class Handler(http.server.BaseHTTPRequestHandler):
                 told = 200, "application/json", json.dumps(self.answered(octets))
         except Refused as why:
             told = why.status, "text/plain", str(why)
+            if why.again and self.is_for_pages:
+                words = {"words": str(why), "again": True, "page": why.page}
+                told = why.status, "application/json", json.dumps(words)
         except Exception:
             # The fault is for the log alone.
             traceback.print_exc()
@@ -71,7 +80,10 @@ class Handler(http.server.BaseHTTPRequestHandler):
         self.send_header("Content-Type", f"{kind}; charset=utf-8")
         self.send_header("Content-Length", str(len(text.encode())))
         self.send_header("Cache-Control", "no-store")
-        self.send_header("Content-Security-Policy", POLICY)
+        self.send_header("Content-Security-Policy", POLICY.format(" ".join(filter(None, self.sites))))
+        if self.headers.get("Origin") in [one for one in self.sites if one]:
+            # A page of another gateway, which this one's settings name.
+            self.send_header("Access-Control-Allow-Origin", self.headers["Origin"])
         self.end_headers()
         self.wfile.write(text.encode())
 
@@ -79,11 +91,15 @@ class Handler(http.server.BaseHTTPRequestHandler):
         pass
 
 
+RESTARTED = "The gateway has been restarted. Press Join to come back."
+
+
 class ForBrowsers(Handler):
+    is_for_pages = True
     # Web servers before this one, whose word counts on who asks.
     proxies = ()
     REQUESTS = {
-        "offer": [{"room": ROOM, "name": NAME}],
+        "offer": [{"room": ROOM, "name": NAME}, {"again": AGAIN}],
         "answer": [{"id": ID, "sdp": SDP}],
         "state": [{"id": ID}],
         "leave": [{"id": ID}],
@@ -100,11 +116,10 @@ class ForBrowsers(Handler):
 
     def carried_out(self, path, words):
         if path == "offer":
-            return self.calls.offer(room_of(words), words["name"], self.source())
+            return self.calls.offer(room_of(words), words["name"], self.source(), words.get("again"))
         call = self.calls.pages.get(words["id"])
         if call is None:
-            why = self.calls.ended.get(words["id"], "The gateway has been restarted. Press Join to come back.")
-            raise Refused(why, 410)
+            raise Refused(*self.calls.ended.get(words["id"], (RESTARTED, 410, True)))
         if path == "answer":
             return self.calls.answer(call, words["sdp"])
         return self.watch.state(call) if path == "state" else self.calls.end(call, "It pressed Leave.")

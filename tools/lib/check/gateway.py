@@ -5,6 +5,8 @@ It starts a bridge, rtpengine, Kamailio and the agent. Then come its parts, each
     refusals   what can't be had: it is told in words, and leaves nothing behind
     strangers  what strangers do by SIP and HTTP, and gain nothing by
     music      a room for music, which browsers and phones can't join
+    again      an agent, rtpengine and the bridge are killed in mid-call: calls come again by themselves
+    pages      the same with Chromium, whose page comes again without a click
     gone       a bridge and rtpengine that are gone; then, in a call, they are started anew, and a browser is killed
     phones     two baresips in the room: one is muted, and one hangs up
     browsers   three Chromiums: mutes, pins, the floor, removals and undos show in all; 2 percent of packets are lost
@@ -18,7 +20,8 @@ installed is named, and its part is skipped. On Debian the packages are rtpengin
 kamailio-python3-modules, chromium, baresip-core, ffmpeg, firefox-esr, pulseaudio, linphone-cli and iptables.
 
 Each check prints a line, `ok` or `FAILED`. Each wait is bounded: where a step is late, its line says what it waited for
-and how long, and the next part begins with a bridge of its own.
+and how long, and the next part begins with a bridge of its own. With --model a model without media stands in for the
+bridge, for the parts `again` and `pages`.
 """
 
 import pathlib
@@ -45,13 +48,22 @@ PARTS = {
     ),
     "strangers": (
         [
-            *("try_passwords", "try_without_accounts", "try_requests", "try_dialogs", "try_targets", "try_rooms"),
-            *("try_names", "try_http"),
+            *("try_networks", "try_passwords", "try_without_accounts", "try_requests", "try_dialogs", "try_targets"),
+            *("try_rooms", "try_names", "try_http"),
         ],
         "",
         [],
     ),
     "music": (["try_music"], "", []),
+    "again": (
+        [
+            *("try_page_script", "try_sites", "try_agent_again", "try_rtpengine_again", "try_bridge_again"),
+            "try_nobody_comes",
+        ],
+        "",
+        [],
+    ),
+    "pages": ([], "", ["step_pages"]),
     "phones": (["try_bad_phones", "try_holds"], "ADE", ["step_phones"]),
     "browsers": (
         [],
@@ -63,6 +75,8 @@ PARTS = {
     "gone": (["try_without_rtpengine", "try_without_bridge"], "ABD", ["step_deaths"]),
     "nat": ([], "A", ["step_nat"]),
 }
+# The parts that need no media of the bridge.
+WITHOUT_MEDIA = ["again", "pages"]
 # In seconds: the most that a step may take, and the callers of a part until all are in the room.
 STEP, GATHERING = 180, 300
 
@@ -70,6 +84,7 @@ STEP, GATHERING = 180, 300
 def options(parser):
     add_program(parser)
     parser.add_argument("--browser", default="chromium", metavar="COMMAND", help="the browser (%(default)s)")
+    parser.add_argument("--model", action="store_true", help="a bridge that is a model, without media")
     parser.add_argument("--pictures", type=pathlib.Path, metavar="FOLDER", help="where pictures of the page go")
     text = f"this part alone, or several times these: {', '.join(PARTS)}"
     parser.add_argument("--only", action="append", choices=PARTS, metavar="PART", help=text)
@@ -90,7 +105,7 @@ def lacks(part, args):
         return f"there is no {kamailio_lacks()}"
     if part == "phones":
         return lacking("baresip")
-    return lacking(args.browser, "ffmpeg") if PARTS[part][1] else ""
+    return lacking(args.browser, "ffmpeg") if PARTS[part][1] or part == "pages" else ""
 
 
 def steps_of(trial, part, args):
@@ -102,7 +117,7 @@ def steps_of(trial, part, args):
 def hold(trial, args):
     """Runs the steps before a call of all parts, and then those in a call."""
     trial.start_parts()
-    parts = args.only or list(PARTS)
+    parts = args.only or (WITHOUT_MEDIA if args.model else list(PARTS))
     for part in parts:
         steps = [(name, STEP, getattr(trial, name)) for name in PARTS[part][0]]
         carry_out(trial, part, steps)

@@ -5,6 +5,7 @@ import socket
 import statistics
 import time
 
+from lib.gateway_call.again import Again
 from lib.gateway_call.callers import RATE, PhoneCaller
 from lib.gateway_call.lossy import Lossy
 from lib.gateway_call.others import Others
@@ -19,7 +20,7 @@ SWITCHES = 12
 MOST_MS, LOST = 1000, 0.02
 
 
-class Call(Refusals, Strangers, Others):
+class Call(Refusals, Strangers, Others, Again):
     """The call of browsers and phones."""
 
     def gather(self, names):
@@ -185,21 +186,33 @@ class Call(Refusals, Strangers, Others):
         parts.stop("agent")
 
     def step_deaths(self):
-        """A browser is killed, rtpengine too, and the bridge: who is in the call is told, and joins again."""
+        """A browser is killed, rtpengine too, and the bridge: who is in the call is told, and comes again."""
         a = self.callers["A"]
         self.kill_browser("B")
+        before = a.run("call.id")
         self.parts.stop("rtpengine", signal.SIGKILL)
         self.comes(lambda: "doesn't answer" in a.says(), "A's page says that rtpengine is gone", a.says)
-        self.parts.start("rtpengine")
-        self.comes(lambda: not self.rows(), "rtpengine is started anew: nobody is a member", self.rows, 15)
-        self.comes(lambda: "Press Join" in a.says(), "A's page says so", a.says)
         # A phone doesn't learn of it, and goes on to send.
         if "D" in self.callers:
             self.callers.pop("D").close()
-        self.join_again()
+        self.parts.start("rtpengine")
+        before = self.is_back(a, before, "rtpengine is started anew")
         self.restart_bridge()
-        self.comes(lambda: "restarted" in a.says(), "the bridge is started anew: A's page says so", a.says)
-        self.join_again()
+        self.is_back(a, before, "the bridge is started anew")
+        a.leave()
+        a.join()
+        self.everyone_hears("A joins again")
+
+    def is_back(self, one, before, text):
+        """Whether a page comes again without a click, as the member that it was. The id of its call."""
+        id, words = lambda: one.run("!!call && !call.isComing && call.id"), f"You are member {one.joined['member']} in"
+        is_so = lambda: id() not in (False, before) and words in one.says()
+        took = self.comes(is_so, f"{text}: {one.name}'s page comes again by itself, as the same member", one.says, 40)
+        print(f"      after {took or 0:.1f} s")
+        one.joined = one.run("call && call.told") or one.joined
+        one.run("shown = {}; watchFrames()")
+        self.everyone_hears(text)
+        return id()
 
     def kill_browser(self, name):
         before = self.members()
@@ -207,8 +220,3 @@ class Call(Refusals, Strangers, Others):
         took = self.comes(lambda: self.members() == before - 1, "a browser that is killed is no member", self.rows)
         print(f"      after {took or 0:.1f} s")
         self.everyone_hears(f"{name} is killed")
-
-    def join_again(self):
-        for one in self.browsers():
-            one.join()
-        self.everyone_hears("all join again")

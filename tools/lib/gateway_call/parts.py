@@ -22,9 +22,11 @@ from rtpengine import Rtpengine  # noqa: E402
 
 GATEWAY = ROOT / "examples/gateway/gateway.py"
 # How many seconds a part may take to answer, once it is started.
-MOST = 60
+MOST = 300
 # After how many seconds without a packet a phone has gone, where it doesn't hold the call.
 SILENCE = 10
+# For how many seconds a member stays whose call may come again: a machine that is busy may take its time for that.
+AWAY = 90
 # A web server before the page, whose word on who asks counts, and a proxy before Kamailio.
 PROXY = "127.0.0.9"
 # Where media may go: a test's callers are on this machine, or behind a NAT of it.
@@ -46,7 +48,9 @@ def until(condition, seconds=10):
 class Parts:
     """rtpengine, Kamailio and an agent, on ports of their own."""
 
-    def __init__(self, folder, udp, tcp, control=None, first_member=1000, fleet=None, outside="127.0.0.1"):
+    def __init__(
+        self, folder, udp, tcp, control=None, first_member=1000, fleet=None, outside="127.0.0.1", bridge_ip="127.0.0.1"
+    ):
         self.folder, self.running = folder, {}
         stream, datagram = socket.SOCK_STREAM, socket.SOCK_DGRAM
         self.page_port, self.phones_port, self.sip_port = free_port(stream), free_port(stream), free_port(datagram)
@@ -57,7 +61,7 @@ class Parts:
         self.far_page, self.sip = f"http://{outside}:{self.page_port}", f"{outside}:{self.sip_port}"
         low = 30000 + self.control % 25 * 100
         tables = {
-            "bridge": {"udp": f"127.0.0.1:{udp}", "tcp": f"127.0.0.1:{tcp}"},
+            "bridge": {"udp": f"{bridge_ip}:{udp}", "tcp": f"127.0.0.1:{tcp}"},
             "rtpengine": {
                 "control": f"127.0.0.1:{self.control}",
                 "bridge": "127.0.0.1",
@@ -81,6 +85,7 @@ class Parts:
                 "open_rooms": fleet is None,
                 "first_member": first_member,
                 "silence": 6,
+                "away": AWAY,
                 "phone_silence": SILENCE,
                 "most": 20,
             },

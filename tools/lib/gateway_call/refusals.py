@@ -19,13 +19,14 @@ def offer_of(media):
     return "\r\n".join(["v=0", "o=- 1 1 IN IP4 127.0.0.1", "s=-", "c=IN IP4 127.0.0.1", "t=0 0", *media, ""])
 
 
-def answer_of(types="0", port=9, mux=True, ssrc=777, kind="audio", dtls=True):
-    """A browser's answer that names what matters, but for the candidates."""
+def answer_of(types="0", port=9, mux=True, ssrc=777, kind="audio", dtls=True, camera=None):
+    """A browser's answer that names what matters, but for the candidates. A camera has this SSRC."""
     print_ = ":".join(["AB"] * 32)
     own = ["a=ice-ufrag:abcd", "a=ice-pwd:abcdefghijklmnopqrstuvwx", "a=mid:0", "a=sendrecv", f"a=ssrc:{ssrc} cname:x"]
     own += [f"a=fingerprint:sha-256 {print_}", "a=setup:active"] if dtls else []
     own += ["a=rtcp-mux"] if mux else []
-    return offer_of([f"m={kind} {port} UDP/TLS/RTP/SAVPF {types}", *own])
+    pictures = [f"m=video {port} UDP/TLS/RTP/SAVPF 96", "a=mid:1", f"a=ssrc:{camera} cname:x"] if camera else []
+    return offer_of([f"m={kind} {port} UDP/TLS/RTP/SAVPF {types}", *own, *pictures])
 
 
 def dialog_of(call):
@@ -46,9 +47,9 @@ def port_in(text):
 class RawPhone:
     """A phone without SIP: it asks the agent as Kamailio does, and sends silence under an SSRC."""
 
-    def __init__(self, parts, name, offer, ssrc):
+    def __init__(self, parts, name, offer, ssrc, room=1):
         self.parts, self.dialog, self.ssrc, self.socket = parts, dialog_of(name), ssrc, udp_socket()
-        words = {"room": "1", "name": name, "source": "127.0.0.1", "sdp": offer}
+        words = {"room": str(room), "name": name, "source": "127.0.0.1", "sdp": offer}
         status, told = parts.ask("phone", for_phones=True, **self.dialog, **words)
         if status != 200:
             fail(f"a phone can't join: {told}")

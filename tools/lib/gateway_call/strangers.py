@@ -11,6 +11,10 @@ from lib.gateway_call.refusals import answer_of, offer_of, port_in, sends
 from lib.gateway_call.sipping import Sipping, hears, media_at, packets, talk
 from lib.gateway_call.trial import Trial
 
+# parts.py has said where these are.
+from refused import Refused  # noqa: E402
+from targets import Targets  # noqa: E402
+
 # A desk's most rooms. How many INVITEs come for rooms that nobody has.
 ROOMS, INVITES = 64, 70
 # What a source may have by the settings that the gateway has by itself: calls that wait, and rooms that it opened.
@@ -19,6 +23,12 @@ WAITING, OPENED = 8, 8
 UNHEARD, EMPTY = 10, 10
 # An address that asks for nothing. How many requests of SIP, and half ones of HTTP, come at once.
 BYSTANDER, FLOOD, HALVES = "127.0.0.88", 300, 600
+# Addresses that are no public ones: loopback, private, of a provider, of a link, multicast, reserved, broadcast.
+NOT_PUBLIC = (
+    "127.0.0.1", "127.9.9.9", "10.0.0.1", "172.16.0.1", "192.168.1.1", "100.64.0.1", "169.254.1.1", "224.0.0.9",
+    "239.1.1.1", "240.0.0.1", "255.255.255.255", "0.0.0.1",
+)  # fmt: skip
+PUBLIC = "198.41.0.4"
 
 
 class Strangers(Trial):
@@ -143,6 +153,21 @@ class Strangers(Trial):
             talk(0.02, victim, heard)
         good = packets(media) == 0 and hears(victim, heard) and packets(media) == 0
         self.check(good, "a stranger who sends to a phone's port doesn't get its sound", self.rows())
+
+    def try_networks(self):
+        """By the settings that name no network, sound goes to public addresses alone. The test's own name loopback."""
+        none, taken = Targets([]), []
+        for ip in NOT_PUBLIC:
+            for source in PUBLIC, ip:
+                try:
+                    # A phone behind a NAT may name its private address, and gets nothing there.
+                    none.demand(offer_of([]).replace("127.0.0.1", ip), source)
+                    taken += [(ip, source)] if none.has(ip) or source == ip else []
+                except Refused:
+                    pass
+        self.check(not taken, f"without `targets` none of {len(NOT_PUBLIC)} addresses gets sound", taken)
+        good = none.has(PUBLIC) and Targets(["10.0.0.0/24"]).has("10.0.0.9") and not none.has("10.0.0.9")
+        self.check(good, "a public one may, and one of a network that they name")
 
     def try_targets(self):
         """What an INVITE names gets nothing until something has come from there."""

@@ -2,17 +2,19 @@
 
 import shutil
 import socket
+import sys
 import time
 
 from lib.gateway_call.callers import BrowserCaller
 from lib.gateway_call.parts import Parts, until
 from lib.serving import Operator, settings, started
-from lib.shared import fail, release_program
+from lib.shared import ROOT, fail, release_program
 from lib.sip import kamailio_lacks
 from lib.waits import within
 
 # The callers that are browsers.
 BROWSERS = "ABCF"
+MODEL = ROOT / "tools/lib/models/served.py"
 
 
 def lacking(*programs):
@@ -23,7 +25,11 @@ def lacking(*programs):
 
 class Trial:
     def __init__(self, args, check, folder):
-        self.args, self.check, self.folder, self.program = args, check, folder, release_program(args.binary)
+        self.args, self.check, self.folder = args, check, folder
+        # With --model a model stands in for the bridge.
+        self.program, self.under = MODEL, [sys.executable, "-B"]
+        if not args.model:
+            self.program, self.under = release_program(args.binary), []
         self.udp = self.tcp = 0
         self.start_bridge()
         self.parts, self.callers, self.others = Parts(folder, self.udp, self.tcp), {}, []
@@ -32,7 +38,7 @@ class Trial:
         """Starts the bridge, at the same ports if it had some."""
         with within(60, "the bridge to say where it listens"):
             path = settings(self.folder, self.udp, self.tcp, operators=4)
-            self.bridge, self.udp, self.tcp = started(self.program, path)
+            self.bridge, self.udp, self.tcp = started(self.program, path, self.under)
             self.operator = self.seated()
             # Its first line takes the seat: a bridge closes a connection that says nothing for half a minute.
             self.operator.show()

@@ -1,0 +1,66 @@
+"""A call of a browser or a phone, and what rtpengine remembers of it for an agent that is started anew."""
+
+import json
+import secrets
+import time
+
+# What rtpengine remembers of a call beside its own: a text of JSON, which it tells to who asks (`label`).
+TOLD = "side", "name", "source", "key", "tag", "is_held"
+
+
+def log(text):
+    print(f"gateway: {text}", flush=True)
+
+
+def numbers():
+    """The first numbers of a stream. SRTP may take a sequence number above 2^15 for one of the round before."""
+    return f"{secrets.randbits(15)} {secrets.randbits(32)}"
+
+
+class Call:
+    """A call. `side` is the name that rtpengine has for who calls: browser or phone.
+
+    `source` is who asked for it: an account, or an address. A page knows its call by `id`, a secret, and a phone its by
+    the Call-ID and its own tag, together with the gateway's (RFC 3261 section 12).
+    """
+
+    def __init__(self, side, room, name, source, slots):
+        self.side, self.room, self.name, self.source, self.id = side, room, name[:40], source, secrets.token_hex(16)
+        # The streams that the member gets. Slot 0 is the stage: it shows what operators pin, or who has the floor.
+        self.mix, self.slots = secrets.randbits(32), [secrets.randbits(32) for _ in range(slots)]
+        self.member = self.voice = self.camera = self.refused = None
+        # The member that it is to be again, and the mix of that one: a page comes again by itself.
+        self.again = None
+        # Whether rtpengine has the call, and why it has ended. By what its table has it, and where the bridge sends.
+        self.is_open, self.why, self.key, self.address = False, None, self.id, None
+        # A phone's: the gateway's tag, whether it is held, and how many packets had come when it was told where to
+        # send: until more come, it gets none.
+        self.tag, self.is_held, self.waits_at = None, False, None
+        # How many packets had come when they were last counted, and when a sign of life came last.
+        self.packets, self.alive = 0, time.monotonic()
+
+    def label(self, gateway, **more):
+        """What rtpengine is to remember, with the gateway's own number: others may have calls there."""
+        return json.dumps({"gateway": gateway} | {word: getattr(self, word) for word in TOLD} | more)
+
+    def commands(self, member, address):
+        """The commands that make its member, sources and slots."""
+        group = [f"add-member {member} {self.room} {address} pcmu {self.mix} {numbers()}"]
+        sources = (self.voice, "audio"), (self.camera, "video")
+        group += [f"add-source {ssrc} {member} {kind}" for ssrc, kind in sources if ssrc is not None]
+        return group + [f"add-slot {slot} {member} {index} {numbers()}" for index, slot in enumerate(self.slots)]
+
+
+def labelled(tags, gateway):
+    """The call of these tags of rtpengine, if it is this gateway's. Its member isn't known by that."""
+    for one in tags.values():
+        try:
+            told = json.loads(one.get("label", ""))
+        except ValueError:
+            continue
+        if isinstance(told, dict) and told.get("gateway") == gateway and told.keys() >= set(TOLD):
+            call = Call(told["side"], None, told["name"], told["source"], 0)
+            call.key = tuple(told["key"]) if isinstance(told["key"], list) else told["key"]
+            call.tag, call.is_held, call.is_open = told["tag"], told["is_held"], True
+            return call
+    return None
