@@ -34,8 +34,8 @@ PLANTS = {
     ),
     "loop_asks_for_no_first_picture": (
         "front_rounds/src/reading.rt",
-        "self.ask_first(&from, taken.1, moment)?;",
-        "let _ = taken;",
+        "self.ask_first(&from, ended_by(&received), moment)?;",
+        "let _ = ended_by(&received);",
     ),
     "loop_lets_no_time_pass": (
         "front_rounds/src/rounds.rt",

@@ -31,11 +31,11 @@ def crates():
 
 
 def bridge_crates():
-    """The crates of the bridge itself, lowest first. Cases, examples and tests follow the second comment of
+    """The crates of the bridge itself, lowest first. Cases, examples and tests follow the last comment of
     crates.txt."""
-    text = (ROOT / "crates.txt").read_text()
-    before = re.split(r"^#", text, flags=re.M)[1]
-    return [line.partition(":")[0] for line in before.splitlines()[1:] if ":" in line]
+    before, _, _ = (ROOT / "crates.txt").read_text().rpartition("\n#")
+    lines = [line.partition("#")[0] for line in before.splitlines()]
+    return [line.partition(":")[0] for line in lines if ":" in line]
 
 
 def crates_below(crate):

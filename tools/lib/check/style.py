@@ -3,8 +3,9 @@
 Documents are README.md, CONTRIBUTING.md, docs/ and the pages of examples/. The status is 1 where one has a median
 sentence of over 16 words, a sentence of over 38, a line over 120 columns, or a link that leads nowhere. Code, tables,
 headings and lists of names are no sentences, and a piece of code within a sentence counts as one word. Tables and code
-may be wider. How many lines a document has doesn't matter. The status is 1 as well where a measured figure of README
-stands in another document, too: one has it, and the other links there. It is 1 where the index of DECISIONS isn't what
+may be wider. How many lines a document has doesn't matter; how many words it has by hand, and how many a tool made, is
+printed. The status is 1 as well where a measured figure of README stands in another document, too: one has it, and the
+other links there. It is 1 where the index of DECISIONS isn't what
 `make decisions` writes.
 
 Of sources the status is 1 where a function of crates/*/src has over 30 lines or over five parameters beside `self`,
@@ -25,6 +26,7 @@ import itertools
 import re
 import statistics
 
+from lib import made_parts
 from lib.gate import edits
 from lib.make import decisions
 from lib.make.definitions import definition_files, words_of
@@ -76,7 +78,7 @@ def without_fences(text):
 def paragraphs(text):
     """Paragraphs and list items, each as one line; tables and headings are left out."""
     current = []
-    for line in without_fences(text).split("\n") + [""]:
+    for line in without_fences(made_parts.COMMENT.sub("\n", text)).split("\n") + [""]:
         bare = line.strip()
         begins_item = re.match(r"([-*]|\d+\.) ", bare)
         if not bare or bare.startswith(("|", "#")) or begins_item:
@@ -147,17 +149,27 @@ def faults_of(path, text, found):
 
 def check_documents():
     """Prints a line for each document, and what is wrong with it. Whether nothing is."""
-    good = True
-    print(f"{'document':28}{'sentences':>10}{'median':>8}{'longest':>9}")
+    good, all_words = True, [0, 0]
+    print(f"{'document':28}{'sentences':>10}{'median':>8}{'longest':>9}{'by hand':>9}{'made':>8}")
     for path in documents():
         text = path.read_text() if path.exists() else ""
         found = list(sentences(text))
         lengths = [count for count, _ in found] or [0]
-        print(f"{str(path.relative_to(ROOT)):28}{len(found):>10}{statistics.median(lengths):>8g}{max(lengths):>9}")
+        numbers = f"{len(found):>10}{statistics.median(lengths):>8g}{max(lengths):>9}"
+        words = words_of_document(text)
+        print(f"{str(path.relative_to(ROOT)):28}{numbers}{words[0]:>9}{words[1]:>8}")
+        all_words = [sum(pair) for pair in zip(all_words, words)]
         faults = faults_of(path, text, found) if path.exists() else ["is missing"]
         good = good and not faults
         print("".join(f"  {fault}\n" for fault in faults), end="")
+    print(f"{'words':55}{all_words[0]:>9}{all_words[1]:>8}")
     return good
+
+
+def words_of_document(text):
+    """How many words were written by hand, and how many a tool made."""
+    whole, by_hand = made_parts.words(text), made_parts.words(made_parts.by_hand(text))
+    return by_hand, whole - by_hand
 
 
 # A measured figure. Milliseconds, seconds and octets are limits as well, which are said where a reader needs them.

@@ -1,17 +1,16 @@
 """Writes the index of docs/DECISIONS.md from its headings.
 
-The index stands between the heading `All decisions` and the next one: a list for each group, of its decisions in their
-order.
+The index is a list for each group, of its decisions in their order.
 """
 
 import re
 
+from lib import made_parts
 from lib.shared import ROOT
 
 NEEDS = "nothing"
 
 DOCUMENT = ROOT / "docs" / "DECISIONS.md"
-BEGIN = "## All decisions\n"
 
 
 def options(parser):
@@ -34,9 +33,7 @@ def index_of(groups):
 
 def document(text):
     """The document with the index that its headings give."""
-    head, _, rest = text.partition(BEGIN)
-    groups = rest[rest.index("\n## ") + 1 :]
-    return f"{head}{BEGIN}{index_of(groups)}\n{groups}"
+    return made_parts.filled(text, {"index": index_of(text[text.index("<!-- end -->") :]) + "\n"})
 
 
 def run(_args):

@@ -18,8 +18,8 @@ HEAD = """# Definitions
 one file: what it says, the section of the standard that it states, and its words.
 
 A reader of the contracts has to believe these files. The proofs of laws (`laws/`) and the words of private contracts
-(`inner/`) stand next to them. "own" means that no standard says it. [FORMATS.md](FORMATS.md) has such rules, and
-[DECISIONS.md](DECISIONS.md) says why.
+(`inner/`) stand next to them. "own" means that no standard says it. [FORMATS](FORMATS.md) and [MEDIA](MEDIA.md) have
+such rules, and [DECISIONS](DECISIONS.md) says why.
 
 | File | What it says | Section | Words |
 |---|---|---|---|

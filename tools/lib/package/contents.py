@@ -133,8 +133,8 @@ def documents(commit, modules, has_page):
     yield f"{DOC}/copyright", text(licence())
     yield f"{DOC}/changelog.Debian.gz", packed(changelog(commit))
     yield f"{DOC}/README.md", File((ROOT / "README.md").read_bytes())
-    for path in sorted((ROOT / "docs").iterdir()):
-        yield f"{DOC}/docs/{path.name}", File(path.read_bytes())
+    for path in sorted(path for path in (ROOT / "docs").rglob("*") if path.is_file()):
+        yield f"{DOC}/{path.relative_to(ROOT)}", File(path.read_bytes())
     for path in sorted((ROOT / "examples").glob("*.txt")):
         yield f"{DOC}/examples/{path.name}", File(path.read_bytes())
     for name in ["confbridge", "confbridge-page"] if has_page else ["confbridge"]:
