@@ -10,7 +10,8 @@ Cases by sums are scripts too long to be kept. Each is a line of sums.txt beside
 They are tried where there is a program, since one without proofs prints too little.
 
 The program of x_cases_front is one that `rt ci` built. It runs the same cases on bridges of 1, 2, 4 and 16 lanes and
-has to print the same each time. Where it is named, its cases alone are tried.
+has to print the same each time. What differs is tried once more, by itself. Where the program is named, its cases alone
+are tried.
 """
 
 import argparse
@@ -93,9 +94,15 @@ def are_good_on_lanes(program):
     wanted = (CRATES / "x_cases_front" / "stdout").read_text()
     with concurrent.futures.ThreadPoolExecutor() as pool:
         said = list(pool.map(functools.partial(said_on_lanes, program), LANES))
+    is_good = True
     for lanes, text in zip(LANES, said, strict=True):
         print(f"x_cases_front on lanes {lanes}: {text}", end="")
-    return all(text == wanted for text in said)
+        if text != wanted:
+            # Four programs with their threads keep a machine of two processors busy, and the cases have moments.
+            text = said_on_lanes(program, lanes)
+            print(f"x_cases_front on lanes {lanes}, again, by itself: {text}", end="")
+        is_good = is_good and text == wanted
+    return is_good
 
 
 def are_good_without_proofs():
