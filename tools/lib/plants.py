@@ -34,8 +34,8 @@ PLANTS = {
     ),
     "loop_asks_for_no_first_picture": (
         "front_rounds/src/reading.rt",
-        "self.ask_first(&from, ended_by(&received), moment)?;",
-        "let _ = ended_by(&received);",
+        "self.ask_first(&received.from, ended, received.moment)?;",
+        "let _ = ended;",
     ),
     "loop_lets_no_time_pass": (
         "front_rounds/src/rounds.rt",
@@ -48,18 +48,18 @@ PLANTS = {
         "Ok(())",
     ),
     "loop_never_catches_up": (
-        "front_rounds/src/reading.rt",
-        "self.catch_up(moment);",
+        "front_rounds/src/state.rt",
+        "catch_up(&mut self.media, &mut self.ticked, moment);",
         "let _ = moment;",
     ),
     "loop_takes_an_old_moment": (
-        "front_rounds/src/reading.rt",
+        "front_rounds/src/state.rt",
         "let moment = self.watch.now()?;",
         "let moment = self.ticked.max(self.watch.now()?.saturating_sub(30_000_000));",
     ),
     "loop_wakes_no_lane": (
         "front_rounds/src/rounds.rt",
-        "self.media.signal(rt);",
+        "self.state.signal(rt);",
         "let _ = rt;",
     ),
     "operators_are_always_welcome": (

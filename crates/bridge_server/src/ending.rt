@@ -17,7 +17,7 @@ use crate::setup::Setup;
 use crate::sinks::LaneSocket;
 use crate::stopped::{DeskEnd, MediaEnd};
 use bridge_monitor::Teller;
-use front_rounds::Rounds;
+use front_rounds::FrontState;
 use lane_laws::{lanes_saw_what_they_know, none_knew_more, the_running_headline};
 use lane_wire::{LaneSent, LaneWire, WireSink};
 use media_front::{PublisherOf, fault_of};
@@ -76,23 +76,14 @@ fn media_in<H: DeskBrand + Setup, R: Wait + Clock + Drop>(
     ensures { IsSetUp H.who H.lanes H.start H.publisher result }
 {
     let Running { rounds, lanes: _ } = running;
-    let Rounds {
-        alloc: _,
+    let FrontState {
         inlet: _,
         wire: _,
         watch: _,
-        reader: _,
         media,
         ticked: _,
         stats: _,
-        version: _,
-        pictures: _,
-        has_members: _,
-        stage: _,
-        wakes: _,
-        chunk: _,
-        trace: _,
-    } = rounds;
+    } = rounds.into_state();
     media
 }
 

@@ -26,12 +26,11 @@ use crate::waking::FrontWaker;
 use crate::watching::SystemWatch;
 use bridge_core::{Intake, Settings};
 use bridge_monitor::Teller;
-use front_rounds::{FrontTrace, RoundStage, Rounds, Wakes};
+use front_rounds::{FrontState, FrontTrace, Rounds};
 use lane_wire::WireSink;
 use media_front::{LaneFeed, MediaFront, pli_octets};
 use operator_desk::{DeskBrand, DeskNames, Log, MAX_OPERATORS, Seat, SharedDesk};
 use operator_threads::Operators;
-use picture_requests::PictureRequests;
 use rate_limiter::RateLimiter;
 use std::alloc::Global;
 use std::marker::Brand;
@@ -141,25 +140,20 @@ where
     let reports = ReportTimer::begin(parts.settings.report_ms, start);
     let mut media = media_of(rt, alloc, readers, bridge, sinks, reports, teller)?;
     media.renew();
-    let rounds = Rounds {
-        alloc,
+    let state = FrontState {
         inlet: sockets.inlet,
         wire: sockets.wire,
         watch: SystemWatch::new(rt, parts.moments),
-        reader: own,
         media,
         ticked: start,
         stats: records.stats,
-        version: 0,
-        pictures: PictureRequests::new(alloc),
-        has_members: false,
-        stage: RoundStage::Whole,
-        wakes: Wakes::begin(start),
-        chunk: parts.chunk,
-        trace: FrontTrace::new(records.trace),
     };
-    let lanes = records.lanes;
-    let running = Running { rounds, lanes };
+    let trace = FrontTrace::new(records.trace);
+    let rounds = Rounds::new(alloc, state, own, parts.chunk, trace);
+    let running = Running {
+        rounds,
+        lanes: records.lanes,
+    };
     Ok((running, parts.waker, parts.listener, records.tracer))
 }
 

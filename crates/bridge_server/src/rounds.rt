@@ -53,9 +53,9 @@ impl<H: DeskBrand + Setup, R: Wait + Clock + Drop> Model for Running<H, R> {
 
     ghost Value = { List LaneNow };
 
-    ghost view = { λ r. lanes_in r.rounds.media.feed };
+    ghost view = { λ r. lanes_in r.rounds.state.front.feed };
 
-    ghost invariant = { λ r. IsSetUp H.who H.lanes H.start H.publisher r.rounds.media };
+    ghost invariant = { λ r. IsSetUp H.who H.lanes H.start H.publisher r.rounds.state.front };
 }
 
 impl<
@@ -70,7 +70,7 @@ impl<
 
     /// The moment at which ticks were given last, in nanoseconds since 1970.
     pub(crate) fn moment(&self) -> u64 {
-        self.rounds.ticked
+        self.rounds.state.ticked
     }
 
     /// Ends a round: takes in what has come and what is due.
@@ -82,8 +82,8 @@ impl<
 
     /// Tells of each lane its first dropped item of a second. `drops` is what is known of each lane.
     pub(crate) fn tell_drops(&self, rt: &R, teller: &Teller, drops: &mut [LaneDrops]) {
-        let now = self.rounds.ticked;
-        let media = &self.rounds.media;
+        let now = self.rounds.state.ticked;
+        let media = &self.rounds.state.media;
         for lane in 0..media.lanes() {
             let items = media.dropped(lane);
             if let Some(known) = drops.get_mut(lane as usize) {
@@ -97,15 +97,15 @@ impl<
     /// Answers the operators' threads that ask what the bridge counts. Where none asks, it does nothing.
     pub(crate) fn answer_stats(&mut self, rt: &R, desk: &StatsDesk) {
         let lanes = &mut self.lanes;
-        let rounds = &mut self.rounds;
-        desk.answer(rt, rounds.ticked, &rounds.stats, &mut rounds.media, lanes);
+        let front = &mut self.rounds.state;
+        desk.answer(rt, front.ticked, &front.stats, &mut front.media, lanes);
     }
 
     /// What failed last at its sockets and its clock.
     pub(crate) fn trouble(&self) -> Option<Cause> {
-        match self.rounds.inlet.trouble() {
+        match self.rounds.state.inlet.trouble() {
             Some(cause) => Some(cause),
-            None => self.rounds.watch.trouble(),
+            None => self.rounds.state.watch.trouble(),
         }
     }
 }

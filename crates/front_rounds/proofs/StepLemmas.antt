@@ -16,7 +16,7 @@ use Rattle.front_rounds.specs.Came.{Came, datagram, other, nothing, came_by}
 use Rattle.front_rounds.specs.declared.inlet.Read.{Read}
 use Rattle.front_rounds.specs.declared.inlet.Read.TheVariants.{Datagram, Other, Nothing}
 use Rattle.front_rounds.specs.inner.Reading.{IsReadOnce, is_something}
-use Rattle.front_rounds.specs.Turns.{Turn, History, history, HaveDone, HasActed, owed, passed, looked, gave_ticks}
+use Rattle.front_rounds.specs.Turns.{Turn, History, history, Does, HaveDone, HasActed, owed, passed, looked, gave_ticks}
 use Rattle.front_rounds.specs.Turns.{let_wait, let_some_wait, made_report}
 use Rattle.front_rounds.specs.Shapes.{IsPassed, AreAllRead, most_datagrams, IsPicture, waits, IsDue, IsPassing}
 use Rattle.front_rounds.specs.Shapes.{IsTakenIn, IsRound, IsRoundAfterSleep, AreRounds, BeginAsRounds, signals}
@@ -39,6 +39,15 @@ on_ok_map (Err b) f k = tt {0}
 pub err_if_ok : {A B : Type 0} (P : A → Type 0) (r : Result A B) → IsErr r → IfOk r P
 err_if_ok P (Ok a) wrong = absurd (cc (wrong))
 err_if_ok P (Err b) wrong = tt {0}
+
+pub if_ok_map : {A B : Type 0} {P Q : A → Type 0} (r : Result A B) → ((x : A) → P x → Q x) → IfOk r P → IfOk r Q
+if_ok_map (Ok a) f k = f a k
+if_ok_map (Err b) f k = tt {0}
+
+-- what holds in any case holds on an error
+pub on_err : {A B C : Type 0} (r : Result A B) → C → OnErr r C
+on_err (Ok a) k = tt {0}
+on_err (Err b) k = k
 
 pub on_ok : {A B C : Type 0} (r : Result A B) (a : A) → r ≡ Ok a → OnOk r C → C
 on_ok {A} {B} {C} r a is k = subst (λ (q : Result A B). OnOk q C) is k
@@ -66,19 +75,15 @@ passed_at front one more told later tried last stats came is same =
 
 -- ---- reads
 
-pub passes_by : {P S : Type 0} (front : FrontOf P S) (one more : List Came) (told : List ℕ)
-    (tried : Option (List Attempt)) (last : ℕ) (stats : StatsOf) (read : Read) (chunk : List ℕ)
-    → more ≡ one ++ came_by read chunk ∷ []
-    → (turns : List Turn) × HaveDone turns (history front one told tried last stats)
-    (history front more told tried last stats)
-    × IsReadOnce IsPassed (is_something read) turns
-passes_by front one more told tried last stats (Datagram from octets) chunk is =
+pub passes_by : {P S : Type 0} (old new : History P S) (read : Read) (chunk : List ℕ)
+    → Does old (passed (came_by read chunk)) new
+    → (turns : List Turn) × HaveDone turns old new × IsReadOnce IsPassed (is_something read) turns
+passes_by old new (Datagram from octets) chunk does =
     let came = datagram from (take octets chunk) in
-    (passed came ∷ [], passed_at front one more told told tried last stats came is refl, (came, tt, refl))
-passes_by front one more told tried last stats Other chunk is =
-    (passed other ∷ [], passed_at front one more told told tried last stats other is refl, (other, tt, refl))
-passes_by front one more told tried last stats Nothing chunk is =
-    (passed nothing ∷ [], passed_at front one more told told tried last stats nothing is refl, refl)
+    (passed came ∷ [], done_one (passed came) old new does, (came, tt, refl))
+passes_by old new Other chunk does =
+    (passed other ∷ [], done_one (passed other) old new does, (other, tt, refl))
+passes_by old new Nothing chunk does = (passed nothing ∷ [], done_one (passed nothing) old new does, refl)
 
 -- the turns of these reads
 abbrev pub turns_of : List (List Turn) → List Turn

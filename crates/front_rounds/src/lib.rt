@@ -26,6 +26,7 @@ mod logs;
 mod reading;
 mod rounds;
 mod running;
+mod state;
 mod switching;
 mod trace;
 mod wakes;
@@ -39,6 +40,7 @@ pub use self::laws::{
 pub use self::logs::{ReadLog, TryLog, WatchLog};
 pub use self::rounds::Rounds;
 pub use self::running::RoundStage;
+pub use self::state::FrontState;
 pub use self::trace::{FrontDeed, FrontTold, FrontTrace};
 pub use self::wakes::{Wakes, awake_lanes_run_out_of_samples, sleeping_lanes_have_places};
 pub use self::watch::Watch;

@@ -2,7 +2,6 @@
 
 ghost use Rattle.std.specs.Prelude.{◌≡◌};
 ghost use Rattle.media_front.specs.FedLanes.{lanes_in};
-ghost use Rattle.front_rounds.specs.Turns.{history};
 ghost use Rattle.front_rounds.specs.Runs.{FrontAt, front_at, HasRun};
 
 use crate::inlet::Inlet;
@@ -33,14 +32,10 @@ impl<N: PublisherName, P: Pace, S: Sink, I: Inlet, W: Wire, C: Watch> Rounds<N, 
     /// If a round has begun already, or has had a fault, it does nothing and answers `Io`.
     pub fn begin_round(&mut self) -> Result<bool, FrontFault>
         ensures run { (start : FrontAt P S)
-            → HasRun self.old.stage start (front_at
-            (history self.old.media (I.came self.old.inlet) (C.told self.old.watch)
-            (W.attempts self.old.wire) self.old.ticked self.old.stats) self.old.reader)
-            → HasRun self.new.stage start (front_at
-            (history self.new.media (I.came self.new.inlet) (C.told self.new.watch)
-            (W.attempts self.new.wire) self.new.ticked self.new.stats) self.new.reader) }
-        ensures lanes { lanes_in self.new.media.feed ≡ lanes_in self.old.media.feed }
-        ensures asker { self.new.media.intake.asker ≡ self.old.media.intake.asker }
+            → HasRun self.old.stage start (front_at self.old.state self.old.reader)
+            → HasRun self.new.stage start (front_at self.new.state self.new.reader) }
+        ensures lanes { lanes_in self.new.state.front.feed ≡ lanes_in self.old.state.front.feed }
+        ensures asker { self.new.state.front.intake.asker ≡ self.old.state.front.intake.asker }
     {
         match self.stage {
             RoundStage::Whole => self.begin(),
@@ -52,16 +47,12 @@ impl<N: PublisherName, P: Pace, S: Sink, I: Inlet, W: Wire, C: Watch> Rounds<N, 
     fn begin(&mut self) -> Result<bool, FrontFault>
         requires { self.old.stage ≡ RoundStage.Whole }
         ensures run { (start : FrontAt P S)
-            → HasRun self.old.stage start (front_at
-            (history self.old.media (I.came self.old.inlet) (C.told self.old.watch)
-            (W.attempts self.old.wire) self.old.ticked self.old.stats) self.old.reader)
-            → HasRun self.new.stage start (front_at
-            (history self.new.media (I.came self.new.inlet) (C.told self.new.watch)
-            (W.attempts self.new.wire) self.new.ticked self.new.stats) self.new.reader) }
-        ensures lanes { lanes_in self.new.media.feed ≡ lanes_in self.old.media.feed }
-        ensures asker { self.new.media.intake.asker ≡ self.old.media.intake.asker }
+            → HasRun self.old.stage start (front_at self.old.state self.old.reader)
+            → HasRun self.new.stage start (front_at self.new.state self.new.reader) }
+        ensures lanes { lanes_in self.new.state.front.feed ≡ lanes_in self.old.state.front.feed }
+        ensures asker { self.new.state.front.intake.asker ≡ self.old.state.front.intake.asker }
     {
-        match self.wait() {
+        match self.state.wait() {
             Ok(may_wait) => {
                 self.stage = RoundStage::Begun;
                 Ok(may_wait)
@@ -79,14 +70,10 @@ impl<N: PublisherName, P: Pace, S: Sink, I: Inlet, W: Wire, C: Watch> Rounds<N, 
     pub fn end_round<R: Wait>(&mut self, rt: &R, notice: Notice) -> Result<(), FrontFault>
         requires publisher { notice.publisher ≡ N.publisher }
         ensures run { (start : FrontAt P S)
-            → HasRun self.old.stage start (front_at
-            (history self.old.media (I.came self.old.inlet) (C.told self.old.watch)
-            (W.attempts self.old.wire) self.old.ticked self.old.stats) self.old.reader)
-            → HasRun self.new.stage start (front_at
-            (history self.new.media (I.came self.new.inlet) (C.told self.new.watch)
-            (W.attempts self.new.wire) self.new.ticked self.new.stats) self.new.reader) }
-        ensures lanes { lanes_in self.new.media.feed ≡ lanes_in self.old.media.feed }
-        ensures asker { self.new.media.intake.asker ≡ self.old.media.intake.asker }
+            → HasRun self.old.stage start (front_at self.old.state self.old.reader)
+            → HasRun self.new.stage start (front_at self.new.state self.new.reader) }
+        ensures lanes { lanes_in self.new.state.front.feed ≡ lanes_in self.old.state.front.feed }
+        ensures asker { self.new.state.front.intake.asker ≡ self.old.state.front.intake.asker }
     {
         match self.stage {
             RoundStage::Begun => self.end(rt, notice),
@@ -99,14 +86,10 @@ impl<N: PublisherName, P: Pace, S: Sink, I: Inlet, W: Wire, C: Watch> Rounds<N, 
         requires publisher { notice.publisher ≡ N.publisher }
         requires stage { self.old.stage ≡ RoundStage.Begun }
         ensures run { (start : FrontAt P S)
-            → HasRun self.old.stage start (front_at
-            (history self.old.media (I.came self.old.inlet) (C.told self.old.watch)
-            (W.attempts self.old.wire) self.old.ticked self.old.stats) self.old.reader)
-            → HasRun self.new.stage start (front_at
-            (history self.new.media (I.came self.new.inlet) (C.told self.new.watch)
-            (W.attempts self.new.wire) self.new.ticked self.new.stats) self.new.reader) }
-        ensures lanes { lanes_in self.new.media.feed ≡ lanes_in self.old.media.feed }
-        ensures asker { self.new.media.intake.asker ≡ self.old.media.intake.asker }
+            → HasRun self.old.stage start (front_at self.old.state self.old.reader)
+            → HasRun self.new.stage start (front_at self.new.state self.new.reader) }
+        ensures lanes { lanes_in self.new.state.front.feed ≡ lanes_in self.old.state.front.feed }
+        ensures asker { self.new.state.front.intake.asker ≡ self.old.state.front.intake.asker }
     {
         match self.round(rt, notice) {
             Ok(()) => {

@@ -3,7 +3,7 @@
 ghost use Rattle.std.specs.Prelude.{◌≡◌, ◌∷◌, [], Bool, List, IfOk, OnOk};
 ghost use Rattle.std.specs.List.{AllByRecursion};
 ghost use Rattle.picture_requests.specs.Sources.{member_address};
-ghost use Rattle.front_rounds.specs.Turns.{Turn, HaveDone, history, asked_picture};
+ghost use Rattle.front_rounds.specs.Turns.{Turn, HaveDone, asked_picture};
 ghost use Rattle.front_rounds.specs.Shapes.{IsPicture, AsksFirst};
 
 use crate::inlet::Inlet;
@@ -23,11 +23,7 @@ impl<N: PublisherName, P: Pace, S: Sink, I: Inlet, W: Wire, C: Watch> Rounds<N, 
         rows: &Rows,
         now: u64,
     ) -> Result<(), FrontFault>
-        ensures { (turns : List Turn) × HaveDone turns
-            (history self.old.media (I.came self.old.inlet) (C.told self.old.watch)
-            (W.attempts self.old.wire) self.old.ticked self.old.stats)
-            (history self.new.media (I.came self.new.inlet) (C.told self.new.watch)
-            (W.attempts self.new.wire) self.new.ticked self.new.stats)
+        ensures { (turns : List Turn) × HaveDone turns self.old.state self.new.state
             × AllByRecursion IsPicture turns }
     {
         self.see(version, rows, now)?;
@@ -49,11 +45,7 @@ impl<N: PublisherName, P: Pace, S: Sink, I: Inlet, W: Wire, C: Watch> Rounds<N, 
 
     /// Asks the senders that may be asked at this moment for pictures.
     fn ask_pictures(&mut self, now: u64) -> Result<(), FrontFault>
-        ensures { (turns : List Turn) × HaveDone turns
-            (history self.old.media (I.came self.old.inlet) (C.told self.old.watch)
-            (W.attempts self.old.wire) self.old.ticked self.old.stats)
-            (history self.new.media (I.came self.new.inlet) (C.told self.new.watch)
-            (W.attempts self.new.wire) self.new.ticked self.new.stats)
+        ensures { (turns : List Turn) × HaveDone turns self.old.state self.new.state
             × AllByRecursion IsPicture turns }
     {
         let due = self.pictures.due(self.alloc, now)?;
@@ -73,11 +65,7 @@ impl<N: PublisherName, P: Pace, S: Sink, I: Inlet, W: Wire, C: Watch> Rounds<N, 
         ended: Option<u32>,
         moment: u64,
     ) -> Result<(), FrontFault>
-        ensures { (turns : List Turn) × HaveDone turns
-            (history self.old.media (I.came self.old.inlet) (C.told self.old.watch)
-            (W.attempts self.old.wire) self.old.ticked self.old.stats)
-            (history self.new.media (I.came self.new.inlet) (C.told self.new.watch)
-            (W.attempts self.new.wire) self.new.ticked self.new.stats)
+        ensures { (turns : List Turn) × HaveDone turns self.old.state self.new.state
             × OnOk result (AsksFirst from.now ended turns) }
     {
         match ended {
@@ -100,18 +88,12 @@ impl<N: PublisherName, P: Pace, S: Sink, I: Inlet, W: Wire, C: Watch> Rounds<N, 
 
     /// Asks a sender for a picture. If its address had tokens for the request, the source was asked at this moment.
     fn ask_picture(&mut self, source: &VideoSource, now: u64) -> Result<(), FrontFault>
-        ensures { (turns : List Turn) × HaveDone turns
-            (history self.old.media (I.came self.old.inlet) (C.told self.old.watch)
-            (W.attempts self.old.wire) self.old.ticked self.old.stats)
-            (history self.new.media (I.came self.new.inlet) (C.told self.new.watch)
-            (W.attempts self.new.wire) self.new.ticked self.new.stats)
+        ensures { (turns : List Turn) × HaveDone turns self.old.state self.new.state
             × AllByRecursion IsPicture turns
             × OnOk result ((sent : Bool) × (turns ≡ asked_picture
             (record { address = member_address source.now; ssrc = source.now.ssrc }) sent ∷ [])) }
     {
-        let sent = self
-            .media
-            .ask_picture(self.alloc, &source.address(), source.ssrc, &mut self.wire)?;
+        let sent = self.state.ask_picture(self.alloc, source)?;
         self.note(source, now, sent);
         self.trace.tell_picture(sent, source);
         Ok(())

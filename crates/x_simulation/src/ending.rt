@@ -6,7 +6,7 @@ use crate::difference::Difference;
 use crate::scene::{Scene, ScriptMedia, ScriptRounds};
 use crate::sink::counted;
 use crate::tally::Tally;
-use front_rounds::Rounds;
+use front_rounds::FrontState;
 use media_workers::HandleFault;
 use operator_desk::DeskBrand;
 use operator_threads::Operators;
@@ -39,23 +39,14 @@ where
     H: DeskBrand + Send + Sync + 'static,
     R: Threads + Clock + Wait + Copy + Send + Drop + 'static,
 {
-    let Rounds {
-        alloc: _,
+    let FrontState {
         inlet: _,
         wire: _,
         watch: _,
-        reader: _,
         media,
         ticked: _,
         stats: _,
-        version: _,
-        pictures: _,
-        has_members: _,
-        stage: _,
-        wakes: _,
-        chunk: _,
-        trace: _,
-    } = rounds;
+    } = rounds.into_state();
     media
 }
 

@@ -93,19 +93,24 @@ impl<H: DeskBrand, R: Wait + Clock + Drop> Scene<H, R> {
 
     /// A datagram waits, or something else.
     fn come(&mut self, datagram: Option<Datagram>) -> Result<(), Difference> {
-        self.rounds.inlet.queue.waiting.push_back(datagram)?;
+        self.rounds.state.inlet.queue.waiting.push_back(datagram)?;
         Ok(())
     }
 
     /// Begins a round of the front, unless one has begun. The beat comes first in it.
     fn begin_round(&mut self, alloc: Global, step: u64, look: i64) -> Result<(), Difference> {
-        self.rounds.watch.pass(step, look);
+        self.rounds.state.watch.pass(step, look);
         if matches!(self.rounds.stage, RoundStage::Begun) {
             return Ok(());
         }
         self.beats = self.beats.wrapping_add(1);
         let beat = beat_frame(alloc, self.beats)?;
-        self.rounds.inlet.queue.waiting.push_front(Some(beat))?;
+        self.rounds
+            .state
+            .inlet
+            .queue
+            .waiting
+            .push_front(Some(beat))?;
         self.rounds.begin_round()?;
         Ok(())
     }
@@ -125,9 +130,9 @@ impl<H: DeskBrand, R: Wait + Clock + Drop> Scene<H, R> {
 
     /// Compares what the front did in a round.
     fn compare<'b, 'a>(&mut self, place: &Place<'b, 'a, H, R>) -> Result<(), Difference> {
-        let came = self.rounds.inlet.queue.take_read(place.alloc);
-        let told = self.rounds.watch.take_told(place.alloc);
-        let tried = self.rounds.wire.take_tried();
+        let came = self.rounds.state.inlet.queue.take_read(place.alloc);
+        let told = self.rounds.state.watch.take_told(place.alloc);
+        let tried = self.rounds.state.wire.take_tried();
         self.model.round(&came, told.get(1..).unwrap_or(&[]))?;
         self.tally.rounds = self.tally.rounds.saturating_add(1);
         self.tally.packets = self.tally.packets.saturating_add(tried.len() as u64);
@@ -146,11 +151,11 @@ impl<H: DeskBrand, R: Wait + Clock + Drop> Scene<H, R> {
     {
         self.come(Some(beat_frame(alloc, self.beats)?))?;
         self.come(None)?;
-        self.rounds.watch.pass(STEP, LOOK);
+        self.rounds.state.watch.pass(STEP, LOOK);
         self.rounds.begin_round()?;
         self.rounds.end_round(rt, notice)?;
-        let tried = self.rounds.wire.take_tried();
-        let came = self.rounds.inlet.queue.take_read(alloc);
+        let tried = self.rounds.state.wire.take_tried();
+        let came = self.rounds.state.inlet.queue.take_read(alloc);
         if tried.is_empty() && !came.is_empty() {
             Ok(())
         } else {
@@ -219,7 +224,7 @@ impl<H: DeskBrand, R: Wait + Clock + Drop> Scene<H, R> {
             if gate.reach(place.rt, count) {
                 return true;
             }
-            if self.rounds.media.has_ended() {
+            if self.rounds.state.media.has_ended() {
                 return false;
             }
         }
@@ -231,7 +236,7 @@ impl<H: DeskBrand, R: Wait + Clock + Drop> Scene<H, R> {
         if !place.front.are_those(&self.model) {
             return Err(Difference::Wakes);
         }
-        self.tally.dropped = dropped_in(&self.rounds.media, &self.model.lanes)?;
+        self.tally.dropped = dropped_in(&self.rounds.state.media, &self.model.lanes)?;
         Ok(())
     }
 }

@@ -19,12 +19,11 @@ use crate::talkers::Talkers;
 use crate::tally::Tally;
 use bridge_core::{Intake, Settings};
 use bridge_stats::BridgeStats;
-use front_rounds::{FrontTrace, RoundStage, Rounds, Wakes as LaneWakes};
+use front_rounds::{FrontState, FrontTrace, Rounds};
 use media_front::{LaneFeed, MediaFront, PublisherOf, pli_octets};
 use media_workers::SleepPace;
 use operator_desk::{DeskBrand, DeskNames, Log, SharedDesk};
 use operator_threads::Operators;
-use picture_requests::PictureRequests;
 use rate_limiter::RateLimiter;
 use std::alloc::Global;
 use std::marker::Brand;
@@ -206,23 +205,15 @@ where
     H: DeskBrand + Send + Sync + 'static,
     R: Threads + Clock + Wait + Copy + Send + Drop + 'static,
 {
-    Rounds {
-        alloc,
+    let state = FrontState {
         inlet: ScriptInlet::new(alloc),
         wire: ScriptWire::new(alloc),
         watch: ScriptWatch::new(alloc, START),
-        reader,
         media,
         ticked: START,
         stats,
-        version: 0,
-        pictures: PictureRequests::new(alloc),
-        has_members: false,
-        stage: RoundStage::Whole,
-        wakes: LaneWakes::begin(START),
-        chunk,
-        trace: FrontTrace::off(),
-    }
+    };
+    Rounds::new(alloc, state, reader, chunk, FrontTrace::off())
 }
 
 /// Starts a lane for each reader, with these sinks.

@@ -1,7 +1,7 @@
 use Rattle.std.proofs.Common.{◌∷◌, [], refl, ap, sym, subst, ◌∙◌}
 use Rattle.picture_requests.specs.Sources.{member_address}
 use Rattle.picture_requests.specs.declared.source.VideoSource.{VideoSource}
-use Rattle.front_rounds.specs.Turns.{History, HaveDone, history, asked_picture}
+use Rattle.front_rounds.specs.Turns.{History, HaveDone, asked_picture}
 use Rattle.front_rounds.specs.Shapes.{AsksFirst}
 use Rattle.front_rounds.proofs.StepLemmas.{err_on_ok, on_ok_map}
 use Rattle.front_rounds.proofs.rounds.Rounds.ask_first.Goals as goal
@@ -12,26 +12,18 @@ returns-in-None g c = ([], refl, subst (λ e. AsksFirst c.args.from.now e []) (s
 pub returns-in_err-want-in-Some : goal.returns-in_err-want-in-Some
 returns-in_err-want-in-Some g c = (
   [],
-  sym (ap (λ s.
-      history s.media (g.I.Inlet.came s.inlet) (g.C.Watch.told s.watch) (g.W.Wire.attempts s.wire) s.ticked s.stats)
-      c.want.ensures),
+  sym (ap (λ s. s.state) c.want.ensures),
   err_on_ok _ c.from_residual.result c.from_residual.ensures.0,
 )
 
 pub returns-in_ok-want-in-Some : goal.returns-in_ok-want-in-Some
 returns-in_ok-want-in-Some g c =
     let p = c.ask_picture.ensures in
-    let n = c.ask_picture.new.self in
-    let new =
-    history n.media (g.I.Inlet.came n.inlet) (g.C.Watch.told n.watch) (g.W.Wire.attempts n.wire) n.ticked n.stats in
+    let new = c.ask_picture.new.self.state in
     let source : VideoSource = c.at-source.result in (
       p.0,
       subst (λ (h : History g.row.P.Denot g.row.S.Denot). HaveDone p.0 h new)
-          (ap
-          (λ s. history s.media (g.I.Inlet.came s.inlet) (g.C.Watch.told s.watch)
-          (g.W.Wire.attempts s.wire) s.ticked s.stats)
-          c.want.ensures)
-          p.1,
+          (ap (λ s. s.state) c.want.ensures) p.1,
       on_ok_map c.ask_picture.result
           (λ k. subst (λ e. AsksFirst c.args.from.now e p.0) (sym c.in-Some.is) (
             k.0,

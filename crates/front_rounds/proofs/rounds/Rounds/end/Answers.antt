@@ -1,5 +1,5 @@
 use Rattle.std.proofs.Common.{◌∷◌, [], ◌++◌, List, refl, sym, subst, append_assoc}
-use Rattle.front_rounds.specs.Turns.{Turn, history, looked}
+use Rattle.front_rounds.specs.Turns.{Turn, looked}
 use Rattle.front_rounds.specs.Shapes.{AreRounds}
 use Rattle.front_rounds.specs.Runs.{front_at, HasRun}
 use Rattle.front_rounds.specs.declared.running.RoundStage.{RoundStage}
@@ -13,10 +13,8 @@ pub returns-in-Ok-clause-run : goal.returns-in-Ok-clause-run
 returns-in-Ok-clause-run g c start had =
     let a = c.args.self.now in
     let n = c.round.new.self in
-    let old =
-    history a.media (g.I.Inlet.came a.inlet) (g.C.Watch.told a.watch) (g.W.Wire.attempts a.wire) a.ticked a.stats in
-    let new =
-    history n.media (g.I.Inlet.came n.inlet) (g.C.Watch.told n.watch) (g.W.Wire.attempts n.wire) n.ticked n.stats in
+    let old = a.state in
+    let new = n.state in
     let k : HasRun Begun start (front_at old a.reader) =
     subst (λ (s : RoundStage). HasRun s start (front_at old a.reader)) c.requires.stage had in
     let r = c.in-Ok.ensures in
@@ -31,10 +29,8 @@ pub returns-in-Err-clause-run : goal.returns-in-Err-clause-run
 returns-in-Err-clause-run g c start had =
     let a = c.args.self.now in
     let n = c.round.new.self in
-    let old =
-    history a.media (g.I.Inlet.came a.inlet) (g.C.Watch.told a.watch) (g.W.Wire.attempts a.wire) a.ticked a.stats in
-    let new =
-    history n.media (g.I.Inlet.came n.inlet) (g.C.Watch.told n.watch) (g.W.Wire.attempts n.wire) n.ticked n.stats in
+    let old = a.state in
+    let new = n.state in
     let k : HasRun Begun start (front_at old a.reader) =
     subst (λ (s : RoundStage). HasRun s start (front_at old a.reader)) c.requires.stage had in
     let r = c.round.ensures in

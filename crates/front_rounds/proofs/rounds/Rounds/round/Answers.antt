@@ -1,6 +1,6 @@
-use Rattle.std.proofs.Common.{◌∷◌, ◌++◌, Option, ap, sym, subst}
+use Rattle.std.proofs.Common.{◌∷◌, ◌++◌, Option, sym, subst}
 use Rattle.versions.specs.Published.{ReaderOf}
-use Rattle.front_rounds.specs.Turns.{history, owed}
+use Rattle.front_rounds.specs.Turns.{owed}
 use Rattle.front_rounds.specs.Shapes.{IsTakenIn}
 use Rattle.front_rounds.proofs.TurnLemmas.{done_both}
 use Rattle.front_rounds.proofs.StepLemmas.{on_ok, on_ok_map, round_of}
@@ -9,18 +9,11 @@ use Rattle.front_rounds.proofs.rounds.Rounds.round.Goals as goal
 pub returns-in-Ok : goal.returns-in-Ok
 returns-in-Ok g c =
     let a = c.args.self.now in
-    let came = g.I.Inlet.came a.inlet in
-    let told = g.C.Watch.told a.watch in
-    let tried = g.W.Wire.attempts a.wire in
     let e = c.take_in.ensures in
     let w = c.wake.ensures.done in
     let entered = on_ok c.take_in.result _ c.in-Ok.is e.2 in (
       owed c.args.notice ∷ (e.0 ++ w.0),
-      (
-        history c.tell.new.self came told tried a.ticked a.stats,
-        ap (λ f. history f came told tried a.ticked a.stats) c.tell.ensures,
-        done_both e.0 w.0 _ _ _ e.1 w.1,
-      ),
+      (c.owe.new.self, c.owe.ensures, done_both e.0 w.0 _ _ _ e.1 w.1),
       on_ok_map c.wake.result
           (λ k.
           round_of c.args.notice a.reader c.wake.new.self.reader e.0 w.0
@@ -30,17 +23,9 @@ returns-in-Ok g c =
 
 pub returns-in-Err : goal.returns-in-Err
 returns-in-Err g c =
-    let a = c.args.self.now in
-    let came = g.I.Inlet.came a.inlet in
-    let told = g.C.Watch.told a.watch in
-    let tried = g.W.Wire.attempts a.wire in
     let e = c.take_in.ensures in
     let w = c.wake-in-Err.ensures.done in (
       owed c.args.notice ∷ (e.0 ++ w.0),
-      (
-        history c.tell.new.self came told tried a.ticked a.stats,
-        ap (λ f. history f came told tried a.ticked a.stats) c.tell.ensures,
-        done_both e.0 w.0 _ _ _ e.1 w.1,
-      ),
+      (c.owe.new.self, c.owe.ensures, done_both e.0 w.0 _ _ _ e.1 w.1),
       tt,
     )
