@@ -8,7 +8,7 @@ use crate::sockets::{FrontSocket, UdpInlet};
 use crate::watching::SystemWatch;
 use bridge_monitor::{LaneCounts, StatsDesk, Teller};
 use event_lines::{Cause, Event, LaneDrops};
-use front_rounds::Rounds;
+use front_rounds::{BegunRound, Rounds};
 use lane_wire::WireSink;
 use media_front::{MediaFront, PublisherOf};
 use media_workers::SleepPace;
@@ -62,22 +62,21 @@ impl<
     H: DeskBrand + Setup + Send + Sync + 'static,
     R: Wait + Clock + Copy + Send + Drop + 'static,
 > Running<H, R> {
-    /// Begins a round: waits until something has come, or a tick is due. Returns whether connections may wait. A lane
-    /// that has ended is a fault.
-    pub(crate) fn begin_round(&mut self) -> Result<bool, FrontFault> {
+    /// Begins a round: waits until something has come, or a tick is due. A lane that has ended is a fault.
+    pub(crate) fn begin_round(&mut self) -> Result<BegunRound, FrontFault> {
         self.rounds.begin_round()
     }
 
-    /// The moment at which ticks were given last, in nanoseconds since 1970.
-    pub(crate) fn moment(&self) -> u64 {
-        self.rounds.state.ticked
-    }
-
     /// Ends a round: takes in what has come and what is due.
-    pub(crate) fn end_round(&mut self, rt: &R, notice: Notice) -> Result<(), FrontFault>
+    pub(crate) fn end_round(
+        &mut self,
+        rt: &R,
+        begun: BegunRound,
+        notice: Notice,
+    ) -> Result<(), FrontFault>
         requires { notice.publisher ≡ H.publisher }
     {
-        self.rounds.end_round(rt, notice)
+        self.rounds.end_round(rt, begun, notice)
     }
 
     /// Tells of each lane its first dropped item of a second. `drops` is what is known of each lane.

@@ -177,12 +177,6 @@ pub passing : (reads beats : List Turn) → AreAllRead IsPassed reads → (momen
 passing reads beats read moment due is =
     record { reads = reads; read = read; moment = moment; due = due; are = ap (λ (l : List Turn). reads ++ l) is }
 
-pub kept_reader : (one old new : Option ReaderOf) (r : ReaderOf) (turns : List Turn) → one ≡ Some r → old ≡ Some r
-    → new ≡ old → IsPassing turns → IsTakenIn one new turns
-kept_reader one old new r turns a b c passing =
-    subst (λ (o : Option ReaderOf). IsTakenIn o new turns) (sym a)
-    (subst (λ (o : Option ReaderOf). IsTakenIn (Some r) o turns) (sym (c ∙ b)) (inr (refl, passing)))
-
 pub round_of : (notice : NoticeOf) (old new : Option ReaderOf) (entry woken : List Turn) → IsTakenIn old new entry
     → (wake : ℕ) (raised : Bool) → woken ≡ looked wake ∷ signals raised
     → IsRound notice old new (owed notice ∷ (entry ++ woken))

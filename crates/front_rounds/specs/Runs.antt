@@ -3,8 +3,12 @@ use Rattle.std.specs.Prelude.{ℕ, List, [], ◌∷◌, ◌++◌, Option}
 use Rattle.versions.specs.Published.{ReaderOf}
 use Rattle.front_rounds.specs.Turns.{Turn, History, HaveDone, looked}
 use Rattle.front_rounds.specs.Shapes.{AreRounds, BeginAsRounds}
-use Rattle.front_rounds.specs.declared.running.RoundStage.{RoundStage}
-use Rattle.front_rounds.specs.declared.running.RoundStage.TheVariants.{Whole, Begun, Failed}
+
+-- how far the rounds of a front are: none is under way, one has begun and the front has waited, or one had a fault
+pub data RoundStage : Type 0 where
+  Whole : RoundStage
+  Begun : RoundStage
+  Failed : RoundStage
 
 -- a front and its history, and its reader of the published desk
 pub record FrontAt (P S : Type 0) : Type 0 where

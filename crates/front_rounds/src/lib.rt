@@ -15,8 +15,8 @@
 //!
 //! ```rust
 //! // rounds: a `Rounds` over an `Inlet`, a `Wire` and a `Watch`
-//! let may_wait = rounds.begin_round()?; // connections may wait
-//! rounds.end_round(rt, publisher.tell())?; // what had come is taken in
+//! let begun = rounds.begin_round()?; // begun.may_wait: connections may wait
+//! rounds.end_round(rt, begun, publisher.tell())?; // what had come is taken in
 //! ```
 #![tactic(auto)]
 
@@ -39,7 +39,7 @@ pub use self::laws::{
 };
 pub use self::logs::{ReadLog, TryLog, WatchLog};
 pub use self::rounds::Rounds;
-pub use self::running::RoundStage;
+pub use self::running::BegunRound;
 pub use self::state::FrontState;
 pub use self::trace::{FrontDeed, FrontTold, FrontTrace};
 pub use self::wakes::{Wakes, awake_lanes_run_out_of_samples, sleeping_lanes_have_places};

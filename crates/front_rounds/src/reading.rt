@@ -56,9 +56,8 @@ impl<N: PublisherName, P: Pace, S: Sink, I: Inlet, W: Wire, C: Watch> Rounds<N, 
 
     /// Drops the datagrams that wait.
     pub(crate) fn drop_datagrams(&mut self) -> Result<(), FrontFault>
-        ensures done { (turns : List Turn) × HaveDone turns self.old.state self.new.state
+        ensures { (turns : List Turn) × HaveDone turns self.old.state self.new.state
             × OnOk result (AreAllRead IsPassed turns) }
-        ensures reader { self.new.reader ≡ self.old.reader }
     {
         for _ in 0..DATAGRAMS {
             let has_more = self.drop_datagram()?;
@@ -71,9 +70,8 @@ impl<N: PublisherName, P: Pace, S: Sink, I: Inlet, W: Wire, C: Watch> Rounds<N, 
 
     /// Drops the next datagram. Returns whether one waited, or something else.
     fn drop_datagram(&mut self) -> Result<bool, FrontFault>
-        ensures done { (turns : List Turn) × HaveDone turns self.old.state self.new.state
+        ensures { (turns : List Turn) × HaveDone turns self.old.state self.new.state
             × IfOk result (λ more. IsReadOnce IsPassed more turns) }
-        ensures reader { self.new.reader ≡ self.old.reader }
     {
         let read = self.state.drop_next(&mut self.chunk)?;
         Ok(read.is_something())

@@ -1,11 +1,10 @@
 //! The rounds of a front: what it does each time that it is woken.
 
-ghost use Rattle.std.specs.Prelude.{◌≡◌, ◌∷◌, [], ℕ, Bool, List, OnOk};
+ghost use Rattle.std.specs.Prelude.{◌≡◌, ◌∷◌, [], ℕ, Bool, List, Some, OnOk};
 ghost use Rattle.front_rounds.specs.Turns.{Turn, HaveDone, looked, gave_ticks, let_wait, made_report};
-ghost use Rattle.front_rounds.specs.Shapes.{IsDue, IsTaking, IsTakenIn, IsRound, waits, signals};
+ghost use Rattle.front_rounds.specs.Shapes.{IsDue, IsTaking, IsPassing, IsTakenIn, IsRound, waits, signals};
 
 use crate::inlet::Inlet;
-use crate::running::RoundStage;
 use crate::state::FrontState;
 use crate::trace::FrontTrace;
 use crate::wakes::Wakes;
@@ -23,7 +22,7 @@ pub struct Rounds<N: PublisherName, P: Pace, S: Sink, I: Inlet, W: Wire, C: Watc
     pub(crate) alloc: Global,
     /// The front, with what it did.
     pub state: FrontState<N, P, S, I, W, C>,
-    /// It is taken out while the desk is entered.
+    /// It is out while a round is under way, and after a fault.
     pub reader: Option<LaneReader>,
     /// The version of the desk that `pictures` has seen.
     pub(crate) version: u64,
@@ -31,8 +30,6 @@ pub struct Rounds<N: PublisherName, P: Pace, S: Sink, I: Inlet, W: Wire, C: Watc
     pub(crate) pictures: PictureRequests,
     /// Whether the desk had members in the last round.
     has_members: bool,
-    /// How far its rounds are.
-    pub stage: RoundStage,
     /// When the lanes are woken.
     wakes: Wakes,
     /// What was read last.
@@ -52,7 +49,6 @@ impl<N: PublisherName, P: Pace, S: Sink, I: Inlet, W: Wire, C: Watch> Rounds<N, 
     ) -> Self
         ensures state { result.state ≡ state }
         ensures reader { result.reader ≡ reader }
-        ensures stage { result.stage ≡ RoundStage.Whole }
     {
         let wakes = Wakes::begin(state.ticked);
         Self {
@@ -62,7 +58,6 @@ impl<N: PublisherName, P: Pace, S: Sink, I: Inlet, W: Wire, C: Watch> Rounds<N, 
             version: 0,
             pictures: PictureRequests::new(alloc),
             has_members: false,
-            stage: RoundStage::Whole,
             wakes,
             chunk,
             trace,
@@ -80,7 +75,6 @@ impl<N: PublisherName, P: Pace, S: Sink, I: Inlet, W: Wire, C: Watch> Rounds<N, 
             version: _,
             pictures: _,
             has_members: _,
-            stage: _,
             wakes: _,
             chunk: _,
             trace: _,
@@ -88,43 +82,49 @@ impl<N: PublisherName, P: Pace, S: Sink, I: Inlet, W: Wire, C: Watch> Rounds<N, 
         state
     }
 
-    /// Takes in what has come and what is due by one entry into the published desk, and wakes the lanes.
-    pub(crate) fn round<R: Wait>(&mut self, rt: &R, notice: Notice) -> Result<(), FrontFault>
+    /// Takes in what has come and what is due by one entry into the published desk, and wakes the lanes. Gives the
+    /// reader back.
+    pub(crate) fn round<R: Wait>(
+        &mut self,
+        rt: &R,
+        reader: LaneReader,
+        notice: Notice,
+    ) -> (LaneReader, Result<(), FrontFault>)
         requires { notice.publisher ≡ N.publisher }
         ensures { (turns : List Turn) × HaveDone turns self.old.state self.new.state
-            × OnOk result (IsRound notice self.old.reader self.new.reader turns) }
+            × OnOk result.1 (IsRound notice (Some reader) (Some result.0) turns) }
     {
         self.state.owe(notice);
-        match self.take_in() {
-            Ok(()) => self.wake(rt),
-            Err(fault) => {
-                let _ = self.wake(rt);
-                Err(fault)
-            }
+        let (reader, taken) = self.take_in(reader);
+        let woken = self.wake(rt);
+        match taken {
+            Ok(()) => (reader, woken),
+            Err(fault) => (reader, Err(fault)),
         }
     }
 
-    /// Takes in what has come and what is due by one entry into the published desk. Without rows no sender is known:
-    /// datagrams are dropped, and the reports wait.
-    fn take_in(&mut self) -> Result<(), FrontFault>
+    /// Takes in what has come and what is due by one entry into the published desk. Gives the reader back.
+    fn take_in(&mut self, reader: LaneReader) -> (LaneReader, Result<(), FrontFault>)
         ensures { (turns : List Turn) × HaveDone turns self.old.state self.new.state
-            × OnOk result (IsTakenIn self.old.reader self.new.reader turns) }
+            × OnOk result.1 (IsTakenIn (Some reader) (Some result.0) turns) }
     {
-        let Some(reader) = self.reader.take() else {
-            return Err(FrontFault::Io);
-        };
         match reader.enter() {
             Ok(entered) => {
                 let done = self.take(entered.version(), entered.rows());
-                self.reader = Some(entered.leave());
-                done
+                (entered.leave(), done)
             }
-            Err(reader) => {
-                self.reader = Some(reader);
-                self.drop_datagrams()?;
-                self.tick()
-            }
+            Err(reader) => (reader, self.pass()),
         }
+    }
+
+    /// Drops the datagrams that wait, and gives the ticks that are due: without rows no sender is known, and the
+    /// reports wait.
+    fn pass(&mut self) -> Result<(), FrontFault>
+        ensures { (turns : List Turn) × HaveDone turns self.old.state self.new.state
+            × OnOk result (IsPassing turns) }
+    {
+        self.drop_datagrams()?;
+        self.tick()
     }
 
     /// Takes in the datagrams that wait, and what is due.
@@ -183,9 +183,8 @@ impl<N: PublisherName, P: Pace, S: Sink, I: Inlet, W: Wire, C: Watch> Rounds<N, 
 
     /// Wakes the lanes for what they were given, if they have to be woken in this round.
     fn wake<R: Wait>(&mut self, rt: &R) -> Result<(), FrontFault>
-        ensures done { (turns : List Turn) × HaveDone turns self.old.state self.new.state
+        ensures { (turns : List Turn) × HaveDone turns self.old.state self.new.state
             × OnOk result ((moment : ℕ) × (raised : Bool) × (turns ≡ looked moment ∷ signals raised)) }
-        ensures reader { self.new.reader ≡ self.old.reader }
     {
         let now = self.state.look()?;
         if self.wakes.is_due(now, self.has_members) {
@@ -196,9 +195,8 @@ impl<N: PublisherName, P: Pace, S: Sink, I: Inlet, W: Wire, C: Watch> Rounds<N, 
 
     /// Gives each lane the ticks that are due.
     fn tick(&mut self) -> Result<(), FrontFault>
-        ensures done { (turns : List Turn) × HaveDone turns self.old.state self.new.state
+        ensures { (turns : List Turn) × HaveDone turns self.old.state self.new.state
             × OnOk result ((moment : ℕ) × (due : Bool) × (turns ≡ looked moment ∷ gave_ticks due moment ∷ [])) }
-        ensures reader { self.new.reader ≡ self.old.reader }
     {
         let now = self.state.look()?;
         self.state.tick(now);

@@ -58,6 +58,7 @@ where
 {
     let Scene {
         rounds,
+        begun: _,
         gates,
         model,
         lanes: _,

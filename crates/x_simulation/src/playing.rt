@@ -10,7 +10,6 @@ use crate::lane_model::LaneModel;
 use crate::scene::{Scene, ScriptMedia};
 use crate::talker::Place;
 use crate::talkers::Talkers;
-use front_rounds::RoundStage;
 use operator_desk::DeskBrand;
 use std::alloc::Global;
 use std::sync::Wait;
@@ -100,7 +99,7 @@ impl<H: DeskBrand, R: Wait + Clock + Drop> Scene<H, R> {
     /// Begins a round of the front, unless one has begun. The beat comes first in it.
     fn begin_round(&mut self, alloc: Global, step: u64, look: i64) -> Result<(), Difference> {
         self.rounds.state.watch.pass(step, look);
-        if matches!(self.rounds.stage, RoundStage::Begun) {
+        if self.begun.is_some() {
             return Ok(());
         }
         self.beats = self.beats.wrapping_add(1);
@@ -111,7 +110,7 @@ impl<H: DeskBrand, R: Wait + Clock + Drop> Scene<H, R> {
             .queue
             .waiting
             .push_front(Some(beat))?;
-        self.rounds.begin_round()?;
+        self.begun = Some(self.rounds.begin_round()?);
         Ok(())
     }
 
@@ -123,8 +122,11 @@ impl<H: DeskBrand, R: Wait + Clock + Drop> Scene<H, R> {
         look: i64,
     ) -> Result<(), Difference> {
         self.begin_round(place.alloc, step, look)?;
-        self.rounds
-            .end_round(place.rt, place.operators.latest(place.rt))?;
+        let Some(begun) = self.begun.take() else {
+            return Err(Difference::Front);
+        };
+        let notice = place.operators.latest(place.rt);
+        self.rounds.end_round(place.rt, begun, notice)?;
         self.compare(place)
     }
 
@@ -152,8 +154,8 @@ impl<H: DeskBrand, R: Wait + Clock + Drop> Scene<H, R> {
         self.come(Some(beat_frame(alloc, self.beats)?))?;
         self.come(None)?;
         self.rounds.state.watch.pass(STEP, LOOK);
-        self.rounds.begin_round()?;
-        self.rounds.end_round(rt, notice)?;
+        let begun = self.rounds.begin_round()?;
+        self.rounds.end_round(rt, begun, notice)?;
         let tried = self.rounds.state.wire.take_tried();
         let came = self.rounds.state.inlet.queue.take_read(alloc);
         if tried.is_empty() && !came.is_empty() {

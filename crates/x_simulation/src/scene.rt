@@ -19,7 +19,7 @@ use crate::talkers::Talkers;
 use crate::tally::Tally;
 use bridge_core::{Intake, Settings};
 use bridge_stats::BridgeStats;
-use front_rounds::{FrontState, FrontTrace, Rounds};
+use front_rounds::{BegunRound, FrontState, FrontTrace, Rounds};
 use media_front::{LaneFeed, MediaFront, PublisherOf, pli_octets};
 use media_workers::SleepPace;
 use operator_desk::{DeskBrand, DeskNames, Log, SharedDesk};
@@ -48,6 +48,8 @@ pub type ScriptRounds<H, R> = Rounds<
 /// The front of a bridge, the gates of its lanes, and the model. It is not `Drop`: end it by `ended`.
 pub struct Scene<H: DeskBrand, R: Wait + Drop> {
     pub rounds: ScriptRounds<H, R>,
+    /// The round that has begun.
+    pub begun: Option<BegunRound>,
     pub gates: Vec<Arc<Gate, Global>>,
     pub model: OneThread,
     /// How many lanes the bridge has.
@@ -185,6 +187,7 @@ where
     let media = media_of::<H, R>(rt, alloc, readers, settings(), sinks, plan)?;
     Ok(Scene {
         rounds: rounds_of(alloc, own, media, stats, chunk),
+        begun: None,
         gates,
         model,
         lanes: plan.lanes,

@@ -4,8 +4,8 @@ use Rattle.front_rounds.specs.inner.Reading.{IsReadOnce}
 use Rattle.front_rounds.proofs.StepLemmas.{passes_by}
 use Rattle.front_rounds.proofs.rounds.Rounds.drop_datagram.Goals as goal
 
-pub returns-clause-done : goal.returns-clause-done
-returns-clause-done g c =
+pub returns : goal.returns
+returns g c =
     let p =
     passes_by c.args.self.now.state c.drop_next.new.self c.in_ok-read.read c.drop_next.new.chunk.items
     c.in_ok-read.ensures.ok in

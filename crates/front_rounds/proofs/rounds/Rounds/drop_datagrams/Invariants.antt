@@ -12,5 +12,4 @@ invariant-loop g l = record {
       × HaveDone (turns_of reads) l.fn.self.state l.self.state
       × AllByRecursion IsPassed reads × (length reads ≡ l.counter);
   few : l.counter ≤ 64;
-  reader : l.self.reader ≡ l.fn.self.reader;
 }

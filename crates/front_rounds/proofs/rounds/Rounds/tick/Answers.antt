@@ -2,8 +2,8 @@ use Rattle.std.proofs.Common.{◌∷◌, [], refl}
 use Rattle.front_rounds.specs.Turns.{looked, gave_ticks}
 use Rattle.front_rounds.proofs.rounds.Rounds.tick.Goals as goal
 
-pub returns-clause-done : goal.returns-clause-done
-returns-clause-done g c =
+pub returns : goal.returns
+returns g c =
     let now = c.in_ok-now.now in
     let due = c.tick.result in (
       looked now ∷ gave_ticks due now ∷ [],
