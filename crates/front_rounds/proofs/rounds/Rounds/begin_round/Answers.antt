@@ -3,12 +3,8 @@ use Rattle.versions.specs.Published.{ReaderOf}
 use Rattle.front_rounds.specs.Turns.{Turn, HaveDone}
 use Rattle.front_rounds.specs.Shapes.{AreRounds}
 use Rattle.front_rounds.proofs.TurnLemmas.{done_both}
-use Rattle.front_rounds.proofs.StepLemmas.{begin_all}
 use Rattle.front_rounds.proofs.LaneLemmas.{lanes_by_all, asker_by_all}
 use Rattle.front_rounds.proofs.rounds.Rounds.begin_round.Goals as goal
-
-pub returns-in-None-clause-run : goal.returns-in-None-clause-run
-returns-in-None-clause-run g c start k = (k.0, k.1, begin_all start.reader c.args.self.now.reader k.0 k.2)
 
 pub returns-in_err-may_wait-clause-run : goal.returns-in_err-may_wait-clause-run
 returns-in_err-may_wait-clause-run g c start k =

@@ -10,12 +10,12 @@ pub returns-in-Ok-clause-run : goal.returns-in-Ok-clause-run
 returns-in-Ok-clause-run g c start k =
     let a = c.args.self.now in
     let old = Some c.args.begun.reader in
-    let new = Some c.round.result.0 in
-    let r = c.round.ensures in
-    let one = on_ok c.round.result.1 _ c.in-Ok.is r.2 in
+    let new = Some c.round-reader.result.0 in
+    let r = c.round-reader.ensures in
+    let one = on_ok c.round-reader.result.1 _ c.in-Ok.is r.2 in
     let slept : List Turn = looked k.1 ∷ [] in (
       (k.0 ++ slept) ++ r.0,
-      done_both (k.0 ++ slept) r.0 start.history a.state c.round.new.self.state k.2 r.1,
+      done_both (k.0 ++ slept) r.0 start.history a.state c.round-reader.new.self.state k.2 r.1,
       subst (λ (l : List Turn). AreRounds start.reader new l) (sym (append_assoc k.0 slept r.0))
           (rounds_more start.reader old new k.0 slept r.0 k.1 c.args.notice k.3 refl one),
     )
@@ -23,21 +23,21 @@ returns-in-Ok-clause-run g c start k =
 pub returns-in-Err-clause-run : goal.returns-in-Err-clause-run
 returns-in-Err-clause-run g c start k =
     let a = c.args.self.now in
-    let r = c.round.ensures in
+    let r = c.round-reader.ensures in
     let slept : List Turn = looked k.1 ∷ [] in (
       (k.0 ++ slept) ++ r.0,
-      done_both (k.0 ++ slept) r.0 start.history a.state c.round.new.self.state k.2 r.1,
+      done_both (k.0 ++ slept) r.0 start.history a.state c.round-reader.new.self.state k.2 r.1,
       (k.0, slept ++ r.0, Some c.args.begun.reader, append_assoc k.0 slept r.0, k.3),
     )
 
 pub returns-in-Ok-clause-lanes : goal.returns-in-Ok-clause-lanes
-returns-in-Ok-clause-lanes g c = let d = c.round.ensures in lanes_by_all d.0 _ _ d.1
+returns-in-Ok-clause-lanes g c = let d = c.round-reader.ensures in lanes_by_all d.0 _ _ d.1
 
 pub returns-in-Err-clause-lanes : goal.returns-in-Err-clause-lanes
-returns-in-Err-clause-lanes g c = let d = c.round.ensures in lanes_by_all d.0 _ _ d.1
+returns-in-Err-clause-lanes g c = let d = c.round-reader.ensures in lanes_by_all d.0 _ _ d.1
 
 pub returns-in-Ok-clause-asker : goal.returns-in-Ok-clause-asker
-returns-in-Ok-clause-asker g c = let d = c.round.ensures in asker_by_all d.0 _ _ d.1
+returns-in-Ok-clause-asker g c = let d = c.round-reader.ensures in asker_by_all d.0 _ _ d.1
 
 pub returns-in-Err-clause-asker : goal.returns-in-Err-clause-asker
-returns-in-Err-clause-asker g c = let d = c.round.ensures in asker_by_all d.0 _ _ d.1
+returns-in-Err-clause-asker g c = let d = c.round-reader.ensures in asker_by_all d.0 _ _ d.1
