@@ -12,7 +12,8 @@ returns-in-Ok g c =
       owed c.args.notice ∷ (e.0 ++ w.0),
       (c.owe.new.self, c.owe.ensures, done_both e.0 w.0 _ _ _ e.1 w.1),
       on_ok_map c.wake-woken.result
-          (λ k. round_of c.args.notice (Some c.args.reader) (Some c.take_in-reader.result.0) e.0 w.0 entered k.0 k.1 k.2) w.2,
+          (λ k.
+          round_of c.args.notice (Some c.args.reader) (Some c.take_in-reader.result.0) e.0 w.0 entered k.0 k.1 k.2) w.2,
     )
 
 pub returns-in-Err : goal.returns-in-Err
