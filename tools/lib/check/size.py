@@ -1,4 +1,4 @@
-"""Holds a fleet of the size that OPERATING plans: real agents and a real etcd, and models in place of bridges.
+"""Holds a fleet of the size that its README plans: real agents and a real etcd, and models in place of bridges.
 
 45 bridges on nine machines have 2,500 rooms of four. 50 members a second join for a minute, and meanwhile one machine
 with its five bridges is killed, so that 40 bridges remain. Then the same with an etcd whose answers take 200 ms, with
