@@ -3,6 +3,7 @@ use Rattle.std.proofs.Common.{◌≡◌, ◌≤◌, ◌+◌, ℕ, Bool, true, fa
 use Rattle.std.proofs.Common.{Result, Ok, Err, OnOk, OnErr, IfOk, IsErr, refl, ap, sym, subst, ◌∙◌, arith}
 use Rattle.std.proofs.Common.{length-append, inr}
 use Rattle.std.specs.List.{AllByRecursion, flat_map}
+use Rattle.std.specs.Result.{MatchResult}
 use Rattle.std.proofs.lemmas.List.{append-nil, flat_map_more}
 use Rattle.std.proofs.lemmas.Fn.{FoldsTo-push}
 use Rattle.desk_rows.specs.Desk.{Desk}
@@ -43,6 +44,11 @@ err_if_ok P (Err b) wrong = tt {0}
 pub if_ok_map : {A B : Type 0} {P Q : A → Type 0} (r : Result A B) → ((x : A) → P x → Q x) → IfOk r P → IfOk r Q
 if_ok_map (Ok a) f k = f a k
 if_ok_map (Err b) f k = tt {0}
+
+-- of an error what holds in any case
+pub err_match : {A B C : Type 0} (P : A → Type 0) (r : Result A B) → IsErr r → C → MatchResult r P (λ fault. C)
+err_match P (Ok a) wrong k = absurd (cc (wrong))
+err_match P (Err b) wrong k = k
 
 -- what holds in any case holds on an error
 pub on_err : {A B C : Type 0} (r : Result A B) → C → OnErr r C

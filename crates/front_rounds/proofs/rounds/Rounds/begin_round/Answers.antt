@@ -3,12 +3,22 @@ use Rattle.versions.specs.Published.{ReaderOf}
 use Rattle.front_rounds.specs.Turns.{Turn, HaveDone}
 use Rattle.front_rounds.specs.Shapes.{AreRounds}
 use Rattle.front_rounds.proofs.TurnLemmas.{done_both}
-use Rattle.front_rounds.proofs.StepLemmas.{begin_all}
+use Rattle.front_rounds.proofs.StepLemmas.{begin_all, err_match}
 use Rattle.front_rounds.proofs.LaneLemmas.{lanes_by_all, asker_by_all}
 use Rattle.front_rounds.proofs.rounds.Rounds.begin_round.Goals as goal
 
 pub returns-in_default-clause-run : goal.returns-in_default-clause-run
 returns-in_default-clause-run g c start k = (k.0, k.1, begin_all start.reader c.args.self.now.reader k.0 k.2)
+
+pub returns-in_err-may_wait-clause-run : goal.returns-in_err-may_wait-clause-run
+returns-in_err-may_wait-clause-run g c start k =
+    let a = c.args.self.now in
+    let w = c.wait.ensures in
+    err_match _ c.from_residual.result c.from_residual.ensures.0 (
+      k.0 ++ w.0,
+      done_both k.0 w.0 start.history a.state c.wait.new.self k.1 w.1,
+      (k.0, w.0, a.reader, refl, k.2),
+    )
 
 pub returns-clause-run : goal.returns-clause-run
 returns-clause-run g c start k =
