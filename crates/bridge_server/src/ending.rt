@@ -76,6 +76,7 @@ fn media_in<H: DeskBrand + Setup, R: Wait + Clock + Drop>(
     ensures { IsSetUp H.who H.lanes H.start H.publisher result }
 {
     let Running { rounds, lanes: _ } = running;
+    let front = rounds.into_state();
     let FrontState {
         inlet: _,
         wire: _,
@@ -83,7 +84,7 @@ fn media_in<H: DeskBrand + Setup, R: Wait + Clock + Drop>(
         media,
         ticked: _,
         stats: _,
-    } = rounds.into_state();
+    } = front;
     media
 }
 
