@@ -142,6 +142,14 @@ class Browser:
         buttons = {"mouseReleased": 0}.get(kind, 1)
         self.ask("Input.dispatchMouseEvent", type=kind, x=x, y=y, button="left", buttons=buttons, clickCount=1)
 
+    def hovers(self, x, y):
+        """Moves the pointer, with no button held."""
+        self.ask("Input.dispatchMouseEvent", type="mouseMoved", x=x, y=y, button="none", buttons=0)
+
+    def touch(self, kind, *points):
+        """Touches points, moves there or lets go."""
+        self.ask("Input.dispatchTouchEvent", type=kind, touchPoints=[{"x": x, "y": y} for x, y in points])
+
     def place(self, selector):
         """Where an element is: its left and upper edge, its width and its height."""
         return self.run(

@@ -20,7 +20,7 @@ COUNTED = {
         {"address": "10.8.2.99:6000", "ssrc": 778, "payload_type": 96, "packets": 1},
     ],
 }
-SILENT = "[...document.querySelectorAll('#board .source.silent')].map((node) => node.dataset.source)"
+SILENT = "[...document.querySelectorAll('[data-room=\"8\"] .source.silent')].map((node) => node.dataset.source)"
 UNKNOWN = "[...document.querySelectorAll('#strangers li')].map((node) => node.textContent)"
 FIELDS = "['ssrc', 'member', 'kind'].map((name) => document.getElementById('add-source').elements[name].value)"
 

@@ -14,7 +14,7 @@ window.fill = (id, fields) => {
   form.requestSubmit();
 };
 window.press = (line) => {
-  const button = document.querySelector(`[data-key="${CSS.escape(line)}"]`);
+  const button = document.querySelector(`[data-line="${CSS.escape(line)}"],[data-key="${CSS.escape(line)}"]`);
   if (!button) throw new Error(`no ${line}`);
   button.click();
 };
@@ -88,10 +88,13 @@ STEPS = [
 ]
 
 
+# A press is sent so long after another's change of its object, in seconds, and not before.
+MEANT = 0.4
+
 # What a user does by keys: where Tab leads, and what is typed or pressed there.
 KEYS = [
     ("a room", "#line", "add-room 3", "Enter"),
-    ("an unmute", '[data-key="unmute 201"]', "", "Enter"),
+    ("an unmute", '[data-line="unmute 201"]', "", "Enter"),
     ("a move", 'select[data-key="move-member 10"]', "", "ArrowDown"),
     ("an undo", "#undo", "", "Enter"),
     ("a room of the form", '#add-room [name="room"]', "", "Enter"),
@@ -171,6 +174,7 @@ def undoes_others(browser, shown, told, ask):
             fail(f"another operator's `{words}` is refused")
         settles(browser, version)
         names_what_goes(browser, told, wanted)
+    time.sleep(MEANT)
     version += 1
     browser.run("document.getElementById('undo').click(); true")
     settles(browser, version)

@@ -6,6 +6,7 @@ import pathlib
 import statistics
 import time
 
+from lib.driving import MEANT
 from lib.shared import fail
 
 REST = 0.4
@@ -105,6 +106,7 @@ def keeps_what_is_typed(browser, ask):
     check(ask("unmute 202") == f"ok {before + 2}", "another operator's unmute is refused")
     browser.wait(f"desk.version === {before + 2}")
     browser.run("document.querySelector('#add-member [name=member]').value = '', true")
+    time.sleep(MEANT)
 
 
 def presses_keys(browser):

@@ -4,7 +4,7 @@ desk."""
 import pathlib
 import time
 
-from lib.driving import settles
+from lib.driving import MEANT, settles
 from lib.shared import fail
 
 
@@ -61,6 +61,7 @@ def keeps_the_desk(browser, folder, ask, shown, told):
     rooms = [row.split()[1] for row in before if row.startswith("room ")]
     ask("group " + " / ".join(f"remove-room {room}" for room in rooms))
     settles(browser, version + 1)
+    time.sleep(MEANT)
     for text in "group add-room 1\n", path.read_text().replace("group", "grouped", 1), "":
         bad = path.with_name("bad.txt")
         bad.write_text(text)
@@ -84,22 +85,28 @@ def keeps_the_desk(browser, folder, ask, shown, told):
 
 
 def shows_stale(browser, go, come):
-    """Once the bridge is gone, the desk is shown as stale and nothing of it can be pressed. `go` and `come` take the
-    bridge away and back."""
+    """Once the bridge is gone, the desk is shown as stale. All of it can be read, and what is pressed is refused in
+    words. `go` and `come` take the bridge away and back."""
     before = browser.run("desk.version")
+    browser.run("document.querySelector('[data-key=\"open 10\"]').focus(), true")
     go()
-    browser.wait("document.body.classList.contains('gone') && document.getElementById('main').inert")
+    browser.wait("document.body.classList.contains('gone')", 30)
     told = browser.run("document.getElementById('status').textContent")
-    check(
-        told.startswith("The bridge is gone.") and "as it was at" in told,
-        f"once the bridge is gone the page says {told}",
-    )
+    is_known = told.startswith(("The bridge is gone since", "No news since"))
+    check(is_known, f"once the bridge is gone the page says {told}")
+    check(browser.run("document.activeElement.dataset.key") == "open 10", "a bridge that goes takes the focus away")
+    for key, modifiers in ("m", 0), ("z", 2):
+        browser.run("closeNotice(), true")
+        browser.press(key, ord(key.upper()), modifiers=modifiers)
+        is_told(browser, "not sent. ")
+        is_told(browser, "Nothing is sent until it is back.")
     browser.click('[data-key="open 10"]')
-    browser.run("document.getElementById('undo').click(), true")
-    browser.press("z", 90, modifiers=2)
+    check(browser.run("document.querySelector('#detail .address') !== null"), "a stale member can't be opened")
+    check(browser.run("document.querySelectorAll('#calls li').length") > 0, "a stale page has no history")
     come()
-    browser.wait("!document.body.classList.contains('gone')")
-    check(browser.run("desk.version") == before, "a click on a stale desk has changed it")
+    browser.wait("document.getElementById('status').textContent === 'Live'", 30)
+    check(browser.run("desk.version") == before, "a press at a stale desk has changed it")
+    browser.hovers(2, 2)
 
 
 def finds_another(browser, other, shown, told):

@@ -3,9 +3,11 @@ bridge."""
 
 import http.server
 import json
+import os
 import pathlib
 import secrets
 import threading
+import time
 
 from lib.make.page import PARTS, TOKEN, WEB
 from lib.models.desk import Log
@@ -35,6 +37,13 @@ class Standin:
         self.log, self.token = Log(), secrets.token_hex(16)
         self.path, self.names, self.version = names and pathlib.Path(names), text, 0
         self.lock, self.is_gone, self.counted = threading.Lock(), False, None
+        self.pause = 0
+
+    def waits(self):
+        """Answers late, by a pause that may end earlier."""
+        end = time.monotonic() + self.pause
+        while time.monotonic() < min(end, time.monotonic() + self.pause):
+            time.sleep(0.02)
 
     def call(self, line, operator=0):
         """What the bridge answers to a line. The page is operator 0."""
@@ -69,7 +78,8 @@ class Standin:
             if self.path:
                 try:
                     part = self.path.with_name(self.path.name + ".new")
-                    part.write_text(text)
+                    with open(os.open(part, os.O_WRONLY | os.O_CREAT | os.O_TRUNC, 0o600), "w") as file:
+                        file.write(text)
                     part.rename(self.path)
                 except OSError:
                     return f"no {self.version} Unsaved"
@@ -114,6 +124,7 @@ def handler_of(standin):
             self.wfile.write(body)
 
         def do_GET(self):
+            standin.waits()
             if standin.file(self.path):
                 return self.tell(200, *standin.file(self.path))
             if self.path == "/names":
@@ -137,6 +148,7 @@ def handler_of(standin):
 
         def do_POST(self):
             body = self.rfile.read(int(self.headers["Content-Length"])).decode()
+            standin.waits()
             if self.headers["X-Desk-Token"] != standin.token:
                 return self.tell(403, "NoToken: load the page again, its token is of an earlier run\n")
             if self.path == "/names" and body.split(" ")[0] != "names":

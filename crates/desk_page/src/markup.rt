@@ -20,26 +20,27 @@ pub(crate) const HTML_AFTER: &[u8] = br##"">
   <h1>Desk</h1>
   <p id="status" role="status" aria-live="polite">Asking the bridge</p>
   <div class="finding" role="search">
-    <label>Search <input id="search" type="search" autocomplete="off" placeholder="name, number or address"
-      aria-keyshortcuts="/"></label>
-    <label>Sort <select id="sort"><option value="number">by number</option><option value="name">by name</option>
+    <label><span>Search</span> <input id="search" type="search" autocomplete="off"
+      placeholder="name, number or address" aria-keyshortcuts="/"></label>
+    <label><span>Sort</span> <select id="sort"><option value="trouble">by trouble</option>
+      <option value="number">by number</option><option value="name">by name</option>
       <option value="members">by members</option></select></label>
     <button id="fold" type="button">Fold all</button>
   </div>
   <div class="history-buttons" id="history-buttons">
-    <button id="undo" type="button" aria-keyshortcuts="Control+Z" disabled>Undo</button>
-    <button id="redo" type="button" aria-keyshortcuts="Control+Shift+Z" disabled>Redo</button>
+    <button id="undo" type="button" data-key="undo" aria-keyshortcuts="Control+Z" disabled>Undo</button>
+    <button id="redo" type="button" data-key="redo" aria-keyshortcuts="Control+Shift+Z" disabled>Redo</button>
   </div>
+  <div id="sum" role="group" aria-label="The whole bridge"></div>
 </header>
-<p id="notice" role="alert" hidden></p>
 <main id="main">
   <section id="rooms" aria-labelledby="rooms-title">
-    <h2 id="rooms-title">Rooms</h2>
-    <div id="selected" role="group" aria-label="Selected members" hidden></div>
+    <div id="bar"><h2 id="rooms-title">Rooms</h2><button id="waiting" type="button" hidden></button>
+      <div id="selected" role="group" aria-label="Selected members" hidden></div></div>
     <div id="board"></div>
     <p id="nothing" class="soft" hidden></p>
   </section>
-  <aside>
+  <aside id="aside">
     <section id="detail" aria-labelledby="detail-title" hidden></section>
     <section id="unknown" aria-labelledby="unknown-title" hidden>
       <h2 id="unknown-title">Unknown senders</h2>
@@ -97,10 +98,13 @@ pub(crate) const HTML_AFTER: &[u8] = br##"">
       <h2 id="keys-title">Keys</h2>
       <dl class="keys"><dt>/</dt><dd>search</dd><dt>Up, Down</dt><dd>another member</dd>
         <dt>Enter</dt><dd>open a member</dd><dt>Space</dt><dd>select a member</dd><dt>m</dt><dd>mute, unmute</dd>
+        <dt>n</dt><dd>the next member in trouble</dd>
         <dt>Ctrl+Z</dt><dd>undo</dd><dt>Ctrl+Shift+Z</dt><dd>redo</dd></dl>
     </section>
   </aside>
 </main>
+<footer><p id="notice" role="status" hidden></p><button id="close-notice" type="button" hidden>Close</button>
+  <p id="news" role="status"></p></footer>
 <dialog id="ask" aria-labelledby="ask-title"><form method="dialog"><h2 id="ask-title"></h2><p id="ask-text"></p>
   <label id="ask-label" hidden><span>Name</span> <input id="ask-input" autocomplete="off" dir="auto"></label>
   <p class="buttons"><button id="ask-yes" value="yes">Yes</button>

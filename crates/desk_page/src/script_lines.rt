@@ -1,5 +1,5 @@
 //! What the page makes of the bridge's texts, and the lines that clicks send.
-//! `tools/bridge make page` writes this file from lines.js, overview.js, kept.js, stats.js, history.js in web/.
+//! `tools/bridge make page` writes this file from lines.js, overview.js, kept.js, stats.js, rules.js, history.js in web/.
 
 /// The first part of the page's script.
 pub(crate) const LINES: &[u8] = br##""use strict";
@@ -344,17 +344,19 @@ function memberFits(desk, names, member, words) {
   return fits(words, [member.member, name, member.address, member.mix, ...ssrcs, ...slots]);
 }
 
-// The rooms with the members that are shown: all of a room that fits itself, and otherwise those that fit.
-function overview(desk, names, search, sort) {
+// The rooms with the members that are shown: all of a room that fits itself, and otherwise those that fit. Where only
+// some are counted, rooms without one are left out. `placeOf` is a room's place among those with trouble.
+function overview(desk, names, search, sort, isShown = null, placeOf = () => 0) {
   const words = wordsOf(search);
+  const roomFits = (room) => words.length === 0 || fits(words, [`room ${room}`, nameOf(names, "room", room)]);
   const found = desk.rooms.map((room) => {
-    const members = membersIn(desk, room);
-    if (fits(words, [`room ${room}`, nameOf(names, "room", room)])) return { room, members };
-    return { room, members: members.filter((member) => memberFits(desk, names, member, words)) };
-  }).filter(({ room, members }) => members.length > 0 || fits(words, [`room ${room}`, nameOf(names, "room", room)]));
+    const counted = isShown ? membersIn(desk, room).filter(isShown) : membersIn(desk, room);
+    if (roomFits(room)) return { room, members: counted };
+    return { room, members: counted.filter((member) => memberFits(desk, names, member, words)) };
+  }).filter(({ room, members }) => members.length > 0 || (!isShown && roomFits(room)));
   const text = ({ room }) => nameOf(names, "room", room).toLowerCase() || "\uffff";
   const order = { number: (a, b) => a.room - b.room, members: (a, b) => b.members.length - a.members.length,
-    name: (a, b) => text(a).localeCompare(text(b)) };
+    name: (a, b) => text(a).localeCompare(text(b)), trouble: (a, b) => placeOf(a.room) - placeOf(b.room) };
   return found.sort((a, b) => order[sort](a, b) || a.room - b.room);
 }
 
@@ -440,21 +442,27 @@ function groupsIn(text) {
 
 // A source from which nothing has come for so long is silent, in milliseconds.
 const SILENT = 2000;
-// The share of packets that were lost, from which a source loses many.
-const LOSSY = 0.02;
+// A source begins to lose many at more than this share of the last 10 s, and ceases below that one. A count comes each
+// 2 s.
+const LOSSY = 0.02, FAIR = 0.01, COUNTS = 6;
 // The payload types of sound: PCMU and the two of L16 (RFC 3551).
 const SOUND_TYPES = [0, 10, 11];
 
-// Whether a source has lost many packets since the count before. One that began anew is counted from its beginning.
-function losesMany(one, before) {
-  const since = before && before.expected <= one.expected ? before : { expected: 0, lost: 0 };
-  return one.lost - since.lost > LOSSY * (one.expected - since.expected);
+// What a source has lost of late: its share, whether that is much, and the counts that tell it. One that began anew is
+// counted from its beginning.
+function lossOf(one, before) {
+  const isAnew = !before || before.expected > one.expected;
+  const counts = [...(isAnew ? [{ expected: 0, lost: 0 }] : before.counts), { expected: one.expected, lost: one.lost }];
+  const [first] = counts.slice(-COUNTS), expected = one.expected - first.expected, lost = one.lost - first.lost;
+  const share = expected > 0 ? Math.max(0, lost) / expected : 0;
+  const isLossy = before?.isLossy && !isAnew ? share >= FAIR : share > LOSSY;
+  return { counts: counts.slice(-COUNTS), share, isLossy };
 }
 
 // The counts of sources by address and SSRC, and the senders that are no source. `before` is the count before, if any.
 function parseStats(text, before = null) {
   const told = JSON.parse(text), keyed = (told.sources ?? []).map((one) => [`${one.address} ${one.ssrc}`, one]);
-  for (const [key, one] of keyed) one.isLossy = losesMany(one, before?.sources.get(key));
+  for (const [key, one] of keyed) Object.assign(one, lossOf(one, before?.sources.get(key)));
   return { sources: new Map(keyed), strangers: told.strangers ?? [] };
 }
 
@@ -481,7 +489,9 @@ function isLossy(stats, desk, ssrc) {
 function countInWords(count) {
   if (count === null) return "";
   if (count.ago_ms === null) return "no packet came";
-  return `${count.packets} packets, ${count.lost} lost, the last one ${agoInWords(count.ago_ms)}`;
+  const late = count.share > 0 ? `, ${(100 * count.share).toFixed(1)} percent of late` : "";
+  const jitter = typeof count.jitter_ms === "number" ? `, jitter ${count.jitter_ms} ms` : "";
+  return `${count.packets} packets, ${count.lost} lost${late}${jitter}, the last one ${agoInWords(count.ago_ms)}`;
 }
 
 // The rooms of the sources that fell silent or began to lose many packets between two counts, or ceased to.
@@ -504,6 +514,113 @@ function strangersIn(stats, desk) {
   const isOf = (ssrc, address) => memberOf(desk, sourceOf(desk, ssrc)?.member)?.address === address;
   const unknown = (stats?.strangers ?? []).filter(({ ssrc, address }) => !isOf(ssrc, address));
   return unknown.map((one) => strangerOf(desk, one));
+}
+
+// The rules of the page: what stays in its place, when a press is meant, and who is in trouble. No function touches the
+// page.
+
+// A press is refused for so long after another's change of its object, or after places have changed, in milliseconds.
+const JUST = 300;
+// So long after the last news the page is late, and after that gone.
+const LATE = 4000, GONE = 10000;
+// For so long rooms by trouble keep their order, and who ceases to fit a filter stays.
+const SETTLED = 5000;
+
+// The objects that a row of the desk is about, as `member 10`.
+function objectsOfRow(row) {
+  const [kind, first, second, third] = row.split(" ");
+  if (kind === "member") return [`member ${second}`, `room ${third}`];
+  if (kind === "source" || kind === "slot") return [`${kind} ${first}`, `member ${second}`];
+  if (kind === "mute") return [`source ${first}`];
+  if (kind === "sub") return [`slot ${first}`];
+  return [kind === "gain" ? `gain ${first} ${second}` : `${kind} ${first}`];
+}
+// The objects that a line is about. What an undo takes back may be anything.
+const ABOUT = { "add-room": "room", "remove-room": "room", "add-member": "member", "move-member": "member",
+  "remove-member": "member", "add-source": "source", "remove-source": "source", "add-slot": "slot",
+  "remove-slot": "slot", subscribe: "slot", unsubscribe: "slot", pin: "pin", unpin: "pin", "give-floor": "floor",
+  "take-floor": "floor", mute: "source", unmute: "source", undo: "history", redo: "history" };
+function objectsOfLine(line) {
+  return line.replace(/^group /, "").split(" / ").map((part) => {
+    const [verb, first, second] = part.split(" ");
+    if (verb === "set-gain") return `gain ${first} ${second}`;
+    return ABOUT[verb] === "history" ? "history" : `${ABOUT[verb] ?? verb} ${first}`;
+  });
+}
+
+// The objects that others have changed between two versions of the desk, by the rows that went and came. `mine` are the
+// versions that this page's calls made, and `sent` those of its lines that may have come meanwhile; `waiting` of these
+// have no answer yet.
+function othersObjects(before, after, rows, mine, sent, waiting) {
+  let others = 0;
+  for (let version = before + 1; version <= after; version += 1) if (!mine.has(version)) others += 1;
+  if (others <= waiting) return [];
+  const own = new Set(sent.flatMap(objectsOfLine)), moved = new Map(), plain = (row) => row.slice(2);
+  // A member's place may shift: then its row goes and comes, and nothing of it has changed.
+  const still = (row) => plain(row).replace(/^member [0-9]+ /, "member ");
+  for (const row of rows) moved.set(still(row), (moved.get(still(row)) ?? 0) + 1);
+  const objects = rows.filter((row) => moved.get(still(row)) === 1).flatMap((row) => objectsOfRow(plain(row)));
+  return ["history", ...new Set(objects)].filter((object) => !own.has(object));
+}
+
+// Places. A plan says which rooms are drawn, in which order, and which members in each.
+const placesOf = (plan) => plan.map(({ room, members }) => `${room} ${members.join()}`);
+const keysOf = (plan) => plan.flatMap(({ room, members }) => [`room ${room}`, ...members.map((m) => `${room} ${m}`)]);
+// How many changes of place lie between two plans.
+function placeChanges(before, after) {
+  const had = new Set(keysOf(before)), has = new Set(keysOf(after));
+  const count = [...had].filter((key) => !has.has(key)).length + [...has].filter((key) => !had.has(key)).length;
+  return count || Number(placesOf(before).join("/") !== placesOf(after).join("/"));
+}
+// Things in the places that they had: those that are there still as they are now, and the others with a mark.
+function inOldPlaces(before, now, key) {
+  const found = new Map(now.map((one) => [one[key], one]));
+  return before.map((one) => found.get(one[key]) ?? { ...one, hasLeft: true });
+}
+
+// What troubles a member: nothing comes of a source, many packets are lost, or it has the floor and is muted.
+function troubleOf(desk, stats, member) {
+  const sources = sourcesOf(desk, member.member);
+  if (sources.some((s) => isSilent(stats, desk, s.ssrc))) return "silent";
+  if (sources.some((s) => isLossy(stats, desk, s.ssrc))) return "losing";
+  const isOdd = desk.floors.get(member.room) === member.member && isMuted(desk, member.member);
+  return isOdd ? "muted floor" : "";
+}
+const WEIGHTS = { "": 0, "muted floor": 1, losing: 2, silent: 2 };
+function isMuted(desk, member) {
+  const voices = sourcesOf(desk, member, "audio");
+  return voices.length > 0 && voices.every((s) => desk.mutes.has(s.ssrc));
+}
+// Whether a member is one of those that a number counts.
+function isCounted(desk, stats, filter, member) {
+  return filter === "muted" ? isMuted(desk, member.member) : troubleOf(desk, stats, member) === filter;
+}
+// What is counted of members: those of a room, or of the whole bridge.
+function tallyOf(desk, stats, members) {
+  const tally = { members: members.length, silent: 0, losing: 0, muted: 0, weight: 0 };
+  for (const member of members) {
+    const trouble = troubleOf(desk, stats, member);
+    if (trouble in tally) tally[trouble] += 1;
+    if (isMuted(desk, member.member)) tally.muted += 1;
+    tally.weight += WEIGHTS[trouble];
+  }
+  return tally;
+}
+
+// What the page knows of its link, in words. `quiet` is how long ago the last news came, in milliseconds, `since` when
+// that was, and `told` what the program says of its bridge: "", "bridge" or "seats".
+function linkOf(told, quiet) {
+  if (told) return told;
+  if (quiet > GONE) return "gone";
+  return quiet > LATE ? "late" : "live";
+}
+function linkInWords(link, quiet, since) {
+  if (link === "live") return "Live";
+  if (link === "late") return `Late: last news ${Math.floor(quiet / 1000)} s ago`;
+  if (link === "bridge") return `The bridge is gone${since ? ` since ${since}` : ""}. Looking \u2026`;
+  if (link === "seats") return `All seats are taken${since ? ` since ${since}` : ""}. Looking \u2026`;
+  if (link === "gone") return `No news ${since ? `since ${since}` : "yet"}. Looking \u2026`;
+  return "Asking the bridge";
 }
 
 // The history of calls, as the bridge tells it. No function touches the page.
@@ -568,6 +685,7 @@ if (typeof module !== "undefined") {
     movedAll, goesAlong, changedRooms, nameRefusal, parseDesk, isMusic, roomsFor, codecOf, seen, videosFor, heard,
     lines, dropped, free, suggested, inWords, replyInWords, noDeskInWords, parseHistory, worded, wayTo, wayWords,
     changes, keptText, groupsIn, parseStats, agoInWords, isSilent, isLossy, countOf, countInWords, turnedRooms,
-    strangersIn };
+    strangersIn, objectsOfRow, objectsOfLine, othersObjects, placeChanges, inOldPlaces, troubleOf, tallyOf, isCounted,
+    linkOf, linkInWords };
 }
 "##;

@@ -21,15 +21,21 @@ const code = (text) => el("code", {}, text);
 // A name may run from right to left, so that it stands by itself.
 const bdi = (text) => el("bdi", {}, text);
 
-// A button that sends a line, which it shows when it is pointed at or reached by Tab. `what` tells its object.
-function sends(text, line, what, kind = "") {
-  return el("button", { type: "button", class: `small ${kind}`, title: line, "data-key": line, "data-line": line,
-    "aria-label": `${text} ${what}` }, text);
+// The controls that were pressed and have no answer yet, by their keys: each with its line, and the version as which it
+// was accepted, or 0.
+const waits = new Map();
+const busy = (key) => (waits.has(key) ? "true" : null);
+
+// A button that sends a line, which it shows when it is pointed at or reached by Tab. `what` tells its object. A button
+// that has another line after it was pressed keeps its key.
+function sends(text, line, what, kind = "", key = line) {
+  return el("button", { type: "button", class: `small ${kind}`, title: line, "data-key": key, "data-line": line,
+    "aria-label": `${text} ${what}`, "aria-busy": busy(key) }, text);
 }
 // A button that the page acts on itself.
 function does(text, act, of, what, more = {}) {
   return el("button", { type: "button", class: "small", "data-key": `${act} ${of}`, "data-act": act, "data-of": of,
-    "aria-label": `${text} ${what}`, ...more }, text);
+    "aria-label": `${text} ${what}`, "aria-busy": busy(`${act} ${of}`), ...more }, text);
 }
 // A choice that sends the line `PREFIX CHOSEN`, or hands what is chosen to an act. It is filled once it is opened.
 function chooses(text, what, key, more) {
@@ -37,9 +43,11 @@ function chooses(text, what, key, more) {
     el("option", { value: "" }, text));
 }
 
-// Whether an operator is at a field just now.
-const touched = new Set();
-const isBusy = (node) => node === document.activeElement || touched.has(node.dataset.key);
+// The sliders that an operator holds, or moved by a key just now, by their keys: the gain that each had then, and the
+// one that was sent. One that another operator has changed meanwhile is lost, and follows the desk.
+const touched = new Map();
+const isBusy = (node) => (node.type === "range" ? touched.get(node.dataset.key)?.isLost === false :
+  node === document.activeElement);
 
 // Makes a node look like another one, and keeps all of it that is so already.
 function morph(node, next) {
@@ -96,6 +104,7 @@ function drawList(node, items, draw) {
       morph(entry.node, draw(item));
       entry.look = look;
     }
+    if (item.model) entry.model = item.model;
     if (entry.node === place) place = place.nextElementSibling;
     else node.insertBefore(entry.node, place);
     drawn.set(item.key, entry);
@@ -115,98 +124,120 @@ function fate({ isSilent: silent, isLossy: lossy }) {
   if (silent) return { mark: " silent", words: "no packet comes" };
   return lossy ? { mark: " lossy", words: "over 2 percent of the packets are lost" } : { mark: "", words: null };
 }
+// A member's state: a sign, a class and words.
+const STATES = { silent: ["\u2716", "silent", "silent: no packet comes"],
+  losing: ["\u26a0", "losing", "losing over 2 percent of its packets"],
+  "muted floor": ["\u25cf", "floor-muted", "has the floor and is muted"] };
 
-// A member's line of the overview.
+// A member's line of the overview. One that has left stays in its place as long as places are held.
 function memberRow({ model, room }) {
-  const { member, name, floor, muted, odd, hasAudio, isOpen, isChosen, isHere } = model;
-  const who = spoken(name, "member", member);
+  const { member, name, floor, muted, odd, hasAudio, isOpen, isChosen, isHere, trouble, left, isFresh } = model;
+  const who = spoken(name, "member", member), [sign, state, words] = STATES[trouble] ?? ["", "", ""];
+  const short = name ? [bdi(name), soft(` ${member}`)] : [`member ${member}`];
   const sent = model.sends.flatMap((s, place) => [place ? ", " : null,
     el("span", { class: `source${s.muted ? " muted" : ""}${fate(s).mark}`,
-      title: fate(s).words, draggable: s.kind === "video" ? "true" : null,
+      title: fate(s).words, draggable: s.kind === "video" && !left ? "true" : null,
       "data-source": s.ssrc }, `${s.kind} ${labelled(s.name, s.ssrc)}`)]);
   const seenWords = model.sees.map((s) => (s.source === null ? "nothing" : s.label)).join(", ");
-  return el("div", { class: `member${odd ? " odd" : ""}${isOpen ? " open" : ""}`, role: "listitem", draggable: "true",
-    "data-member": member, "data-room-of": room, "data-key": `member ${member}` },
-    el("label", { class: "pick" }, el("input", { type: "checkbox", tabindex: -1, "data-select": member,
+  const off = left ? { "aria-disabled": "true" } : {};
+  const looks = [odd && " odd", trouble && " trouble", isOpen && " open", left && " left", isFresh && " fresh"];
+  return el("div", { class: `member${looks.filter(Boolean).join("")}`, role: "listitem",
+    draggable: left ? null : "true", "data-member": member, "data-room-of": room, "data-key": `member ${member}` },
+    el("span", { class: `state ${state}`, title: words || null, "aria-hidden": "true" }, sign),
+    el("label", { class: "pick" }, el("input", { type: "checkbox", tabindex: -1, "data-select": member, ...off,
       checked: isChosen, "aria-label": `Select ${who}` })),
     el("button", { type: "button", class: "who", tabindex: isHere ? 0 : -1, "data-act": "open", "data-of": member,
-      "data-key": `open ${member}`, "aria-expanded": String(isOpen), "aria-label": `Open ${who}` },
-      ...titled(name, "member", member)),
+      "data-key": `open ${member}`, "aria-expanded": String(isOpen), ...off,
+      "aria-label": `Open ${name ? `${name} ${member}` : who}${words && `, ${words}`}${left ? `, ${left}` : ""}` },
+      ...short),
     el("span", { class: "sends soft" }, ...(sent.length ? sent : ["sends nothing"])),
-    el("span", { class: "sees soft" }, model.sees.length ? `sees ${seenWords}` : ""),
-    el("span", {}, floor ? el("span", { class: `tag${odd ? " bad" : ""}` }, odd ? "floor, muted" : "floor") : "",
-      muted && !floor ? el("span", { class: "tag bad" }, "muted") : ""),
-    hasAudio ? does(muted ? "Unmute" : "Mute", "toggle", member, who, { tabindex: -1, "aria-keyshortcuts": "m" }) :
-      el("span", {}));
+    el("span", { class: "sees soft" }, left || (model.sees.length ? `sees ${seenWords}` : "")),
+    el("span", { class: "says" }, floor ? el("span", { class: `tag${odd ? " bad" : ""}` },
+      odd ? "floor, muted" : "floor") : "", muted && !floor ? el("span", { class: "tag bad" }, "muted") : ""),
+    hasAudio ? does(muted ? "Unmute" : "Mute", "toggle", member, who,
+      { tabindex: -1, "aria-keyshortcuts": "m", ...off }) : el("span", {}));
 }
 
-// A room of the overview: its head, and a list for its members.
+// A room of the overview: its head, and a list for its members. All of the head has its place, whatever is said there.
 function roomHead(model) {
-  const { room, name, isFolded, floor, pin } = model, what = spoken(name, "room", room);
-  const people = `${model.members} member${model.members === 1 ? "" : "s"}`;
-  const counts = model.muted ? `${people}, ${model.muted} muted` : people;
-  return el("div", { class: `head${model.odd ? " odd" : ""}` },
+  const { room, name, isFolded, floor, pin, left, tally } = model, what = spoken(name, "room", room);
+  const off = left ? { "aria-disabled": "true" } : {};
+  const many = `${model.members} member${model.members === 1 ? "" : "s"}`;
+  const counts = [["silent", "warn"], ["losing", "warn"], ["muted", ""]].flatMap(([key, kind]) => (tally[key] ?
+    [", ", el("b", { class: kind }, `${tally[key]} ${key}`)] : []));
+  return el("div", { class: `head${model.odd ? " odd" : ""}${left ? " left" : ""}` },
     el("button", { type: "button", class: "fold", "data-act": "fold", "data-of": room, "data-key": `fold ${room}`,
-      "aria-expanded": String(!isFolded), "aria-label": `${isFolded ? "Unfold" : "Fold"} ${what}` },
+      "aria-expanded": String(!isFolded), "aria-label": `${isFolded ? "Unfold" : "Fold"} ${what}`, ...off },
       isFolded ? "\u25b8" : "\u25be"),
     el("h3", { id: `room-${room}` }, ...titled(name, "room", room)),
-    model.music ? el("span", { class: "soft rate" }, `${MUSIC} Hz`) : "",
-    el("span", { class: "soft grow count" }, counts),
-    pin ? el("span", { class: "tag" }, bdi(pin.label), " is pinned") : "",
-    pin ? sends("Unpin", lines.unpin(room), `${pin.label} in ${what}`) : "",
-    floor ? el("span", { class: `tag${model.odd ? " bad" : ""}` }, "floor: ", bdi(floor.label),
-      model.odd ? ", muted" : "") : "",
-    floor ? sends("Take floor", lines.takeFloor(room), `from ${floor.label} in ${what}`) : "",
-    does("Name", "name", `room ${room}`, what),
-    does("Remove room", "remove-room", room, what, { class: "small danger", title: lines.removeRoom(room) }));
+    el("span", { class: "soft count" }, model.music ? el("span", { class: "rate" }, `${MUSIC} Hz`) : "",
+      model.music ? ", " : "", left || many, ...(left ? [] : counts)),
+    el("span", { class: "held" },
+      pin ? el("span", { class: "tag", title: `${pin.label} is pinned` }, bdi(pin.label), " is pinned") : "",
+      pin && !left ? sends("Unpin", lines.unpin(room), `${pin.label} in ${what}`) : ""),
+    el("span", { class: "held" },
+      floor ? el("span", { class: `tag${model.odd ? " bad" : ""}`, title: `floor: ${floor.label}` }, "floor: ",
+        bdi(floor.label), model.odd ? ", muted" : "") : "",
+      floor && !left ? sends("Take floor", lines.takeFloor(room), `from ${floor.label} in ${what}`) : ""),
+    does("Name", "name", `room ${room}`, what, { class: "small quiet", ...off }),
+    does("Remove", "remove-room", room, what,
+      { class: "small danger quiet", title: lines.removeRoom(room), ...off }));
 }
 function roomCard({ model }) {
-  return el("section", { class: "room", "data-room": model.room, "data-key": `room ${model.room}`,
-    "aria-labelledby": `room-${model.room}` }, roomHead(model),
-    el("div", { class: "members", role: "list", "data-key": `members ${model.room}`, hidden: model.isFolded,
-      "aria-label": `Members of ${spoken(model.name, "room", model.room)}` }));
+  const { room, name, isFolded, isEmpty } = model;
+  return el("section", { class: "room", "data-room": room, "data-key": `room ${room}`,
+    "aria-labelledby": `room-${room}` }, roomHead(model),
+    el("div", { class: "members", role: "list", "data-key": `members ${room}`, hidden: isFolded && isEmpty,
+      "aria-label": `Members of ${spoken(name, "room", room)}` }));
 }
 
-// The panel of one member.
-function gainRow(member, who, { ssrc, gain, label }) {
-  const line = lines.setGain(member, ssrc, "");
-  return el("div", { class: "row", "data-key": `gain row ${ssrc}` },
-    el("span", { class: "what grow" }, bdi(label), soft(` x${(gain / 256).toFixed(2)}`)),
+// The panel of one member. Each thing has its buttons at the right, in places of their own.
+function gainRow(member, who, { ssrc, gain, label, hasLeft }) {
+  const line = lines.setGain(member, ssrc, ""), off = hasLeft ? { disabled: true } : {};
+  return el("div", { class: `row slider${hasLeft ? " left" : ""}`, "data-key": `gain row ${ssrc}` },
+    el("span", { class: "what" }, bdi(label), soft(` x${(gain / 256).toFixed(2)}`)),
     el("input", { type: "range", min: 0, max: 1024, step: 32, value: gain, "data-key": `gain ${member} ${ssrc}`,
-      "data-gain": line, "aria-label": `Gain of ${label} for ${who}`, title: `${line}${gain}` }),
+      "data-gain": line, "aria-label": `Gain of ${label} for ${who}`, title: `${line}${gain}`, ...off }),
     sends("Reset", lines.setGain(member, ssrc, 256), `the gain of ${label} for ${who}`));
 }
 function sourceRow(room, source) {
-  const { ssrc, kind, muted, name, isPinned, count } = source;
-  const what = `${kind} ${labelled(name, ssrc)}`;
-  return el("div", { class: "row", "data-key": `source row ${ssrc}` },
-    el("span", { class: `what grow source${muted ? " muted" : ""}${fate(source).mark}`, "data-source": ssrc,
-      draggable: kind === "video" ? "true" : null }, `${kind} `, bdi(labelled(name, ssrc))),
-    count ? el("span", { class: "soft counted" }, count) : "",
-    muted ? sends("Unmute", lines.unmute(ssrc), what) : sends("Mute", lines.mute(ssrc), what),
-    kind === "video" && !isPinned ? sends("Pin", lines.pin(room, ssrc), what) : "",
-    does("Name", "name", `source ${ssrc}`, what),
-    sends("Remove", lines.removeSource(ssrc), what, "danger"));
+  const { ssrc, kind, muted, name, isPinned, count, hasLeft } = source;
+  const what = `${kind} ${labelled(name, ssrc)}`, isVideo = kind === "video";
+  const pin = isPinned ? sends("Unpin", lines.unpin(room), what, "", `pin-of ${ssrc}`) :
+    sends("Pin", lines.pin(room, ssrc), what, "", `pin-of ${ssrc}`);
+  return el("div", { class: `row${hasLeft ? " left" : ""}`, "data-key": `source row ${ssrc}` },
+    el("span", { title: what, class: `what source${muted ? " muted" : ""}${fate(source).mark}`, "data-source": ssrc,
+      draggable: isVideo && !hasLeft ? "true" : null }, `${kind} `, bdi(labelled(name, ssrc))),
+    el("span", { class: "acts" },
+      muted ? sends("Unmute", lines.unmute(ssrc), what, "", `mute-of ${ssrc}`) :
+        sends("Mute", lines.mute(ssrc), what, "", `mute-of ${ssrc}`),
+      isVideo ? pin : "",
+      does("Name", "name", `source ${ssrc}`, what),
+      sends("Remove", lines.removeSource(ssrc), what, "danger")),
+    count ? el("span", { class: "soft counted" }, count) : "");
 }
-function slotRow({ slot, index, source, label, by: rule, why, isSubscribed }) {
+function slotRow({ slot, index, source, label, by: rule, why, isSubscribed, hasLeft }) {
   const word = { sub: "subscribed", pin: "by the pin", floor: "by the floor" }[rule];
-  return el("div", { class: "row slot", "data-slot": slot, "data-key": `slot row ${slot}` },
-    el("span", { class: "what grow" }, `slot ${index} `, soft(`(${slot}): `),
+  return el("div", { class: `row slot${hasLeft ? " left" : ""}`, "data-slot": slot, "data-key": `slot row ${slot}` },
+    el("span", { class: "what" }, `slot ${index} `, soft(`(${slot}): `),
       ...(source === null ? [soft(`nothing, ${why}`)] : [bdi(label), soft(` ${word}`)])),
-    chooses("Subscribe", `slot ${slot}`, `subscribe ${slot}`),
-    isSubscribed ? sends("Unsubscribe", lines.unsubscribe(slot), `slot ${slot}`) : "",
-    sends("Remove", lines.removeSlot(slot), `slot ${slot}`, "danger"));
+    el("span", { class: "acts" },
+      isSubscribed ? sends("Unsubscribe", lines.unsubscribe(slot), `slot ${slot}`) : "",
+      chooses("Subscribe", `slot ${slot}`, `subscribe ${slot}`),
+      sends("Remove", lines.removeSlot(slot), `slot ${slot}`, "danger")));
 }
 function detailPanel(model) {
-  const { member, name, room, roomLabel } = model, who = spoken(name, "member", member);
+  const { member, name, room, roomLabel, left } = model, who = spoken(name, "member", member);
   const part = (title, rows, none) => [el("h3", { "data-key": title }, title), ...(rows.length ? rows : [soft(none)])];
-  return el("section", { id: "detail", "aria-labelledby": "detail-title", "data-member-open": member },
-    el("div", { class: "row" }, el("h2", { id: "detail-title", class: "grow" }, ...titled(name, "member", member)),
+  return el("section", { id: "detail", class: left ? "left" : null, "aria-labelledby": "detail-title",
+    "data-member-open": member },
+    el("div", { class: "title" }, el("h2", { id: "detail-title" }, ...titled(name, "member", member)),
       does("Name", "name", `member ${member}`, who), does("Close", "close", member, who)),
-    el("div", { class: "soft address" }, "in ", bdi(roomLabel), `, ${model.address} ${model.codec}, mix ${model.mix}`),
-    el("div", { class: "row" },
-      model.floor ? sends("Take floor", lines.takeFloor(room), `from ${who}`) :
-        sends("Give floor", lines.giveFloor(room, member), `to ${who}`),
+    el("div", { class: "soft address" }, "in ", bdi(roomLabel), `, ${model.address} ${model.codec}, mix ${model.mix}`,
+      left ? `, ${left}` : ""),
+    el("div", { class: "acts" },
+      model.floor ? sends("Take floor", lines.takeFloor(room), `from ${who}`, "", `floor-of ${member}`) :
+        sends("Give floor", lines.giveFloor(room, member), `to ${who}`, "", `floor-of ${member}`),
       chooses("Move to room", who, `move-member ${member}`),
       model.others ? does("Mute all others", "mute-others", member, `of the room of ${who}`) : "",
       sends("Remove", lines.removeMember(member), who, "danger")),
@@ -217,16 +248,17 @@ function detailPanel(model) {
 }
 
 // An unknown sender, and a button that fills in the form to add it.
-function strangerItem({ model: { address, ssrc, type, packets, member, isElsewhere } }) {
+function strangerItem({ model: { address, ssrc, type, packets, member, isElsewhere, hasLeft } }) {
   const whose = member === null ? "no member has this address" : `the address of member ${member}`;
   const known = isElsewhere ? `source ${ssrc} is declared at another address` : whose;
-  return el("li", {}, `${address} `, soft(`SSRC ${ssrc}, type ${type}, ${packets} packets, ${known}`), " ",
-    isElsewhere ? "" : does("Add as a source", "take-stranger", ssrc, `${ssrc} from ${address}`));
+  return el("li", { class: hasLeft ? "left" : null }, `${address} `,
+    soft(`SSRC ${ssrc}, type ${type}, ${packets} packets, ${known}`), " ",
+    isElsewhere || hasLeft ? "" : does("Add as a source", "take-stranger", ssrc, `${ssrc} from ${address}`));
 }
 
 // A call of the history, and below the one that is clicked what leads to it.
-function callItem({ model: { number, operator, text, isUndone, isWalked, isOnWay, way } }) {
-  return el("li", { class: `${isUndone ? "undone" : ""}${isOnWay ? " way" : ""}` },
+function callItem({ model: { number, operator, text, isUndone, isWalked, isOnWay, way, hasLeft } }) {
+  return el("li", { class: `${isUndone ? "undone" : ""}${isOnWay ? " way" : ""}${hasLeft ? " left" : ""}` },
     el("button", { type: "button", class: "call", "data-act": "walk", "data-of": number, "data-key": `walk ${number}`,
       "aria-label": `${text} version ${number}`, "aria-expanded": String(isWalked) }, code(text)),
     soft(`${isUndone ? "undone, " : ""}version ${number}, operator ${operator}`),
@@ -238,28 +270,39 @@ function wayOf(way) {
   return { text: wayWords(way, count === 0), count, label: count > 1 ? `${word} these ${count}` : word };
 }
 
-// Asking the page's program, and what clicks, keys and drags do.
-const token = () => document.querySelector('meta[name="desk-token"]').content;
-const EVERY = 250, COUNTED_EVERY = 2000, TRIES = 3, PATIENCE = 4000, REST = 400;
-const FEW_ROOMS = 8, FEW_MEMBERS = 4, ROW_HEIGHT = 25;
+// Asking the page's program, what goes out, and what comes in.
+const EVERY = 250, COUNTED_EVERY = 2000, TRIES = 3, PATIENCE = 8000, REST = 400, SLOW = 1000;
+const FEW_ROOMS = 8, FEW_MEMBERS = 4, ROW_HEIGHT = 25, HEAD_HEIGHT = 34, FADES = 5000, MARKED = 3000;
 const folded = new Map(), picked = new Set(), here = new Map();
 const widened = new Set(), resting = new Map(), suggestions = new Map();
 let desk = null, shownText = null, drag = null, group = [], timer = null, asking = false, opened = null, past = null;
-let names = {}, namesVersion = -1, since = null, walked = null, stats = null, counted = -COUNTED_EVERY;
+let names = {}, namesVersion = -1, walked = null, stats = null, counted = -COUNTED_EVERY;
+// The link: when news last came, what the program says of its bridge, and what the page makes of both.
+let lastNews = performance.now(), since = null, told = "", link = "connecting";
+// The versions that calls of this page made, when others have last changed an object, and which control is pressed.
+const mine = new Set(), touchedAt = new Map(), freshAt = new Map();
+let pressed = null, fading = null, newsFading = null;
+let token = document.querySelector('meta[name="desk-token"]').content;
 
+// What became of the last press. A success fades, a refusal stays until it is closed.
 function notice(text, good) {
-  at("notice").textContent = text;
+  at("notice").textContent = at("notice").title = text;
   at("notice").className = good ? "good" : "";
-  at("notice").hidden = false;
+  at("notice").hidden = at("close-notice").hidden = false;
+  clearTimeout(fading);
+  if (good) fading = setTimeout(closeNotice, FADES);
 }
+function closeNotice() { at("notice").hidden = at("close-notice").hidden = true; }
 
-function status(text, bad) {
-  if (at("status").textContent !== text) at("status").textContent = text;
-  at("status").className = bad ? "bad" : "";
+// What others did.
+function tellNews(text) {
+  at("news").textContent = at("news").title = text;
+  clearTimeout(newsFading);
+  newsFading = setTimeout(() => { at("news").textContent = at("news").title = ""; }, 2 * FADES);
 }
 
 async function ask(path, options) {
-  return fetch(path, { ...options, cache: "no-store", signal: AbortSignal.timeout(PATIENCE) });
+  return fetch(path, { ...options, cache: "no-store", signal: AbortSignal.timeout(options?.method ? PATIENCE : GONE) });
 }
 
 // Asks without changing anything. A connection that has to make way for others is tried again.
@@ -274,26 +317,73 @@ async function get(path) {
   }
 }
 
+// Posts. A token of an earlier run of the program is replaced, but nothing is sent twice.
 async function post(path, body) {
-  return ask(path, { method: "POST", headers: { "X-Desk-Token": token() }, body });
+  const reply = await ask(path, { method: "POST", headers: { "X-Desk-Token": token }, body });
+  if (reply.status === 403) await takeToken().catch(() => {});
+  return reply;
+}
+async function takeToken() {
+  const page = new DOMParser().parseFromString(await (await get("/")).text(), "text/html");
+  token = page.querySelector('meta[name="desk-token"]').content;
+  namesVersion = -1;
+}
+const ANEW = "not sent: the page's program was started anew. Look, and press again.";
+
+// Why a line isn't sent just now, in words, or nothing.
+function whyNot(line, key) {
+  if (isGone()) return `${at("status").textContent} Nothing is sent until it is back.`;
+  if (key && waits.has(key)) return "The press before has no answer yet.";
+  const just = performance.now() - JUST, object = objectsOfLine(line).find((one) => touchedAt.get(one) > just);
+  return object ? "Another operator changed that just now. Look, and press again." : "";
 }
 
-// Sends a line once. The version as which it is accepted, or 0. Whatever comes of it, the desk is shown again; the line
-// is never sent again by itself.
-async function call(line, words = line) {
-  if (document.body.classList.contains("gone")) return 0;
+// A control waits until its answer came, and the desk of that version.
+function waitsFor(key, line) {
+  waits.set(key, { line, version: 0 });
+  showWaits();
+}
+function answered(key, version) {
+  if (version > desk.version && waits.has(key)) waits.get(key).version = version;
+  else waits.delete(key);
+  showWaits();
+}
+function showWaits() {
+  for (const node of document.querySelectorAll("[data-key][aria-busy]")) {
+    if (!waits.has(node.dataset.key)) node.removeAttribute("aria-busy");
+  }
+  for (const key of waits.keys()) {
+    const nodes = document.querySelectorAll(`[data-key="${CSS.escape(key)}"]`);
+    for (const node of nodes) node.setAttribute("aria-busy", "true");
+  }
+}
+
+// Sends a line once, unless there is a reason not to, which is told. The version as which it is accepted, or 0.
+// Whatever comes of it, the desk is shown again; the line is never sent again by itself.
+async function call(line, words = line, key = pressed) {
+  const why = whyNot(line, key);
+  if (why) {
+    notice(`${words}: not sent. ${why}`);
+    return 0;
+  }
   if (at("collect").checked && !/^(undo|redo|group) /.test(line)) return collect(line);
+  const control = key ?? `line ${line} ${performance.now()}`;
+  waitsFor(control, line);
+  const slow = setTimeout(() => notice(`${words}: sent, no answer yet.`), SLOW);
+  let version = 0;
   try {
     const reply = await post("/call", line);
     const said = (await reply.text()).trim(), { good, text } = replyInWords(reply.status, said);
-    notice(`${words}: ${text}`, good);
-    return good ? Number(said.split(" ")[1]) : 0;
+    if (good) version = Number(said.split(" ")[1]);
+    if (version) mine.add(version);
+    notice(said.startsWith("NoToken") ? `${words}: ${ANEW}` : `${words}: ${text}`, good);
   } catch {
-    notice(`${words}: no answer came. Look at the desk before you send it again.`);
-    return 0;
-  } finally {
-    show();
+    notice(`${words}: no answer came. It may have been done: look at the desk before you press again.`);
   }
+  clearTimeout(slow);
+  answered(control, version);
+  show();
+  return version;
 }
 
 // Undoes or redoes calls, one after another. It stops where one isn't accepted, such as where another call came first.
@@ -301,7 +391,7 @@ async function goes({ word, calls }) {
   const name = word === "undo" ? "Undo" : "Redo";
   let version = past.version;
   for (const { line } of calls) {
-    if (version) version = await call(`${word} ${version}`, `${name}: ${worded(names, desk, line)}`);
+    if (version) version = await call(`${word} ${version}`, `${name}: ${worded(names, desk, line)}`, null);
   }
 }
 
@@ -358,34 +448,30 @@ async function show() {
     const reply = await get("/desk.txt");
     const text = await reply.text();
     if (reply.ok) await take(text);
-    else gone(noDeskInWords(text));
+    else told = text.startsWith("Busy") ? "seats" : "bridge";
   } catch (error) {
-    if (error instanceof TypeError || error.name === "TimeoutError" || error.name === "AbortError")
-      gone("The page's program is gone. Trying again; once it is back, load the page again.");
-    else console.error(error);
+    const isLink = error instanceof TypeError || ["TimeoutError", "AbortError"].includes(error.name);
+    if (!isLink) console.error(error);
   }
+  judge();
   asking = false;
   timer = setTimeout(show, EVERY);
 }
 
-// The desk is stale: nothing of it can be changed.
-function setGone(is) {
-  document.body.classList.toggle("gone", is);
-  at("main").inert = at("history-buttons").inert = is;
-}
-
-function gone(text) {
-  since ??= new Date().toLocaleTimeString();
-  past = null;
-  if (desk) renderHistory();
-  status(desk ? `${text} Below is the desk as it was at ${since}.` : text, true);
-  setGone(true);
+// What the page makes of its link. Where it is gone all can be read, and nothing is sent.
+const isGone = () => ["gone", "bridge", "seats"].includes(link);
+function judge() {
+  const quiet = performance.now() - lastNews, is = linkOf(told, quiet);
+  link = is === "live" && !desk ? "connecting" : is;
+  const text = linkInWords(link, quiet, since);
+  if (at("status").textContent !== text) at("status").textContent = at("status").title = text;
+  at("status").className = isGone() ? "bad" : link;
+  document.body.classList.toggle("gone", isGone());
 }
 
 async function take(text) {
-  status("Live", false);
-  since = null;
-  setGone(false);
+  [told, lastNews, since] = ["", performance.now(), new Date().toLocaleTimeString()];
+  judge();
   if (text !== shownText && !drag) await takeDesk(text);
   if (desk && past?.version !== desk.version) await takeHistory();
 }
@@ -396,18 +482,75 @@ async function takeDesk(text) {
   const rows = desk ? changes(desk.rows, next.rows) : [];
   const rooms = desk && !isRenamed ? changedRooms(desk, next, rows) : null;
   // Another desk of the same version, or of an earlier one, is another bridge's.
-  if (desk && (next.version < desk.version || (next.version === desk.version && rows.length > 0))) past = null;
+  if (desk && (next.version < desk.version || (next.version === desk.version && rows.length > 0))) {
+    past = null;
+    mine.clear();
+    waits.clear();
+  }
+  if (desk) takeOthers(next, rows);
   shownText = text;
   desk = next;
+  for (const [key, { version }] of waits) if (version && version <= desk.version) waits.delete(key);
+  showWaits();
+  loseSliders();
   render(rooms, rows.some((row) => /^. (room|member|source|slot) /.test(row)));
+}
+
+// Notes what others have changed, and marks the rows of these members for a while.
+function takeOthers(next, rows) {
+  const sent = [...waits.values()], unanswered = sent.filter(({ version }) => !version).length, now = performance.now();
+  const lines = sent.map(({ line }) => line);
+  const objects = othersObjects(desk.version, next.version, rows, mine, lines, unanswered);
+  const marked = new Set();
+  for (const object of objects) {
+    touchedAt.set(object, now);
+    const [kind, number] = object.split(" "), row = sourceOf(next, Number(number)) ?? sourceOf(desk, Number(number));
+    if (kind === "source" && row) marked.add(row.member);
+    if (["member", "gain"].includes(kind)) marked.add(Number(number));
+  }
+  if (marked.size === 0) return;
+  for (const member of marked) freshAt.set(member, now);
+  setTimeout(() => render(new Set([...marked].map((member) => memberOf(desk, member)?.room)), false), MARKED + 50);
+}
+
+// A slider that another operator has changed while it was held follows the desk, and what was held isn't sent.
+function loseSliders() {
+  for (const [key, one] of touched) {
+    const [, member, ssrc] = key.split(" "), gain = desk.gains.get(`${member} ${ssrc}`) ?? 256;
+    if (one.isLost || gain === one.from || gain === one.sent) continue;
+    const node = document.querySelector(`[data-key="${CSS.escape(key)}"]`), held = node ? Number(node.value) : gain;
+    clearTimeout(resting.get(key));
+    one.isLost = true;
+    if (node) node.value = gain;
+    const times = (q8) => `x${(q8 / 256).toFixed(2)}`, whose = sourceLabel(Number(ssrc));
+    notice(`Gain of ${whose} for member ${member}: another operator set ${times(gain)} while you held the slider. `
+      + `Your ${times(held)} was not sent.`);
+    if (!one.isDown) touched.delete(key);
+  }
 }
 
 // The history, as the bridge tells it. Where it fails, it is asked for with the next desk.
 async function takeHistory() {
   const reply = await get("/history.txt");
   if (!reply.ok) return;
+  const before = past;
   past = parseHistory(await reply.text());
+  if (before) tellOthers(before);
   renderHistory();
+}
+
+// Tells what others did since the history before: their calls, or what they took back or did again.
+function tellOthers(before) {
+  const unanswered = [...waits.values()].filter(({ version }) => !version).length;
+  let count = -unanswered;
+  for (let version = before.version + 1; version <= past.version; version += 1) if (!mine.has(version)) count += 1;
+  if (count <= 0) return;
+  const fresh = [...past.done, ...past.undone].filter(({ number }) => number > before.version && !mine.has(number));
+  const more = count > 1 ? `, and ${count - 1} more` : "", last = fresh[fresh.length - 1];
+  const is = past.undone.length > before.undone.length ? "undid" : "did again";
+  const [taken] = (is === "undid" ? past.undone : past.done).slice(-1);
+  if (last) tellNews(`operator ${last.operator}: ${worded(names, desk, last.line)}${more}`);
+  else if (taken) tellNews(`another operator ${is}: ${worded(names, desk, taken.line)}${more}`);
 }
 
 // Names, as the page's program keeps them.
@@ -433,6 +576,7 @@ async function rename(kind, number, name) {
         await takeNames();
         return render();
       }
+      if (said.startsWith("NoToken")) return notice(`${what}: ${ANEW}`);
       if (!/^no [0-9]+ Newer/.test(said)) return notice(`${what}: ${nameRefusal(reply.status, said)}`);
       await takeNames();
     } catch {
@@ -466,13 +610,17 @@ const acts = {
     opened = opened === Number(of) ? null : Number(of);
     setHere(Number(of));
     render();
-    if (opened !== null) at("detail").scrollIntoView({ block: "nearest" });
   },
   close: () => { opened = null; render(); },
   "take-stranger": (of) => fillSource(Number(of)),
   walk: (of) => { walked = walked === Number(of) ? null : Number(of); renderHistory(); },
   go: (of) => { const way = past && wayTo(past, Number(of)); if (way) goes(way); },
-  fold: (of) => { folded.set(Number(of), !isFolded(Number(of))); render(); },
+  fold: (of) => { folded.set(Number(of), !isFolded(Number(of))); render(null, true, true); },
+  filter: (of) => { filter = filter === of ? "" : of; lastFit.clear(); render(null, true, true); },
+  unknown: () => {
+    at("unknown").scrollIntoView({ block: "nearest" });
+    at("strangers").querySelector("button")?.focus();
+  },
   toggle: (of) => callAll(toggled(desk, [Number(of)]), `mute of member ${of}`),
   "mute-others": (of) => callAll(othersMuted(desk, Number(of)), `mute all but member ${of}`),
   "mute-chosen": () => callAll(pickedVoices(false).map((s) => lines.mute(s.ssrc)), "mute the selected members"),
@@ -543,14 +691,18 @@ async function count() {
 function takeStats(next) {
   const before = stats;
   stats = next;
-  if (desk && (before || next)) render(turnedRooms(desk, before, next), false);
+  if (!desk) return;
+  if (!before) orderedAt = -Infinity;
+  const turned = before || next ? turnedRooms(desk, before, next) : new Set();
+  // Rooms with trouble rise, and who ceases to fit a filter goes, even where nothing has turned since the count before.
+  render(filter ? null : turned, false);
 }
 
 // The senders that are no source, where the bridge tells of any.
 function renderStrangers() {
   const items = strangersIn(stats, desk).map((model) => ({ key: `${model.address} ${model.ssrc}`, model }));
-  at("unknown").hidden = items.length === 0;
-  drawList(at("strangers"), items, strangerItem);
+  if (!isHeld("aside")) at("unknown").hidden = items.length === 0;
+  drawHeld(at("strangers"), items, strangerItem);
 }
 
 // Fills in the form that adds a source. Which member it is of is the operator's choice.
@@ -565,13 +717,58 @@ function fillSource(ssrc) {
 }
 
 // Drawing the desk, and what keys, clicks and drags do.
+// Places. Nothing comes, goes or moves in the list or beside it while the pointer is there, a button is held, or a menu
+// is open, and until 600 ms after a touch. What a row says changes at once.
+const over = { board: false, aside: false }, TOUCH = 600;
+let down = null, heldBack = 0, heldAside = false, drawnPlan = [], movedAt = -Infinity, drawnPanel = null;
+let filter = "", order = new Map(), orderedAt = -Infinity;
+const lastFit = new Map();
+const isMenuOpen = () => CSS.supports("selector(:open)") && document.querySelector("select:open") !== null;
+function isHeld(part) { return over[part] || down === part || drag !== null || isMenuOpen(); }
+function releases() {
+  down = null;
+  if (heldBack > 0 || heldAside) render();
+}
+for (const part of ["board", "aside"]) {
+  at(part).addEventListener("pointerenter", ({ pointerType }) => { over[part] = pointerType === "mouse"; });
+  at(part).addEventListener("pointerleave", () => {
+    over[part] = false;
+    if (down !== part) releases();
+  });
+  at(part).addEventListener("pointerdown", () => { down = part; });
+}
+for (const type of ["pointerup", "pointercancel", "dragend"]) {
+  document.addEventListener(type, ({ pointerType }) => {
+    if (down) setTimeout(releases, pointerType === "mouse" || type === "dragend" ? 0 : TOUCH);
+  });
+}
+at("waiting").addEventListener("click", () => render(null, true, true));
+
+// Tells how many changes of place are held back.
+function tellHeld() {
+  const count = heldBack + Number(heldAside), what = `change${count === 1 ? "" : "s"} of place held back: show now`;
+  const text = count ? `${count} ${what}` : "";
+  if (at("waiting").textContent !== text) at("waiting").textContent = text;
+  at("waiting").hidden = count === 0;
+}
+
+// Draws a list beside the overview: while places are held, what was drawn before stays where it is.
+function drawHeld(node, items, draw) {
+  const old = [...(node.drawn ?? [])].map(([key, { model }]) => ({ key, model }));
+  const isSame = old.map(({ key }) => key).join() === items.map(({ key }) => key).join();
+  if (isSame || old.length === 0 || !isHeld("aside")) return drawList(node, items, draw);
+  heldAside = true;
+  const kept = inOldPlaces(old, items, "key");
+  return drawList(node, kept.map(({ key, model, hasLeft }) => ({ key, model: { ...model, hasLeft } })), draw);
+}
+
 // Undo and Redo name the call that they take. Their line has the version at which that is so.
 function button(id, word, top) {
   const text = top ? `${word}: ${worded(names, desk, top.line)}` : word, line = past ? `${id} ${past.version}` : "";
   if (at(id).textContent !== text) at(id).textContent = text;
   at(id).title = top ? `${text} (${line})` : past ? `there is nothing to ${id}` : "";
   at(id).disabled = !top;
-  at(id).onclick = () => call(line, text);
+  at(id).onclick = () => call(line, text, id);
 }
 // Fills a choice again, and keeps what was picked.
 function options(form, field, values) {
@@ -591,34 +788,99 @@ function suggest(form, field, number) {
   suggestions.set(key, String(number));
 }
 
-// The overview: each room, and of a room that isn't folded each member that is looked for. Where only some rooms have
-// changed, the others stay as they are drawn.
-function renderRooms(changed) {
-  const search = at("search").value, isSearch = wordsOf(search).length > 0;
-  const found = overview(desk, names, search, at("sort").value);
-  const items = found.map(({ room, members }) => {
-    if (changed && !isSearch && !changed.has(room)) return { key: room, isKept: true };
-    const isClosed = !isSearch && isFolded(room);
-    return { key: room, members, model: { ...roomLine(desk, names, room), isFolded: isClosed } };
+// What is counted of a room, and who of it is in trouble, until something of it changes.
+const infos = new Map();
+function infoOf(room) {
+  if (!infos.has(room)) {
+    const members = membersIn(desk, room);
+    const troubled = members.filter((one) => troubleOf(desk, stats, one) !== "").map(({ member }) => member);
+    infos.set(room, { tally: tallyOf(desk, stats, members), troubled });
+  }
+  return infos.get(room);
+}
+// Whether a member is one of those that are counted. Who ceases to be one stays for some seconds.
+function isShown(member) {
+  const now = performance.now();
+  if (isCounted(desk, stats, filter, member)) lastFit.set(member.member, now);
+  return now - (lastFit.get(member.member) ?? -Infinity) < SETTLED;
+}
+// The rooms by trouble. Their order is made anew every few seconds at most.
+function sortRooms(isAsked) {
+  if (!isAsked && order.size > 0 && (performance.now() - orderedAt < SETTLED || isHeld("board"))) return;
+  const weight = (room) => infoOf(room).tally.weight;
+  const rooms = [...desk.rooms].sort((a, b) => weight(b) - weight(a) || a - b);
+  order = new Map(rooms.map((room, place) => [room, place]));
+  orderedAt = performance.now();
+}
+const placeOf = (room) => order.get(room) ?? Number.MAX_SAFE_INTEGER;
+
+// What should be drawn: each room, and of a folded one those in trouble.
+function planOf(isNarrowed) {
+  const found = overview(desk, names, at("search").value, at("sort").value, filter ? isShown : null, placeOf);
+  return found.map(({ room, members }) => {
+    const isClosed = !isNarrowed && isFolded(room);
+    return { room, isClosed, members: isClosed ? infoOf(room).troubled : members.map(({ member }) => member) };
   });
+}
+
+// The overview. Where only some rooms have changed, the others stay as they are drawn. What an operator asks for of the
+// list itself, such as a search, is done at once.
+function renderRooms(changed, isAsked) {
+  const isNarrowed = wordsOf(at("search").value).length > 0 || filter !== "";
+  sortRooms(isAsked);
+  const next = planOf(isNarrowed), moved = placeChanges(drawnPlan, next);
+  const isKept = moved > 0 && drawnPlan.length > 0 && !isAsked && isHeld("board"), plan = isKept ? drawnPlan : next;
+  if (moved > 0 && drawnPlan.length > 0 && !isKept && (!isAsked || heldBack > 0)) movedAt = performance.now();
+  heldBack = isKept ? moved : 0;
+  const known = at("board").drawn ?? new Map(), all = !changed || isNarrowed;
+  const items = plan.map(({ room, isClosed, members }) => (!all && !changed.has(room) ? { key: room, isKept: true } :
+    { key: room, members, model: roomModel(room, isClosed, members, known.get(room)?.model) }));
+  drawnPlan = plan;
   const drawn = drawList(at("board"), items, roomCard);
-  for (const { key, members, model } of items.filter((item) => !item.isKept)) {
-    const list = drawn.get(key).node.lastElementChild;
-    list.style.containIntrinsicHeight = `${ROW_HEIGHT * members.length}px`;
-    drawList(list, model.isFolded ? [] : members.map((member) => memberItem(key, member, members)), memberRow);
+  for (const { key, members } of items.filter((item) => !item.isKept)) {
+    const { node } = drawn.get(key), list = node.lastElementChild, known = list.drawn ?? new Map();
+    node.style.containIntrinsicHeight = `auto ${HEAD_HEIGHT + ROW_HEIGHT * members.length}px`;
+    drawList(list, members.map((member) => memberItem(key, member, members, known.get(member)?.model)), memberRow);
   }
   const none = desk.rooms.length ? "Nothing fits what you look for." : "There is no room yet: add one.";
   at("nothing").textContent = none;
-  at("nothing").hidden = found.length > 0;
+  at("nothing").hidden = plan.length > 0;
   at("fold").textContent = desk.rooms.every(isFolded) ? "Unfold all" : "Fold all";
+}
+function roomModel(room, isFolded, members, known) {
+  if (!desk.rates.has(room)) return { ...known, left: "was removed" };
+  return { ...roomLine(desk, names, room), isFolded, tally: infoOf(room).tally, isEmpty: members.length === 0 };
 }
 
 const withCount = (s) => ({ ...s, isSilent: isSilent(stats, desk, s.ssrc), isLossy: isLossy(stats, desk, s.ssrc) });
-function memberItem(room, member, members) {
-  const first = members.some((m) => m.member === here.get(room)) ? here.get(room) : members[0].member;
-  const line = memberLine(desk, names, member);
-  return { key: member.member, room, model: { ...line, sends: line.sends.map(withCount),
-    isOpen: opened === member.member, isChosen: picked.has(member.member), isHere: first === member.member } };
+function memberItem(room, number, members, known) {
+  const isHere = number === (members.includes(here.get(room)) ? here.get(room) : members[0]);
+  const member = memberOf(desk, number);
+  // One that has gone is drawn here as long as places are held.
+  if (member?.room !== room) {
+    const left = member ? `is now in room ${labelled(nameOf(names, "room", member.room), member.room)}` : "has left";
+    return { key: number, room, model: { ...known, left, isHere, isChosen: false, isFresh: false } };
+  }
+  const line = memberLine(desk, names, member), isFresh = performance.now() - freshAt.get(number) < MARKED;
+  return { key: number, room, model: { ...line, sends: line.sends.map(withCount),
+    trouble: troubleOf(desk, stats, member), isOpen: opened === number, isChosen: picked.has(number), isHere,
+    isFresh } };
+}
+
+// The numbers of the whole bridge. Those of members are filters.
+function renderSum() {
+  const sum = (key) => desk.rooms.reduce((all, room) => all + infoOf(room).tally[key], 0);
+  const unknown = strangersIn(stats, desk).length;
+  const many = (count, what) => `${count.toLocaleString("en")} ${what}${count === 1 ? "" : "s"}`;
+  const number = (key, count = sum(key)) => el("button", { type: "button", class: `small number${count ? " some" : ""}`,
+    "data-key": `filter ${key}`, "data-act": "filter", "data-of": key, "aria-pressed": String(filter === key) },
+    `${count} ${key}`);
+  morphChildren(at("sum"), [
+    el("span", { "data-key": "rooms" }, many(desk.rooms.length, "room")),
+    el("span", { "data-key": "people" }, many(desk.members.length, "member")),
+    number("silent"), number("losing"), number("muted"),
+    el("button", { type: "button", class: `small number${unknown ? " some" : ""}`, "data-key": "unknown",
+      "data-act": "unknown", "data-of": "", disabled: unknown === 0 }, `${unknown} unknown`)]);
 }
 
 function renderSelected() {
@@ -650,13 +912,33 @@ function detailOf(member) {
 }
 function renderDetail() {
   const member = opened === null ? undefined : memberOf(desk, opened);
-  if (!member) {
-    opened = null;
+  const isStill = drawnPanel?.member === opened;
+  if (member) drawnPanel = isStill && isHeld("aside") ? heldDetail(drawnPanel, detailOf(member)) : detailOf(member);
+  else if (isStill && isHeld("aside")) {
+    drawnPanel = { ...drawnPanel, left: "has left" };
+    heldAside = true;
+  } else {
+    opened = drawnPanel = null;
     at("detail").hidden = true;
     at("detail").replaceChildren();
     return;
   }
-  morph(at("detail"), detailPanel(detailOf(member)));
+  morph(at("detail"), detailPanel(drawnPanel));
+}
+// The panel in the shape that it has.
+function heldDetail(before, now) {
+  const keys = { sources: "ssrc", slots: "slot" }, kept = { ...now, others: before.others, hears: before.hears };
+  for (const [part, key] of Object.entries(keys)) {
+    kept[part] = inOldPlaces(before[part], now[part], key);
+    if (before[part].map((one) => one[key]).join() !== now[part].map((one) => one[key]).join()) heldAside = true;
+  }
+  kept.gains = before.gains.map((one) => {
+    const found = heard(desk, memberOf(desk, now.member)).find((s) => s.ssrc === one.ssrc);
+    return found ? { ...one, ...found, hasLeft: false } : { ...one, hasLeft: true };
+  });
+  const isWider = now.gains.some((one) => !before.gains.some((old) => old.ssrc === one.ssrc));
+  if (isWider || now.gains.length !== before.gains.length) heldAside = true;
+  return kept;
 }
 
 function renderHistory() {
@@ -669,7 +951,7 @@ function renderHistory() {
     isOnWay: passed.includes(one.number), way: one.number === walked && way ? wayOf(way) : null } });
   const undone = (past?.undone ?? []).map((one) => item(one, true));
   at("no-calls").hidden = !past || past.done.length + past.undone.length > 0;
-  drawList(at("calls"), [...undone, ...(past?.done ?? []).map((one) => item(one, false)).reverse()], callItem);
+  drawHeld(at("calls"), [...undone, ...(past?.done ?? []).map((one) => item(one, false)).reverse()], callItem);
 }
 function renderForms() {
   const rooms = desk.rooms.map(roomOption);
@@ -681,32 +963,60 @@ function renderForms() {
 }
 
 // Draws what may have changed: some rooms, or all where none are given, and the forms unless their choices are as
-// before.
-function render(changed = null, hasForms = true) {
+// before. What is asked for by the operator changes places at once.
+function render(changed = null, hasForms = true, isAsked = false) {
   if (!desk) return;
-  const key = document.activeElement?.dataset?.key;
-  renderRooms(changed);
+  const focused = document.activeElement, key = focused?.dataset?.key, heirs = heirsOf(focused);
+  heldAside = false;
+  if (changed) for (const room of changed) infos.delete(room);
+  else infos.clear();
+  renderSum();
+  renderRooms(changed, isAsked);
   renderSelected();
   renderDetail();
   renderStrangers();
   renderHistory();
+  tellHeld();
   if (!changed || hasForms) renderForms();
   const title = `Desk, version ${desk.version}`;
   if (document.title !== title) document.title = title;
   if (!key || document.activeElement?.dataset?.key === key) return;
-  document.querySelector(`[data-key="${CSS.escape(key)}"]`)?.focus({ preventScroll: true });
+  const next = [key, ...heirs].map((one) => document.querySelector(`[data-key="${CSS.escape(one)}"]`)).find(Boolean);
+  next?.focus({ preventScroll: true });
+}
+// Where the focus goes if its row goes: to the row after it, or else before it.
+function heirsOf(node) {
+  const row = node?.closest?.("#board .member");
+  if (!row) return node?.closest?.("#board, #detail") ? ["open " + [...here.values()].pop()] : [];
+  const rows = [...document.querySelectorAll("#board .member")], place = rows.indexOf(row);
+  const others = [...rows.slice(place + 1), ...rows.slice(0, place).reverse()].slice(0, 64);
+  return others.map((one) => `open ${one.dataset.member}`);
 }
 
 // Clicks and choices.
 document.addEventListener("click", (event) => {
   const node = event.target.closest("[data-line],[data-act],[data-select]");
-  if (!node || !desk || document.body.classList.contains("gone")) return;
-  if (node.dataset.select) {
+  if (!node || !desk) return;
+  if (node.getAttribute("aria-disabled") === "true") {
+    event.preventDefault();
+    notice("Not done: that has left. Its row goes once the pointer has left the list.");
+  } else if (event.detail > 0 && performance.now() - movedAt < JUST && node.closest("#board")) {
+    event.preventDefault();
+    notice("Not done: the list has just moved. Look, and press again.");
+  } else if (node.dataset.select) {
     picked[node.checked ? "add" : "delete"](Number(node.dataset.select));
     render();
-  } else if (node.dataset.line) call(node.dataset.line);
-  else acts[node.dataset.act](node.dataset.of);
+  } else presses(node.dataset.key, () => {
+    if (node.dataset.line) call(node.dataset.line);
+    else acts[node.dataset.act](node.dataset.of);
+  });
 });
+// Does what a control is for. What it sends has its answer shown at the control.
+function presses(key, act) {
+  pressed = key;
+  act();
+  pressed = null;
+}
 const tells = ({ target }) => {
   const line = target.closest?.("[data-line]")?.dataset.line;
   if (line && document.activeElement !== at("line")) at("line").placeholder = line;
@@ -724,27 +1034,56 @@ document.addEventListener("change", ({ target }) => {
   if (!target.matches("select[data-choice]") || target.value === "") return;
   const [kind, of] = target.dataset.choice.split(" "), value = Number(target.value);
   target.value = "";
-  choices[kind].choose(Number(of), value);
+  presses(target.dataset.key, () => choices[kind].choose(Number(of), value));
 });
 
-// A slider sends one line, once it has rested.
+// A slider sends one line, once it has rested. It is the operator's while it is held, and for so long after a key.
+function holdsSlider({ dataset: { key } }, isDown) {
+  const [, member, ssrc] = key.split(" "), from = desk.gains.get(`${member} ${ssrc}`) ?? 256;
+  if (!touched.has(key)) touched.set(key, { from, sent: null, isLost: false, isDown });
+  return touched.get(key);
+}
+function endsSlider(key) {
+  const one = touched.get(key);
+  if (!one || one.isDown) return;
+  touched.delete(key);
+  renderDetail();
+}
+document.addEventListener("pointerdown", ({ target }) => {
+  if (target.dataset?.gain && desk) holdsSlider(target, true).isDown = true;
+});
+for (const type of ["pointerup", "pointercancel"]) {
+  document.addEventListener(type, () => {
+    for (const [key, one] of touched) {
+      one.isDown = false;
+      if (one.isLost || !resting.has(key)) endsSlider(key);
+    }
+  });
+}
 document.addEventListener("input", ({ target }) => {
-  if (!target.dataset.gain) return;
-  const { key, gain } = target.dataset;
-  touched.add(key);
-  target.parentNode.querySelector(".soft").textContent = ` x${(target.value / 256).toFixed(2)}`;
+  if (!target.dataset.gain || !desk) return;
+  const { key, gain } = target.dataset, one = holdsSlider(target, false);
   clearTimeout(resting.get(key));
+  if (one.isLost) {
+    const [, member, ssrc] = key.split(" ");
+    target.value = desk.gains.get(`${member} ${ssrc}`) ?? 256;
+    resting.delete(key);
+    return;
+  }
+  target.parentNode.querySelector(".soft").textContent = ` x${(target.value / 256).toFixed(2)}`;
   resting.set(key, setTimeout(async () => {
-    const line = `${gain}${target.value}`;
-    await call(line);
-    touched.delete(key);
+    resting.delete(key);
+    one.sent = Number(target.value);
+    await call(`${gain}${one.sent}`, `${gain}${one.sent}`, null);
+    if (!one.isLost) one.from = one.sent;
+    if (!resting.has(key)) endsSlider(key);
   }, REST));
 });
 
 // Members can be dragged to rooms, and video sources to slots. No drag begins at a field of a line.
 document.addEventListener("pointerdown", ({ target }) => {
   const row = target.closest(".member");
-  if (row) row.draggable = !target.closest("input,select");
+  if (row) row.draggable = !target.closest("input,select") && !row.classList.contains("left");
 });
 document.addEventListener("dragstart", (event) => {
   const source = event.target.closest?.(".source"), row = event.target.closest?.(".member");
@@ -792,9 +1131,20 @@ function step(node, by) {
   render();
   next.focus();
 }
+// The next row in trouble, round the list.
+function nextInTrouble() {
+  const rows = [...document.querySelectorAll("#board .who")], at = rows.indexOf(document.activeElement);
+  const next = [...rows.slice(at + 1), ...rows.slice(0, at + 1)].find((node) => node.closest(".trouble"));
+  if (!next) return notice("Nobody who is drawn here is in trouble.", true);
+  setHere(Number(next.dataset.of));
+  render();
+  next.focus();
+  return next.scrollIntoView({ block: "nearest" });
+}
 const keys = {
   "/": () => { at("search").focus(); at("search").select(); },
-  m: (node) => { if (!Number.isNaN(memberAt(node))) acts.toggle(memberAt(node)); },
+  m: (node) => { const of = memberAt(node); if (!Number.isNaN(of)) presses(`toggle ${of}`, () => acts.toggle(of)); },
+  n: () => nextInTrouble(),
   ArrowDown: (node) => node.matches(".who") && step(node, 1),
   ArrowUp: (node) => node.matches(".who") && step(node, -1),
   " ": (node) => node.matches(".who") && node.closest(".member").querySelector("input").click(),
@@ -802,7 +1152,7 @@ const keys = {
 document.addEventListener("keydown", (event) => {
   const node = event.target;
   if (at("ask").open || !desk) return;
-  if (node === at("search") && event.key === "Escape") { node.value = ""; render(); }
+  if (node === at("search") && event.key === "Escape") { node.value = ""; render(null, true, true); }
   if (isText(node)) return;
   if ((event.ctrlKey || event.metaKey) && event.key.toLowerCase() === "z") {
     event.preventDefault();
@@ -837,12 +1187,13 @@ at("file").addEventListener("change", async ({ target }) => {
   if (file) await restore(await file.text());
   target.value = "";
 });
-at("search").addEventListener("input", () => render());
-at("sort").addEventListener("change", () => render());
+at("search").addEventListener("input", () => render(null, true, true));
+at("sort").addEventListener("change", () => render(null, true, true));
+at("close-notice").addEventListener("click", closeNotice);
 at("fold").addEventListener("click", () => {
   const are = desk?.rooms.every(isFolded);
   for (const room of desk?.rooms ?? []) folded.set(room, !are);
-  render();
+  render(null, true, true);
 });
 const dropGroup = () => { group = []; showGroup(); };
 at("drop-group").addEventListener("click", dropGroup);
@@ -852,6 +1203,7 @@ at("send-group").addEventListener("click", () => {
   dropGroup();
   call(line);
 });
+setInterval(judge, COUNTED_EVERY / 4);
 setInterval(count, COUNTED_EVERY / 4);
 document.addEventListener("visibilitychange", count);
 show();

@@ -16,42 +16,76 @@ pub(crate) const STYLE: &[u8] = br##":root {
 * { box-sizing: border-box; }
 [hidden] { display: none !important; }
 body { margin: 0; background: var(--page); color: var(--ink); font: 15px/1.4 system-ui, "DejaVu Sans", sans-serif; }
-header { display: flex; flex-wrap: wrap; gap: .4rem 1rem; align-items: center; padding: .45rem 1rem;
-  background: var(--card); border-bottom: 1px solid var(--line); position: sticky; top: 0; z-index: 2; }
+header { display: grid; grid-template-columns: auto 16.5rem minmax(0, 1fr) auto; grid-template-rows: 2rem 1.6rem;
+  gap: .3rem .8rem; align-items: center; padding: .4rem 1rem; height: 4.7rem; background: var(--card);
+  border-bottom: 1px solid var(--line); position: sticky; top: 0; z-index: 3; }
+header > * { min-width: 0; }
 h1 { font-size: 1.2rem; margin: 0; }
 h2 { font-size: 1rem; margin: 0 0 .5rem; }
 h3 { font-size: .95rem; margin: 0; }
-#rooms-title { margin: 0 0 .3rem; }
-#status { margin: 0; color: var(--good); }
+#bar { position: sticky; top: 4.7rem; z-index: 2; height: 2.1rem; display: flex; align-items: center; gap: .8rem;
+  background: var(--page); }
+#rooms-title { margin: 0; }
+#status { margin: 0; color: var(--good); white-space: nowrap; overflow: hidden; text-overflow: ellipsis; }
+#status.late, #status.connecting { color: var(--warn); }
 #status.bad { color: var(--bad); font-weight: 600; }
-.gone main, .gone .history-buttons { opacity: .5; }
+.gone #board, .gone #detail, .gone .history-buttons { opacity: .6; }
 .nameless [data-act="name"] { display: none; }
-.finding { display: flex; flex-wrap: wrap; gap: .3rem .7rem; align-items: center; font-size: .9em; color: var(--soft); }
+.finding { display: flex; gap: .3rem .7rem; align-items: center; font-size: .9em; color: var(--soft);
+  white-space: nowrap; }
 .finding input, .finding select { color: var(--ink); }
-#search { width: 14rem; }
-.history-buttons { margin-left: auto; display: flex; flex-wrap: wrap; gap: .5rem; }
-.history-buttons button { max-width: 22rem; overflow: hidden; text-overflow: ellipsis; white-space: nowrap; }
-#notice { margin: .5rem 1rem 0; padding: .4rem .75rem; border-left: 4px solid var(--bad); background: var(--card);
+#search { width: 13rem; }
+#fold { width: 6rem; }
+.history-buttons { display: flex; gap: .5rem; }
+.history-buttons button { width: 13rem; font-size: .92em; overflow: hidden; text-overflow: ellipsis;
+  white-space: nowrap; text-align: left; }
+#redo { width: 9rem; }
+#sum { grid-column: 1 / -1; display: flex; gap: .5rem; align-items: center; white-space: nowrap; overflow: hidden;
+  font-size: .92em; }
+#sum > span { min-width: 5.6rem; color: var(--soft); }
+.number { min-width: 6rem; color: var(--soft); }
+.number.some { color: var(--ink); font-weight: 600; }
+.number[aria-pressed="true"] { background: var(--drop); border-color: var(--accent); }
+footer { position: fixed; bottom: 0; left: 0; right: 0; height: 2.6rem; display: grid; z-index: 5;
+  grid-template-columns: minmax(0, 1.6fr) auto minmax(0, 1fr); gap: .6rem; align-items: center; padding: 0 1rem;
+  background: var(--card); border-top: 1px solid var(--line); }
+footer p { margin: 0; font-size: .9em; line-height: 1.15rem; max-height: 2.3rem; overflow: auto;
   overflow-wrap: anywhere; }
+#notice { padding-left: .6rem; border-left: 4px solid var(--bad); }
 #notice.good { border-color: var(--good); }
-main { display: grid; grid-template-columns: minmax(0, 1fr) 23rem; gap: 1rem; padding: .6rem 1rem 1rem; }
+#news { grid-column: 3; color: var(--soft); }
+main { display: grid; grid-template-columns: minmax(0, 1fr) 23rem; gap: 1rem; padding: .2rem 1rem 3.4rem; }
 #board { display: grid; gap: .5rem; }
 .room, aside > section { background: var(--card); border: 1px solid var(--line); border-radius: .5rem; }
 aside > section { padding: .75rem; }
 aside { display: grid; grid-template-columns: minmax(0, 1fr); gap: .7rem; align-content: start; overflow: auto;
-  position: sticky; top: 3.4rem; max-height: calc(100vh - 4.6rem); }
+  position: sticky; top: 5.1rem; max-height: calc(100vh - 8rem); }
 .room.over, .room.over .head, .slot.over { background: var(--drop); outline: 2px dashed var(--accent); }
-.head { display: flex; flex-wrap: wrap; gap: .2rem .5rem; align-items: center;
-  padding: .15rem .5rem; min-height: 32px; }
-.head h3 { min-width: 0; overflow: hidden; text-overflow: ellipsis; white-space: nowrap; }
+.head { display: grid; align-items: center; gap: 0 .5rem; padding: 0 .5rem; height: 32px;
+  grid-template-columns: 24px minmax(8rem, 1.2fr) 13rem minmax(0, .7fr) minmax(0, 1.3fr) 3.7rem 4.4rem; }
+.head > * { min-width: 0; white-space: nowrap; }
+.head h3, .head .count { overflow: hidden; text-overflow: ellipsis; }
+.held { display: flex; gap: .3rem; align-items: center; justify-content: flex-end; }
+.held > button { flex: none; }
+.held > .tag { min-width: 0; overflow: hidden; text-overflow: ellipsis; }
+.head .count { font-size: .82em; }
 .grow { flex: 1; min-width: 0; }
 .member { display: grid;
-  grid-template-columns: 24px minmax(7rem, 1.2fr) minmax(5rem, 1fr) minmax(6rem, 1.2fr) 6.6rem 4.4rem;
+  grid-template-columns: 14px 24px minmax(7rem, 1.2fr) minmax(5rem, 1fr) minmax(6rem, 1.2fr) 6.6rem 4.4rem;
   gap: 0 .5rem; align-items: center; border-top: 1px solid var(--line); padding: 0 .5rem; height: 25px;
   white-space: nowrap; cursor: grab; contain: layout paint; }
 .member > * { overflow: hidden; text-overflow: ellipsis; min-width: 0; }
 .member.open { background: var(--drop); }
-.member.odd, .head.odd { background: var(--odd); }
+.member.odd, .head.odd, .member.trouble { background: var(--odd); }
+.member.fresh { box-shadow: inset 3px 0 var(--accent); }
+.left { opacity: .75; }
+.left .who, .head.left h3, .left > .what, li.left { text-decoration: line-through; }
+.left[class] [aria-disabled] { cursor: default; }
+.state { color: var(--warn); text-align: center; font-size: .85em; }
+.warn { color: var(--warn); }
+.count b { font-weight: 600; }
+.member > .small { width: 4.4rem; }
+[aria-busy="true"] { background-image: repeating-linear-gradient(135deg, transparent 0 5px, var(--line) 5px 10px); }
 input[type="checkbox"] { width: 16px; height: 24px; margin: 0 4px; cursor: pointer; vertical-align: middle; }
 .pick { width: 24px; height: 24px; cursor: pointer; }
 .tick { display: inline-flex; align-items: center; min-height: 24px; cursor: pointer; }
@@ -73,14 +107,24 @@ button.danger { color: var(--bad); }
 button.fold { width: 24px; padding: 0; border: 0; background: none; }
 :focus-visible { outline: 2px solid var(--accent); outline-offset: 1px; }
 .member :focus-visible { outline-offset: -2px; }
-#selected { display: flex; flex-wrap: wrap; gap: .4rem; align-items: center; position: sticky; top: 3.2rem; z-index: 1;
-  background: var(--drop); border-radius: .4rem; padding: .3rem .6rem; margin-bottom: .4rem; }
-.members { content-visibility: auto; }
-.count { white-space: nowrap; flex: 1 0 auto; }
+#selected { display: flex; gap: .4rem; align-items: center; position: absolute; inset: 0 0 2px; white-space: nowrap;
+  background: var(--drop); border-radius: .4rem; padding: 0 .6rem; overflow: hidden; }
+.room { content-visibility: auto; }
 #detail h3 { margin: .6rem 0 .2rem; color: var(--soft); font-size: .88em; }
-#detail .row { display: flex; flex-wrap: wrap; gap: .3rem; align-items: center; padding: .15rem 0; }
+#detail .title { display: grid; grid-template-columns: minmax(0, 1fr) auto auto; gap: .3rem; align-items: start; }
+#detail h2 { overflow-wrap: anywhere; max-height: 4.2em; overflow: hidden; margin: 0; }
+#detail .address { overflow-wrap: anywhere; margin: .2rem 0 .4rem; }
+#detail .row { display: grid; grid-template-columns: minmax(0, 1fr); gap: .1rem .4rem; align-items: center;
+  padding: .2rem 0; }
+#detail .row.slider { grid-template-columns: minmax(0, 1fr) 8rem auto; }
 #detail > .soft { margin-right: .5rem; }
-#detail .row > .what { overflow-wrap: anywhere; }
+#detail .row > .what { overflow: hidden; text-overflow: ellipsis; white-space: nowrap; }
+.acts { display: flex; gap: .3rem; flex-wrap: wrap; }
+.row .acts button { min-width: 3.4rem; }
+#detail [data-key^="mute-of "] { width: 4.2rem; }
+#detail [data-key^="pin-of "] { width: 3.8rem; }
+#detail [data-key^="floor-of "] { width: 5.4rem; }
+#detail .acts select { width: 8rem; }
 .slot { border: 1px dashed var(--line); border-radius: .4rem; padding: .2rem .4rem; margin: .15rem 0; }
 .add { display: flex; flex-wrap: wrap; gap: .4rem; align-items: end; padding-bottom: .6rem; margin-bottom: .6rem;
   border-bottom: 1px solid var(--line); }
@@ -107,15 +151,48 @@ dialog { border: 1px solid var(--line); border-radius: .5rem; background: var(--
   max-width: 30rem; }
 dialog input { width: 100%; }
 dialog p, dialog h2 { overflow-wrap: anywhere; }
+@media (max-width: 72rem) {
+  .member { grid-template-columns: 14px 24px minmax(7rem, 1.2fr) minmax(6rem, 1.2fr) 6.6rem 4.4rem; }
+  .member .sends { display: none; }
+  .head { grid-template-columns: 24px minmax(6rem, 1.2fr) 12rem minmax(0, .7fr) minmax(0, 1.3fr) 3.7rem 4.4rem; }
+}
 @media (max-width: 60rem) {
+  header { grid-template-columns: auto minmax(0, 1fr) auto; grid-template-rows: 2rem 2rem 1.6rem; height: 7rem; }
+  .finding { grid-row: 2; grid-column: 1 / -1; }
+  .history-buttons { grid-column: 3; }
+  .history-buttons button { width: 10rem; }
+  #redo { width: 7rem; }
+  #bar { top: 7rem; }
   main { grid-template-columns: minmax(0, 1fr); }
   aside { position: static; max-height: none; overflow: visible; }
+  #detail { position: fixed; left: 0; right: 0; bottom: 2.6rem; max-height: 60vh; overflow: auto; z-index: 4;
+    border-radius: .6rem .6rem 0 0; box-shadow: 0 -2px 12px rgb(0 0 0 / .3); }
 }
 @media (max-width: 40rem) {
-  main, header { padding: .5rem; }
-  .history-buttons { margin-left: 0; width: 100%; }
-  #search { width: 9rem; }
-  .member { grid-template-columns: 24px minmax(0, 1fr) auto auto; }
+  main { padding: .2rem .4rem 4.4rem; }
+  header { padding: .3rem .4rem; grid-template-columns: auto minmax(0, 1fr); height: 8.9rem;
+    grid-template-rows: 1.6rem 2rem 2rem 1.7rem; }
+  .history-buttons { grid-row: 3; grid-column: 1 / -1; }
+  .history-buttons button { width: auto; flex: 1.4 1 0; }
+  #redo { flex: 1 1 0; }
+  .finding label > span { display: none; }
+  .finding { gap: .3rem; }
+  .finding label:first-child { flex: 1; min-width: 0; }
+  #search { width: 100%; }
+  #fold { width: 5.4rem; }
+  #sum { gap: .3rem; }
+  #sum > span { display: none; }
+  .number { min-width: 0; flex: 1 1 auto; padding: 0 .2rem; }
+  #bar { top: 8.9rem; }
+  .member { grid-template-columns: 14px 24px minmax(0, 1fr) auto 4.4rem; }
   .member .sends, .member .sees { display: none; }
+  .head { grid-template-columns: 24px minmax(0, 1fr) 3.7rem 4.4rem; grid-template-rows: 26px 20px; height: 50px; }
+  .head .count { grid-row: 2; grid-column: 2 / -1; }
+  .head .held { display: none; }
+  footer { height: 3.6rem; grid-template-columns: minmax(0, 1fr) auto; padding: 0 .4rem; }
+  footer p { max-height: 3.4rem; }
+  #news { grid-column: 1 / -1; grid-row: 1; }
+  #notice:not([hidden]) ~ #news { display: none; }
+  #detail { bottom: 3.6rem; }
 }
 "##;

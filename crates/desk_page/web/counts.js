@@ -17,14 +17,18 @@ async function count() {
 function takeStats(next) {
   const before = stats;
   stats = next;
-  if (desk && (before || next)) render(turnedRooms(desk, before, next), false);
+  if (!desk) return;
+  if (!before) orderedAt = -Infinity;
+  const turned = before || next ? turnedRooms(desk, before, next) : new Set();
+  // Rooms with trouble rise, and who ceases to fit a filter goes, even where nothing has turned since the count before.
+  render(filter ? null : turned, false);
 }
 
 // The senders that are no source, where the bridge tells of any.
 function renderStrangers() {
   const items = strangersIn(stats, desk).map((model) => ({ key: `${model.address} ${model.ssrc}`, model }));
-  at("unknown").hidden = items.length === 0;
-  drawList(at("strangers"), items, strangerItem);
+  if (!isHeld("aside")) at("unknown").hidden = items.length === 0;
+  drawHeld(at("strangers"), items, strangerItem);
 }
 
 // Fills in the form that adds a source. Which member it is of is the operator's choice.

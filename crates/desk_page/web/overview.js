@@ -62,17 +62,19 @@ function memberFits(desk, names, member, words) {
   return fits(words, [member.member, name, member.address, member.mix, ...ssrcs, ...slots]);
 }
 
-// The rooms with the members that are shown: all of a room that fits itself, and otherwise those that fit.
-function overview(desk, names, search, sort) {
+// The rooms with the members that are shown: all of a room that fits itself, and otherwise those that fit. Where only
+// some are counted, rooms without one are left out. `placeOf` is a room's place among those with trouble.
+function overview(desk, names, search, sort, isShown = null, placeOf = () => 0) {
   const words = wordsOf(search);
+  const roomFits = (room) => words.length === 0 || fits(words, [`room ${room}`, nameOf(names, "room", room)]);
   const found = desk.rooms.map((room) => {
-    const members = membersIn(desk, room);
-    if (fits(words, [`room ${room}`, nameOf(names, "room", room)])) return { room, members };
-    return { room, members: members.filter((member) => memberFits(desk, names, member, words)) };
-  }).filter(({ room, members }) => members.length > 0 || fits(words, [`room ${room}`, nameOf(names, "room", room)]));
+    const counted = isShown ? membersIn(desk, room).filter(isShown) : membersIn(desk, room);
+    if (roomFits(room)) return { room, members: counted };
+    return { room, members: counted.filter((member) => memberFits(desk, names, member, words)) };
+  }).filter(({ room, members }) => members.length > 0 || (!isShown && roomFits(room)));
   const text = ({ room }) => nameOf(names, "room", room).toLowerCase() || "\uffff";
   const order = { number: (a, b) => a.room - b.room, members: (a, b) => b.members.length - a.members.length,
-    name: (a, b) => text(a).localeCompare(text(b)) };
+    name: (a, b) => text(a).localeCompare(text(b)), trouble: (a, b) => placeOf(a.room) - placeOf(b.room) };
   return found.sort((a, b) => order[sort](a, b) || a.room - b.room);
 }
 

@@ -1,25 +1,36 @@
-// Asking the page's program, and what clicks, keys and drags do.
-const token = () => document.querySelector('meta[name="desk-token"]').content;
-const EVERY = 250, COUNTED_EVERY = 2000, TRIES = 3, PATIENCE = 4000, REST = 400;
-const FEW_ROOMS = 8, FEW_MEMBERS = 4, ROW_HEIGHT = 25;
+// Asking the page's program, what goes out, and what comes in.
+const EVERY = 250, COUNTED_EVERY = 2000, TRIES = 3, PATIENCE = 8000, REST = 400, SLOW = 1000;
+const FEW_ROOMS = 8, FEW_MEMBERS = 4, ROW_HEIGHT = 25, HEAD_HEIGHT = 34, FADES = 5000, MARKED = 3000;
 const folded = new Map(), picked = new Set(), here = new Map();
 const widened = new Set(), resting = new Map(), suggestions = new Map();
 let desk = null, shownText = null, drag = null, group = [], timer = null, asking = false, opened = null, past = null;
-let names = {}, namesVersion = -1, since = null, walked = null, stats = null, counted = -COUNTED_EVERY;
+let names = {}, namesVersion = -1, walked = null, stats = null, counted = -COUNTED_EVERY;
+// The link: when news last came, what the program says of its bridge, and what the page makes of both.
+let lastNews = performance.now(), since = null, told = "", link = "connecting";
+// The versions that calls of this page made, when others have last changed an object, and which control is pressed.
+const mine = new Set(), touchedAt = new Map(), freshAt = new Map();
+let pressed = null, fading = null, newsFading = null;
+let token = document.querySelector('meta[name="desk-token"]').content;
 
+// What became of the last press. A success fades, a refusal stays until it is closed.
 function notice(text, good) {
-  at("notice").textContent = text;
+  at("notice").textContent = at("notice").title = text;
   at("notice").className = good ? "good" : "";
-  at("notice").hidden = false;
+  at("notice").hidden = at("close-notice").hidden = false;
+  clearTimeout(fading);
+  if (good) fading = setTimeout(closeNotice, FADES);
 }
+function closeNotice() { at("notice").hidden = at("close-notice").hidden = true; }
 
-function status(text, bad) {
-  if (at("status").textContent !== text) at("status").textContent = text;
-  at("status").className = bad ? "bad" : "";
+// What others did.
+function tellNews(text) {
+  at("news").textContent = at("news").title = text;
+  clearTimeout(newsFading);
+  newsFading = setTimeout(() => { at("news").textContent = at("news").title = ""; }, 2 * FADES);
 }
 
 async function ask(path, options) {
-  return fetch(path, { ...options, cache: "no-store", signal: AbortSignal.timeout(PATIENCE) });
+  return fetch(path, { ...options, cache: "no-store", signal: AbortSignal.timeout(options?.method ? PATIENCE : GONE) });
 }
 
 // Asks without changing anything. A connection that has to make way for others is tried again.
@@ -34,26 +45,73 @@ async function get(path) {
   }
 }
 
+// Posts. A token of an earlier run of the program is replaced, but nothing is sent twice.
 async function post(path, body) {
-  return ask(path, { method: "POST", headers: { "X-Desk-Token": token() }, body });
+  const reply = await ask(path, { method: "POST", headers: { "X-Desk-Token": token }, body });
+  if (reply.status === 403) await takeToken().catch(() => {});
+  return reply;
+}
+async function takeToken() {
+  const page = new DOMParser().parseFromString(await (await get("/")).text(), "text/html");
+  token = page.querySelector('meta[name="desk-token"]').content;
+  namesVersion = -1;
+}
+const ANEW = "not sent: the page's program was started anew. Look, and press again.";
+
+// Why a line isn't sent just now, in words, or nothing.
+function whyNot(line, key) {
+  if (isGone()) return `${at("status").textContent} Nothing is sent until it is back.`;
+  if (key && waits.has(key)) return "The press before has no answer yet.";
+  const just = performance.now() - JUST, object = objectsOfLine(line).find((one) => touchedAt.get(one) > just);
+  return object ? "Another operator changed that just now. Look, and press again." : "";
 }
 
-// Sends a line once. The version as which it is accepted, or 0. Whatever comes of it, the desk is shown again; the line
-// is never sent again by itself.
-async function call(line, words = line) {
-  if (document.body.classList.contains("gone")) return 0;
+// A control waits until its answer came, and the desk of that version.
+function waitsFor(key, line) {
+  waits.set(key, { line, version: 0 });
+  showWaits();
+}
+function answered(key, version) {
+  if (version > desk.version && waits.has(key)) waits.get(key).version = version;
+  else waits.delete(key);
+  showWaits();
+}
+function showWaits() {
+  for (const node of document.querySelectorAll("[data-key][aria-busy]")) {
+    if (!waits.has(node.dataset.key)) node.removeAttribute("aria-busy");
+  }
+  for (const key of waits.keys()) {
+    const nodes = document.querySelectorAll(`[data-key="${CSS.escape(key)}"]`);
+    for (const node of nodes) node.setAttribute("aria-busy", "true");
+  }
+}
+
+// Sends a line once, unless there is a reason not to, which is told. The version as which it is accepted, or 0.
+// Whatever comes of it, the desk is shown again; the line is never sent again by itself.
+async function call(line, words = line, key = pressed) {
+  const why = whyNot(line, key);
+  if (why) {
+    notice(`${words}: not sent. ${why}`);
+    return 0;
+  }
   if (at("collect").checked && !/^(undo|redo|group) /.test(line)) return collect(line);
+  const control = key ?? `line ${line} ${performance.now()}`;
+  waitsFor(control, line);
+  const slow = setTimeout(() => notice(`${words}: sent, no answer yet.`), SLOW);
+  let version = 0;
   try {
     const reply = await post("/call", line);
     const said = (await reply.text()).trim(), { good, text } = replyInWords(reply.status, said);
-    notice(`${words}: ${text}`, good);
-    return good ? Number(said.split(" ")[1]) : 0;
+    if (good) version = Number(said.split(" ")[1]);
+    if (version) mine.add(version);
+    notice(said.startsWith("NoToken") ? `${words}: ${ANEW}` : `${words}: ${text}`, good);
   } catch {
-    notice(`${words}: no answer came. Look at the desk before you send it again.`);
-    return 0;
-  } finally {
-    show();
+    notice(`${words}: no answer came. It may have been done: look at the desk before you press again.`);
   }
+  clearTimeout(slow);
+  answered(control, version);
+  show();
+  return version;
 }
 
 // Undoes or redoes calls, one after another. It stops where one isn't accepted, such as where another call came first.
@@ -61,7 +119,7 @@ async function goes({ word, calls }) {
   const name = word === "undo" ? "Undo" : "Redo";
   let version = past.version;
   for (const { line } of calls) {
-    if (version) version = await call(`${word} ${version}`, `${name}: ${worded(names, desk, line)}`);
+    if (version) version = await call(`${word} ${version}`, `${name}: ${worded(names, desk, line)}`, null);
   }
 }
 
@@ -118,34 +176,30 @@ async function show() {
     const reply = await get("/desk.txt");
     const text = await reply.text();
     if (reply.ok) await take(text);
-    else gone(noDeskInWords(text));
+    else told = text.startsWith("Busy") ? "seats" : "bridge";
   } catch (error) {
-    if (error instanceof TypeError || error.name === "TimeoutError" || error.name === "AbortError")
-      gone("The page's program is gone. Trying again; once it is back, load the page again.");
-    else console.error(error);
+    const isLink = error instanceof TypeError || ["TimeoutError", "AbortError"].includes(error.name);
+    if (!isLink) console.error(error);
   }
+  judge();
   asking = false;
   timer = setTimeout(show, EVERY);
 }
 
-// The desk is stale: nothing of it can be changed.
-function setGone(is) {
-  document.body.classList.toggle("gone", is);
-  at("main").inert = at("history-buttons").inert = is;
-}
-
-function gone(text) {
-  since ??= new Date().toLocaleTimeString();
-  past = null;
-  if (desk) renderHistory();
-  status(desk ? `${text} Below is the desk as it was at ${since}.` : text, true);
-  setGone(true);
+// What the page makes of its link. Where it is gone all can be read, and nothing is sent.
+const isGone = () => ["gone", "bridge", "seats"].includes(link);
+function judge() {
+  const quiet = performance.now() - lastNews, is = linkOf(told, quiet);
+  link = is === "live" && !desk ? "connecting" : is;
+  const text = linkInWords(link, quiet, since);
+  if (at("status").textContent !== text) at("status").textContent = at("status").title = text;
+  at("status").className = isGone() ? "bad" : link;
+  document.body.classList.toggle("gone", isGone());
 }
 
 async function take(text) {
-  status("Live", false);
-  since = null;
-  setGone(false);
+  [told, lastNews, since] = ["", performance.now(), new Date().toLocaleTimeString()];
+  judge();
   if (text !== shownText && !drag) await takeDesk(text);
   if (desk && past?.version !== desk.version) await takeHistory();
 }
@@ -156,18 +210,75 @@ async function takeDesk(text) {
   const rows = desk ? changes(desk.rows, next.rows) : [];
   const rooms = desk && !isRenamed ? changedRooms(desk, next, rows) : null;
   // Another desk of the same version, or of an earlier one, is another bridge's.
-  if (desk && (next.version < desk.version || (next.version === desk.version && rows.length > 0))) past = null;
+  if (desk && (next.version < desk.version || (next.version === desk.version && rows.length > 0))) {
+    past = null;
+    mine.clear();
+    waits.clear();
+  }
+  if (desk) takeOthers(next, rows);
   shownText = text;
   desk = next;
+  for (const [key, { version }] of waits) if (version && version <= desk.version) waits.delete(key);
+  showWaits();
+  loseSliders();
   render(rooms, rows.some((row) => /^. (room|member|source|slot) /.test(row)));
+}
+
+// Notes what others have changed, and marks the rows of these members for a while.
+function takeOthers(next, rows) {
+  const sent = [...waits.values()], unanswered = sent.filter(({ version }) => !version).length, now = performance.now();
+  const lines = sent.map(({ line }) => line);
+  const objects = othersObjects(desk.version, next.version, rows, mine, lines, unanswered);
+  const marked = new Set();
+  for (const object of objects) {
+    touchedAt.set(object, now);
+    const [kind, number] = object.split(" "), row = sourceOf(next, Number(number)) ?? sourceOf(desk, Number(number));
+    if (kind === "source" && row) marked.add(row.member);
+    if (["member", "gain"].includes(kind)) marked.add(Number(number));
+  }
+  if (marked.size === 0) return;
+  for (const member of marked) freshAt.set(member, now);
+  setTimeout(() => render(new Set([...marked].map((member) => memberOf(desk, member)?.room)), false), MARKED + 50);
+}
+
+// A slider that another operator has changed while it was held follows the desk, and what was held isn't sent.
+function loseSliders() {
+  for (const [key, one] of touched) {
+    const [, member, ssrc] = key.split(" "), gain = desk.gains.get(`${member} ${ssrc}`) ?? 256;
+    if (one.isLost || gain === one.from || gain === one.sent) continue;
+    const node = document.querySelector(`[data-key="${CSS.escape(key)}"]`), held = node ? Number(node.value) : gain;
+    clearTimeout(resting.get(key));
+    one.isLost = true;
+    if (node) node.value = gain;
+    const times = (q8) => `x${(q8 / 256).toFixed(2)}`, whose = sourceLabel(Number(ssrc));
+    notice(`Gain of ${whose} for member ${member}: another operator set ${times(gain)} while you held the slider. `
+      + `Your ${times(held)} was not sent.`);
+    if (!one.isDown) touched.delete(key);
+  }
 }
 
 // The history, as the bridge tells it. Where it fails, it is asked for with the next desk.
 async function takeHistory() {
   const reply = await get("/history.txt");
   if (!reply.ok) return;
+  const before = past;
   past = parseHistory(await reply.text());
+  if (before) tellOthers(before);
   renderHistory();
+}
+
+// Tells what others did since the history before: their calls, or what they took back or did again.
+function tellOthers(before) {
+  const unanswered = [...waits.values()].filter(({ version }) => !version).length;
+  let count = -unanswered;
+  for (let version = before.version + 1; version <= past.version; version += 1) if (!mine.has(version)) count += 1;
+  if (count <= 0) return;
+  const fresh = [...past.done, ...past.undone].filter(({ number }) => number > before.version && !mine.has(number));
+  const more = count > 1 ? `, and ${count - 1} more` : "", last = fresh[fresh.length - 1];
+  const is = past.undone.length > before.undone.length ? "undid" : "did again";
+  const [taken] = (is === "undid" ? past.undone : past.done).slice(-1);
+  if (last) tellNews(`operator ${last.operator}: ${worded(names, desk, last.line)}${more}`);
+  else if (taken) tellNews(`another operator ${is}: ${worded(names, desk, taken.line)}${more}`);
 }
 
 // Names, as the page's program keeps them.
@@ -193,6 +304,7 @@ async function rename(kind, number, name) {
         await takeNames();
         return render();
       }
+      if (said.startsWith("NoToken")) return notice(`${what}: ${ANEW}`);
       if (!/^no [0-9]+ Newer/.test(said)) return notice(`${what}: ${nameRefusal(reply.status, said)}`);
       await takeNames();
     } catch {
@@ -226,13 +338,17 @@ const acts = {
     opened = opened === Number(of) ? null : Number(of);
     setHere(Number(of));
     render();
-    if (opened !== null) at("detail").scrollIntoView({ block: "nearest" });
   },
   close: () => { opened = null; render(); },
   "take-stranger": (of) => fillSource(Number(of)),
   walk: (of) => { walked = walked === Number(of) ? null : Number(of); renderHistory(); },
   go: (of) => { const way = past && wayTo(past, Number(of)); if (way) goes(way); },
-  fold: (of) => { folded.set(Number(of), !isFolded(Number(of))); render(); },
+  fold: (of) => { folded.set(Number(of), !isFolded(Number(of))); render(null, true, true); },
+  filter: (of) => { filter = filter === of ? "" : of; lastFit.clear(); render(null, true, true); },
+  unknown: () => {
+    at("unknown").scrollIntoView({ block: "nearest" });
+    at("strangers").querySelector("button")?.focus();
+  },
   toggle: (of) => callAll(toggled(desk, [Number(of)]), `mute of member ${of}`),
   "mute-others": (of) => callAll(othersMuted(desk, Number(of)), `mute all but member ${of}`),
   "mute-chosen": () => callAll(pickedVoices(false).map((s) => lines.mute(s.ssrc)), "mute the selected members"),

@@ -3,21 +3,27 @@
 
 // A source from which nothing has come for so long is silent, in milliseconds.
 const SILENT = 2000;
-// The share of packets that were lost, from which a source loses many.
-const LOSSY = 0.02;
+// A source begins to lose many at more than this share of the last 10 s, and ceases below that one. A count comes each
+// 2 s.
+const LOSSY = 0.02, FAIR = 0.01, COUNTS = 6;
 // The payload types of sound: PCMU and the two of L16 (RFC 3551).
 const SOUND_TYPES = [0, 10, 11];
 
-// Whether a source has lost many packets since the count before. One that began anew is counted from its beginning.
-function losesMany(one, before) {
-  const since = before && before.expected <= one.expected ? before : { expected: 0, lost: 0 };
-  return one.lost - since.lost > LOSSY * (one.expected - since.expected);
+// What a source has lost of late: its share, whether that is much, and the counts that tell it. One that began anew is
+// counted from its beginning.
+function lossOf(one, before) {
+  const isAnew = !before || before.expected > one.expected;
+  const counts = [...(isAnew ? [{ expected: 0, lost: 0 }] : before.counts), { expected: one.expected, lost: one.lost }];
+  const [first] = counts.slice(-COUNTS), expected = one.expected - first.expected, lost = one.lost - first.lost;
+  const share = expected > 0 ? Math.max(0, lost) / expected : 0;
+  const isLossy = before?.isLossy && !isAnew ? share >= FAIR : share > LOSSY;
+  return { counts: counts.slice(-COUNTS), share, isLossy };
 }
 
 // The counts of sources by address and SSRC, and the senders that are no source. `before` is the count before, if any.
 function parseStats(text, before = null) {
   const told = JSON.parse(text), keyed = (told.sources ?? []).map((one) => [`${one.address} ${one.ssrc}`, one]);
-  for (const [key, one] of keyed) one.isLossy = losesMany(one, before?.sources.get(key));
+  for (const [key, one] of keyed) Object.assign(one, lossOf(one, before?.sources.get(key)));
   return { sources: new Map(keyed), strangers: told.strangers ?? [] };
 }
 
@@ -44,7 +50,9 @@ function isLossy(stats, desk, ssrc) {
 function countInWords(count) {
   if (count === null) return "";
   if (count.ago_ms === null) return "no packet came";
-  return `${count.packets} packets, ${count.lost} lost, the last one ${agoInWords(count.ago_ms)}`;
+  const late = count.share > 0 ? `, ${(100 * count.share).toFixed(1)} percent of late` : "";
+  const jitter = typeof count.jitter_ms === "number" ? `, jitter ${count.jitter_ms} ms` : "";
+  return `${count.packets} packets, ${count.lost} lost${late}${jitter}, the last one ${agoInWords(count.ago_ms)}`;
 }
 
 // The rooms of the sources that fell silent or began to lose many packets between two counts, or ceased to.

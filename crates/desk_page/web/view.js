@@ -17,15 +17,21 @@ const code = (text) => el("code", {}, text);
 // A name may run from right to left, so that it stands by itself.
 const bdi = (text) => el("bdi", {}, text);
 
-// A button that sends a line, which it shows when it is pointed at or reached by Tab. `what` tells its object.
-function sends(text, line, what, kind = "") {
-  return el("button", { type: "button", class: `small ${kind}`, title: line, "data-key": line, "data-line": line,
-    "aria-label": `${text} ${what}` }, text);
+// The controls that were pressed and have no answer yet, by their keys: each with its line, and the version as which it
+// was accepted, or 0.
+const waits = new Map();
+const busy = (key) => (waits.has(key) ? "true" : null);
+
+// A button that sends a line, which it shows when it is pointed at or reached by Tab. `what` tells its object. A button
+// that has another line after it was pressed keeps its key.
+function sends(text, line, what, kind = "", key = line) {
+  return el("button", { type: "button", class: `small ${kind}`, title: line, "data-key": key, "data-line": line,
+    "aria-label": `${text} ${what}`, "aria-busy": busy(key) }, text);
 }
 // A button that the page acts on itself.
 function does(text, act, of, what, more = {}) {
   return el("button", { type: "button", class: "small", "data-key": `${act} ${of}`, "data-act": act, "data-of": of,
-    "aria-label": `${text} ${what}`, ...more }, text);
+    "aria-label": `${text} ${what}`, "aria-busy": busy(`${act} ${of}`), ...more }, text);
 }
 // A choice that sends the line `PREFIX CHOSEN`, or hands what is chosen to an act. It is filled once it is opened.
 function chooses(text, what, key, more) {
@@ -33,9 +39,11 @@ function chooses(text, what, key, more) {
     el("option", { value: "" }, text));
 }
 
-// Whether an operator is at a field just now.
-const touched = new Set();
-const isBusy = (node) => node === document.activeElement || touched.has(node.dataset.key);
+// The sliders that an operator holds, or moved by a key just now, by their keys: the gain that each had then, and the
+// one that was sent. One that another operator has changed meanwhile is lost, and follows the desk.
+const touched = new Map();
+const isBusy = (node) => (node.type === "range" ? touched.get(node.dataset.key)?.isLost === false :
+  node === document.activeElement);
 
 // Makes a node look like another one, and keeps all of it that is so already.
 function morph(node, next) {
@@ -92,6 +100,7 @@ function drawList(node, items, draw) {
       morph(entry.node, draw(item));
       entry.look = look;
     }
+    if (item.model) entry.model = item.model;
     if (entry.node === place) place = place.nextElementSibling;
     else node.insertBefore(entry.node, place);
     drawn.set(item.key, entry);
@@ -111,98 +120,120 @@ function fate({ isSilent: silent, isLossy: lossy }) {
   if (silent) return { mark: " silent", words: "no packet comes" };
   return lossy ? { mark: " lossy", words: "over 2 percent of the packets are lost" } : { mark: "", words: null };
 }
+// A member's state: a sign, a class and words.
+const STATES = { silent: ["\u2716", "silent", "silent: no packet comes"],
+  losing: ["\u26a0", "losing", "losing over 2 percent of its packets"],
+  "muted floor": ["\u25cf", "floor-muted", "has the floor and is muted"] };
 
-// A member's line of the overview.
+// A member's line of the overview. One that has left stays in its place as long as places are held.
 function memberRow({ model, room }) {
-  const { member, name, floor, muted, odd, hasAudio, isOpen, isChosen, isHere } = model;
-  const who = spoken(name, "member", member);
+  const { member, name, floor, muted, odd, hasAudio, isOpen, isChosen, isHere, trouble, left, isFresh } = model;
+  const who = spoken(name, "member", member), [sign, state, words] = STATES[trouble] ?? ["", "", ""];
+  const short = name ? [bdi(name), soft(` ${member}`)] : [`member ${member}`];
   const sent = model.sends.flatMap((s, place) => [place ? ", " : null,
     el("span", { class: `source${s.muted ? " muted" : ""}${fate(s).mark}`,
-      title: fate(s).words, draggable: s.kind === "video" ? "true" : null,
+      title: fate(s).words, draggable: s.kind === "video" && !left ? "true" : null,
       "data-source": s.ssrc }, `${s.kind} ${labelled(s.name, s.ssrc)}`)]);
   const seenWords = model.sees.map((s) => (s.source === null ? "nothing" : s.label)).join(", ");
-  return el("div", { class: `member${odd ? " odd" : ""}${isOpen ? " open" : ""}`, role: "listitem", draggable: "true",
-    "data-member": member, "data-room-of": room, "data-key": `member ${member}` },
-    el("label", { class: "pick" }, el("input", { type: "checkbox", tabindex: -1, "data-select": member,
+  const off = left ? { "aria-disabled": "true" } : {};
+  const looks = [odd && " odd", trouble && " trouble", isOpen && " open", left && " left", isFresh && " fresh"];
+  return el("div", { class: `member${looks.filter(Boolean).join("")}`, role: "listitem",
+    draggable: left ? null : "true", "data-member": member, "data-room-of": room, "data-key": `member ${member}` },
+    el("span", { class: `state ${state}`, title: words || null, "aria-hidden": "true" }, sign),
+    el("label", { class: "pick" }, el("input", { type: "checkbox", tabindex: -1, "data-select": member, ...off,
       checked: isChosen, "aria-label": `Select ${who}` })),
     el("button", { type: "button", class: "who", tabindex: isHere ? 0 : -1, "data-act": "open", "data-of": member,
-      "data-key": `open ${member}`, "aria-expanded": String(isOpen), "aria-label": `Open ${who}` },
-      ...titled(name, "member", member)),
+      "data-key": `open ${member}`, "aria-expanded": String(isOpen), ...off,
+      "aria-label": `Open ${name ? `${name} ${member}` : who}${words && `, ${words}`}${left ? `, ${left}` : ""}` },
+      ...short),
     el("span", { class: "sends soft" }, ...(sent.length ? sent : ["sends nothing"])),
-    el("span", { class: "sees soft" }, model.sees.length ? `sees ${seenWords}` : ""),
-    el("span", {}, floor ? el("span", { class: `tag${odd ? " bad" : ""}` }, odd ? "floor, muted" : "floor") : "",
-      muted && !floor ? el("span", { class: "tag bad" }, "muted") : ""),
-    hasAudio ? does(muted ? "Unmute" : "Mute", "toggle", member, who, { tabindex: -1, "aria-keyshortcuts": "m" }) :
-      el("span", {}));
+    el("span", { class: "sees soft" }, left || (model.sees.length ? `sees ${seenWords}` : "")),
+    el("span", { class: "says" }, floor ? el("span", { class: `tag${odd ? " bad" : ""}` },
+      odd ? "floor, muted" : "floor") : "", muted && !floor ? el("span", { class: "tag bad" }, "muted") : ""),
+    hasAudio ? does(muted ? "Unmute" : "Mute", "toggle", member, who,
+      { tabindex: -1, "aria-keyshortcuts": "m", ...off }) : el("span", {}));
 }
 
-// A room of the overview: its head, and a list for its members.
+// A room of the overview: its head, and a list for its members. All of the head has its place, whatever is said there.
 function roomHead(model) {
-  const { room, name, isFolded, floor, pin } = model, what = spoken(name, "room", room);
-  const people = `${model.members} member${model.members === 1 ? "" : "s"}`;
-  const counts = model.muted ? `${people}, ${model.muted} muted` : people;
-  return el("div", { class: `head${model.odd ? " odd" : ""}` },
+  const { room, name, isFolded, floor, pin, left, tally } = model, what = spoken(name, "room", room);
+  const off = left ? { "aria-disabled": "true" } : {};
+  const many = `${model.members} member${model.members === 1 ? "" : "s"}`;
+  const counts = [["silent", "warn"], ["losing", "warn"], ["muted", ""]].flatMap(([key, kind]) => (tally[key] ?
+    [", ", el("b", { class: kind }, `${tally[key]} ${key}`)] : []));
+  return el("div", { class: `head${model.odd ? " odd" : ""}${left ? " left" : ""}` },
     el("button", { type: "button", class: "fold", "data-act": "fold", "data-of": room, "data-key": `fold ${room}`,
-      "aria-expanded": String(!isFolded), "aria-label": `${isFolded ? "Unfold" : "Fold"} ${what}` },
+      "aria-expanded": String(!isFolded), "aria-label": `${isFolded ? "Unfold" : "Fold"} ${what}`, ...off },
       isFolded ? "\u25b8" : "\u25be"),
     el("h3", { id: `room-${room}` }, ...titled(name, "room", room)),
-    model.music ? el("span", { class: "soft rate" }, `${MUSIC} Hz`) : "",
-    el("span", { class: "soft grow count" }, counts),
-    pin ? el("span", { class: "tag" }, bdi(pin.label), " is pinned") : "",
-    pin ? sends("Unpin", lines.unpin(room), `${pin.label} in ${what}`) : "",
-    floor ? el("span", { class: `tag${model.odd ? " bad" : ""}` }, "floor: ", bdi(floor.label),
-      model.odd ? ", muted" : "") : "",
-    floor ? sends("Take floor", lines.takeFloor(room), `from ${floor.label} in ${what}`) : "",
-    does("Name", "name", `room ${room}`, what),
-    does("Remove room", "remove-room", room, what, { class: "small danger", title: lines.removeRoom(room) }));
+    el("span", { class: "soft count" }, model.music ? el("span", { class: "rate" }, `${MUSIC} Hz`) : "",
+      model.music ? ", " : "", left || many, ...(left ? [] : counts)),
+    el("span", { class: "held" },
+      pin ? el("span", { class: "tag", title: `${pin.label} is pinned` }, bdi(pin.label), " is pinned") : "",
+      pin && !left ? sends("Unpin", lines.unpin(room), `${pin.label} in ${what}`) : ""),
+    el("span", { class: "held" },
+      floor ? el("span", { class: `tag${model.odd ? " bad" : ""}`, title: `floor: ${floor.label}` }, "floor: ",
+        bdi(floor.label), model.odd ? ", muted" : "") : "",
+      floor && !left ? sends("Take floor", lines.takeFloor(room), `from ${floor.label} in ${what}`) : ""),
+    does("Name", "name", `room ${room}`, what, { class: "small quiet", ...off }),
+    does("Remove", "remove-room", room, what,
+      { class: "small danger quiet", title: lines.removeRoom(room), ...off }));
 }
 function roomCard({ model }) {
-  return el("section", { class: "room", "data-room": model.room, "data-key": `room ${model.room}`,
-    "aria-labelledby": `room-${model.room}` }, roomHead(model),
-    el("div", { class: "members", role: "list", "data-key": `members ${model.room}`, hidden: model.isFolded,
-      "aria-label": `Members of ${spoken(model.name, "room", model.room)}` }));
+  const { room, name, isFolded, isEmpty } = model;
+  return el("section", { class: "room", "data-room": room, "data-key": `room ${room}`,
+    "aria-labelledby": `room-${room}` }, roomHead(model),
+    el("div", { class: "members", role: "list", "data-key": `members ${room}`, hidden: isFolded && isEmpty,
+      "aria-label": `Members of ${spoken(name, "room", room)}` }));
 }
 
-// The panel of one member.
-function gainRow(member, who, { ssrc, gain, label }) {
-  const line = lines.setGain(member, ssrc, "");
-  return el("div", { class: "row", "data-key": `gain row ${ssrc}` },
-    el("span", { class: "what grow" }, bdi(label), soft(` x${(gain / 256).toFixed(2)}`)),
+// The panel of one member. Each thing has its buttons at the right, in places of their own.
+function gainRow(member, who, { ssrc, gain, label, hasLeft }) {
+  const line = lines.setGain(member, ssrc, ""), off = hasLeft ? { disabled: true } : {};
+  return el("div", { class: `row slider${hasLeft ? " left" : ""}`, "data-key": `gain row ${ssrc}` },
+    el("span", { class: "what" }, bdi(label), soft(` x${(gain / 256).toFixed(2)}`)),
     el("input", { type: "range", min: 0, max: 1024, step: 32, value: gain, "data-key": `gain ${member} ${ssrc}`,
-      "data-gain": line, "aria-label": `Gain of ${label} for ${who}`, title: `${line}${gain}` }),
+      "data-gain": line, "aria-label": `Gain of ${label} for ${who}`, title: `${line}${gain}`, ...off }),
     sends("Reset", lines.setGain(member, ssrc, 256), `the gain of ${label} for ${who}`));
 }
 function sourceRow(room, source) {
-  const { ssrc, kind, muted, name, isPinned, count } = source;
-  const what = `${kind} ${labelled(name, ssrc)}`;
-  return el("div", { class: "row", "data-key": `source row ${ssrc}` },
-    el("span", { class: `what grow source${muted ? " muted" : ""}${fate(source).mark}`, "data-source": ssrc,
-      draggable: kind === "video" ? "true" : null }, `${kind} `, bdi(labelled(name, ssrc))),
-    count ? el("span", { class: "soft counted" }, count) : "",
-    muted ? sends("Unmute", lines.unmute(ssrc), what) : sends("Mute", lines.mute(ssrc), what),
-    kind === "video" && !isPinned ? sends("Pin", lines.pin(room, ssrc), what) : "",
-    does("Name", "name", `source ${ssrc}`, what),
-    sends("Remove", lines.removeSource(ssrc), what, "danger"));
+  const { ssrc, kind, muted, name, isPinned, count, hasLeft } = source;
+  const what = `${kind} ${labelled(name, ssrc)}`, isVideo = kind === "video";
+  const pin = isPinned ? sends("Unpin", lines.unpin(room), what, "", `pin-of ${ssrc}`) :
+    sends("Pin", lines.pin(room, ssrc), what, "", `pin-of ${ssrc}`);
+  return el("div", { class: `row${hasLeft ? " left" : ""}`, "data-key": `source row ${ssrc}` },
+    el("span", { title: what, class: `what source${muted ? " muted" : ""}${fate(source).mark}`, "data-source": ssrc,
+      draggable: isVideo && !hasLeft ? "true" : null }, `${kind} `, bdi(labelled(name, ssrc))),
+    el("span", { class: "acts" },
+      muted ? sends("Unmute", lines.unmute(ssrc), what, "", `mute-of ${ssrc}`) :
+        sends("Mute", lines.mute(ssrc), what, "", `mute-of ${ssrc}`),
+      isVideo ? pin : "",
+      does("Name", "name", `source ${ssrc}`, what),
+      sends("Remove", lines.removeSource(ssrc), what, "danger")),
+    count ? el("span", { class: "soft counted" }, count) : "");
 }
-function slotRow({ slot, index, source, label, by: rule, why, isSubscribed }) {
+function slotRow({ slot, index, source, label, by: rule, why, isSubscribed, hasLeft }) {
   const word = { sub: "subscribed", pin: "by the pin", floor: "by the floor" }[rule];
-  return el("div", { class: "row slot", "data-slot": slot, "data-key": `slot row ${slot}` },
-    el("span", { class: "what grow" }, `slot ${index} `, soft(`(${slot}): `),
+  return el("div", { class: `row slot${hasLeft ? " left" : ""}`, "data-slot": slot, "data-key": `slot row ${slot}` },
+    el("span", { class: "what" }, `slot ${index} `, soft(`(${slot}): `),
       ...(source === null ? [soft(`nothing, ${why}`)] : [bdi(label), soft(` ${word}`)])),
-    chooses("Subscribe", `slot ${slot}`, `subscribe ${slot}`),
-    isSubscribed ? sends("Unsubscribe", lines.unsubscribe(slot), `slot ${slot}`) : "",
-    sends("Remove", lines.removeSlot(slot), `slot ${slot}`, "danger"));
+    el("span", { class: "acts" },
+      isSubscribed ? sends("Unsubscribe", lines.unsubscribe(slot), `slot ${slot}`) : "",
+      chooses("Subscribe", `slot ${slot}`, `subscribe ${slot}`),
+      sends("Remove", lines.removeSlot(slot), `slot ${slot}`, "danger")));
 }
 function detailPanel(model) {
-  const { member, name, room, roomLabel } = model, who = spoken(name, "member", member);
+  const { member, name, room, roomLabel, left } = model, who = spoken(name, "member", member);
   const part = (title, rows, none) => [el("h3", { "data-key": title }, title), ...(rows.length ? rows : [soft(none)])];
-  return el("section", { id: "detail", "aria-labelledby": "detail-title", "data-member-open": member },
-    el("div", { class: "row" }, el("h2", { id: "detail-title", class: "grow" }, ...titled(name, "member", member)),
+  return el("section", { id: "detail", class: left ? "left" : null, "aria-labelledby": "detail-title",
+    "data-member-open": member },
+    el("div", { class: "title" }, el("h2", { id: "detail-title" }, ...titled(name, "member", member)),
       does("Name", "name", `member ${member}`, who), does("Close", "close", member, who)),
-    el("div", { class: "soft address" }, "in ", bdi(roomLabel), `, ${model.address} ${model.codec}, mix ${model.mix}`),
-    el("div", { class: "row" },
-      model.floor ? sends("Take floor", lines.takeFloor(room), `from ${who}`) :
-        sends("Give floor", lines.giveFloor(room, member), `to ${who}`),
+    el("div", { class: "soft address" }, "in ", bdi(roomLabel), `, ${model.address} ${model.codec}, mix ${model.mix}`,
+      left ? `, ${left}` : ""),
+    el("div", { class: "acts" },
+      model.floor ? sends("Take floor", lines.takeFloor(room), `from ${who}`, "", `floor-of ${member}`) :
+        sends("Give floor", lines.giveFloor(room, member), `to ${who}`, "", `floor-of ${member}`),
       chooses("Move to room", who, `move-member ${member}`),
       model.others ? does("Mute all others", "mute-others", member, `of the room of ${who}`) : "",
       sends("Remove", lines.removeMember(member), who, "danger")),
@@ -213,16 +244,17 @@ function detailPanel(model) {
 }
 
 // An unknown sender, and a button that fills in the form to add it.
-function strangerItem({ model: { address, ssrc, type, packets, member, isElsewhere } }) {
+function strangerItem({ model: { address, ssrc, type, packets, member, isElsewhere, hasLeft } }) {
   const whose = member === null ? "no member has this address" : `the address of member ${member}`;
   const known = isElsewhere ? `source ${ssrc} is declared at another address` : whose;
-  return el("li", {}, `${address} `, soft(`SSRC ${ssrc}, type ${type}, ${packets} packets, ${known}`), " ",
-    isElsewhere ? "" : does("Add as a source", "take-stranger", ssrc, `${ssrc} from ${address}`));
+  return el("li", { class: hasLeft ? "left" : null }, `${address} `,
+    soft(`SSRC ${ssrc}, type ${type}, ${packets} packets, ${known}`), " ",
+    isElsewhere || hasLeft ? "" : does("Add as a source", "take-stranger", ssrc, `${ssrc} from ${address}`));
 }
 
 // A call of the history, and below the one that is clicked what leads to it.
-function callItem({ model: { number, operator, text, isUndone, isWalked, isOnWay, way } }) {
-  return el("li", { class: `${isUndone ? "undone" : ""}${isOnWay ? " way" : ""}` },
+function callItem({ model: { number, operator, text, isUndone, isWalked, isOnWay, way, hasLeft } }) {
+  return el("li", { class: `${isUndone ? "undone" : ""}${isOnWay ? " way" : ""}${hasLeft ? " left" : ""}` },
     el("button", { type: "button", class: "call", "data-act": "walk", "data-of": number, "data-key": `walk ${number}`,
       "aria-label": `${text} version ${number}`, "aria-expanded": String(isWalked) }, code(text)),
     soft(`${isUndone ? "undone, " : ""}version ${number}, operator ${operator}`),

@@ -34,6 +34,7 @@ from lib.lasting import finds_another, keeps_the_desk, shows_stale
 from lib.make.page import WEB
 from lib.serving import Operator, free_port, settings
 from lib.showing import take_pictures
+from lib.staying import stays
 from lib import standin
 from lib.models.desk import Log
 from lib.shared import CRATES, add_program_or_build, fail, found_program, try_command
@@ -448,7 +449,7 @@ def find_commands(browser):
 
 def try_functions():
     """The functions of the page that choose a click's line, by themselves."""
-    parts = "lines.js", "overview.js", "kept.js", "stats.js", "history.js"
+    parts = "lines.js", "overview.js", "kept.js", "stats.js", "rules.js", "history.js"
     script = "".join((WEB / part).read_text() for part in parts)
     with tempfile.TemporaryDirectory() as folder:
         path = pathlib.Path(folder) / "lines.js"
@@ -509,6 +510,7 @@ def try_by_hand(args, folder, address, bridge):
         shows_stale(one, bridge.go, bridge.come)
         finds_another(one, bridge.other, bridge.shown, bridge.told)
         stays_small(one, [standing(*size) for size in ((1, 2), (1, 64), (64, 16))])
+        stays(one)
     finally:
         one.close()
         two.close()

@@ -233,13 +233,67 @@ same([...page.turnedRooms(desk, null, stats)], [1]);
 same([...page.turnedRooms(desk, stats, stats)], []);
 same([page.parseStats("{}").strangers, page.parseStats("{}").sources.size], [[], 0]);
 
-// A source loses many where over 2 percent were lost since the count before, or since it began anew.
+// A source begins to lose many at over 2 percent of the last six counts, and ceases under 1. One that began anew is
+// counted from its beginning.
 const lossOf = (expected, lost, before) => page.parseStats(JSON.stringify({
-  sources: [{ address: "127.0.0.1:6000", ssrc: 101, packets: 1, expected, lost, ago_ms: 3 }] }), before);
+  sources: [{ address: "127.0.0.1:6000", ssrc: 101, packets: 1, expected, lost, ago_ms: 3, jitter_ms: 4 }] }), before);
 const fair = lossOf(100, 2, null), many = lossOf(200, 5, fair);
-same([fair, many, lossOf(300, 5, many), lossOf(300, 8, many), lossOf(50, 1, many), lossOf(50, 2, many)]
-  .map((one) => page.isLossy(one, desk, 101)), [false, true, false, true, false, true]);
+same([fair, many, lossOf(300, 5, many), lossOf(500, 5, many), lossOf(501, 5, many), lossOf(50, 1, many),
+  lossOf(50, 2, many)].map((one) => page.isLossy(one, desk, 101)), [false, true, true, true, false, false, true]);
+let slides = lossOf(1000, 170, null);
+same([1100, 1200, 1300, 1400, 1500].map((expected) => {
+  slides = lossOf(expected, 170, slides);
+  return page.isLossy(slides, desk, 101);
+}), [true, true, true, true, false]);
+same(page.countInWords(page.countOf(many, desk, 101)),
+  "1 packets, 5 lost, 2.5 percent of late, jitter 4 ms, the last one just now");
 same([[many, desk, 999], [null, desk, 101]].map((one) => page.isLossy(...one)), [false, false]);
 same([...page.turnedRooms(desk, fair, many)], [1]);
+
+// The objects of rows and of lines, and what of them others have changed.
+same(["member 0 10 1 127.0.0.1:6000 pcmu 9001 0 0", "source 101 10 video", "slot 501 11 0 0 0", "sub 502 102",
+  "mute 202", "gain 11 201 128", "pin 1 101", "floor 1 10", "room 2 44100"].map(page.objectsOfRow),
+  [["member 10", "room 1"], ["source 101", "member 10"], ["slot 501", "member 11"], ["slot 502"], ["source 202"],
+    ["gain 11 201"], ["pin 1"], ["floor 1"], ["room 2"]]);
+same(["mute 201", "set-gain 11 201 512", "group unmute 202 / give-floor 1 10", "undo 17", "move-member 10 2",
+  "unsubscribe 502"].map(page.objectsOfLine), [["source 201"], ["gain 11 201"], ["source 202", "floor 1"], ["history"],
+  ["member 10"], ["slot 502"]]);
+const muted = ["+ mute 201"], others = (before, now, rows, mine, sent, waiting) =>
+  page.othersObjects(before, now, rows, new Set(mine), sent, waiting);
+same(others(17, 18, muted, [], [], 0), ["history", "source 201"]);
+same(others(17, 18, muted, [18], [], 0), []);
+same(others(17, 18, muted, [], ["mute 201"], 1), []);
+same(others(17, 19, ["+ mute 201", "- mute 202"], [19], ["unmute 202"], 0), ["history", "source 201"]);
+same(others(17, 18, ["- member 2 12 2 a pcmu 1 0 0", "+ member 1 12 2 a pcmu 1 0 0", "- room 3"], [], [], 0),
+  ["history", "room 3"]);
+
+// Places: how many changes are held back, and what stands where meanwhile.
+const plan = (...rooms) => rooms.map(([room, ...members]) => ({ room, members }));
+same([[plan(), plan()], [plan([1, 10, 11]), plan([1, 10, 11])], [plan([1, 10, 11]), plan([1, 11])],
+  [plan([1, 10], [2]), plan([1], [2, 10])], [plan([1], [2]), plan([2], [1])], [plan([1, 10, 11]), plan([1, 11, 10])],
+  [plan(), plan([1, 10])]].map((pair) => page.placeChanges(...pair)), [0, 0, 1, 2, 1, 1, 2]);
+same(page.inOldPlaces([{ key: 1, text: "a" }, { key: 2, text: "b" }], [{ key: 3 }, { key: 2, text: "c" }], "key"),
+  [{ key: 1, text: "a", hasLeft: true }, { key: 2, text: "c" }]);
+
+// Trouble: a silent source comes first, then a lossy one, then a floor that is muted.
+const quiet = page.parseStats(JSON.stringify({ sources: [[101, 0], [102, 3], [201, 0]].map(([ssrc, lost]) => (
+  { address: "127.0.0.1:6000", ssrc, packets: 9, expected: 100, lost, ago_ms: 1 })) }));
+const troubles = (of, counted) => of.members.map((member) => page.troubleOf(of, counted, member));
+same([troubles(desk, null), troubles(desk, stats), troubles(desk, quiet), troubles(silent, null)],
+  [["", "", ""], ["silent", "silent", ""], ["losing", "silent", ""], ["muted floor", "", ""]]);
+same(page.tallyOf(desk, quiet, desk.members), { members: 3, silent: 1, losing: 1, muted: 1, weight: 4 });
+same(page.tallyOf(silent, null, []), { members: 0, silent: 0, losing: 0, muted: 0, weight: 0 });
+same(["silent", "losing", "muted"].map((filter) => desk.members.filter((member) =>
+  page.isCounted(desk, quiet, filter, member)).map(({ member }) => member)), [[11], [10], [11]]);
+same(page.overview(desk, {}, "", "number", (member) => member.member === 12).map(({ room }) => room), [2]);
+same(page.overview(desk, {}, "", "trouble", null, (room) => -room).map(({ room }) => room), [2, 1]);
+
+// The link: live, late from 4 s, gone from 10 s, and what the program says of its bridge.
+same([0, 4000, 4001, 10000, 10001].map((ms) => page.linkOf("", ms)), ["live", "live", "late", "late", "gone"]);
+same([page.linkOf("bridge", 0), page.linkOf("seats", 99999)], ["bridge", "seats"]);
+same([["live", 0, "9:00"], ["late", 6900, "9:00"], ["gone", 12000, "9:00"], ["gone", 12000, null],
+  ["bridge", 0, "9:00"], ["seats", 0, null], ["connecting", 0, null]].map((link) => page.linkInWords(...link)),
+  ["Live", "Late: last news 6 s ago", "No news since 9:00. Looking …", "No news yet. Looking …",
+    "The bridge is gone since 9:00. Looking …", "All seats are taken. Looking …", "Asking the bridge"]);
 
 console.log(`${tried} tries of the page's functions, no fault`);

@@ -18,7 +18,7 @@ PARTS = [
         ("HTML_AFTER", "The page behind its token.", "page.html", 1),
     ]),
     ("script_lines.rt", "What the page makes of the bridge's texts, and the lines that clicks send.", [
-        ("LINES", "The first part of the page's script.", "lines.js overview.js kept.js stats.js history.js", 0),
+        ("LINES", "The first part of the page's script.", "lines.js overview.js kept.js stats.js rules.js history.js", 0),
     ]),
     ("script_view.rt", "How the page shows the desk, and what is done at it.", [
         ("VIEW", "The rest of the page's script.", "view.js page.js counts.js hands.js", 0),

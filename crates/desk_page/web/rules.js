@@ -1,0 +1,106 @@
+// The rules of the page: what stays in its place, when a press is meant, and who is in trouble. No function touches the
+// page.
+
+// A press is refused for so long after another's change of its object, or after places have changed, in milliseconds.
+const JUST = 300;
+// So long after the last news the page is late, and after that gone.
+const LATE = 4000, GONE = 10000;
+// For so long rooms by trouble keep their order, and who ceases to fit a filter stays.
+const SETTLED = 5000;
+
+// The objects that a row of the desk is about, as `member 10`.
+function objectsOfRow(row) {
+  const [kind, first, second, third] = row.split(" ");
+  if (kind === "member") return [`member ${second}`, `room ${third}`];
+  if (kind === "source" || kind === "slot") return [`${kind} ${first}`, `member ${second}`];
+  if (kind === "mute") return [`source ${first}`];
+  if (kind === "sub") return [`slot ${first}`];
+  return [kind === "gain" ? `gain ${first} ${second}` : `${kind} ${first}`];
+}
+// The objects that a line is about. What an undo takes back may be anything.
+const ABOUT = { "add-room": "room", "remove-room": "room", "add-member": "member", "move-member": "member",
+  "remove-member": "member", "add-source": "source", "remove-source": "source", "add-slot": "slot",
+  "remove-slot": "slot", subscribe: "slot", unsubscribe: "slot", pin: "pin", unpin: "pin", "give-floor": "floor",
+  "take-floor": "floor", mute: "source", unmute: "source", undo: "history", redo: "history" };
+function objectsOfLine(line) {
+  return line.replace(/^group /, "").split(" / ").map((part) => {
+    const [verb, first, second] = part.split(" ");
+    if (verb === "set-gain") return `gain ${first} ${second}`;
+    return ABOUT[verb] === "history" ? "history" : `${ABOUT[verb] ?? verb} ${first}`;
+  });
+}
+
+// The objects that others have changed between two versions of the desk, by the rows that went and came. `mine` are the
+// versions that this page's calls made, and `sent` those of its lines that may have come meanwhile; `waiting` of these
+// have no answer yet.
+function othersObjects(before, after, rows, mine, sent, waiting) {
+  let others = 0;
+  for (let version = before + 1; version <= after; version += 1) if (!mine.has(version)) others += 1;
+  if (others <= waiting) return [];
+  const own = new Set(sent.flatMap(objectsOfLine)), moved = new Map(), plain = (row) => row.slice(2);
+  // A member's place may shift: then its row goes and comes, and nothing of it has changed.
+  const still = (row) => plain(row).replace(/^member [0-9]+ /, "member ");
+  for (const row of rows) moved.set(still(row), (moved.get(still(row)) ?? 0) + 1);
+  const objects = rows.filter((row) => moved.get(still(row)) === 1).flatMap((row) => objectsOfRow(plain(row)));
+  return ["history", ...new Set(objects)].filter((object) => !own.has(object));
+}
+
+// Places. A plan says which rooms are drawn, in which order, and which members in each.
+const placesOf = (plan) => plan.map(({ room, members }) => `${room} ${members.join()}`);
+const keysOf = (plan) => plan.flatMap(({ room, members }) => [`room ${room}`, ...members.map((m) => `${room} ${m}`)]);
+// How many changes of place lie between two plans.
+function placeChanges(before, after) {
+  const had = new Set(keysOf(before)), has = new Set(keysOf(after));
+  const count = [...had].filter((key) => !has.has(key)).length + [...has].filter((key) => !had.has(key)).length;
+  return count || Number(placesOf(before).join("/") !== placesOf(after).join("/"));
+}
+// Things in the places that they had: those that are there still as they are now, and the others with a mark.
+function inOldPlaces(before, now, key) {
+  const found = new Map(now.map((one) => [one[key], one]));
+  return before.map((one) => found.get(one[key]) ?? { ...one, hasLeft: true });
+}
+
+// What troubles a member: nothing comes of a source, many packets are lost, or it has the floor and is muted.
+function troubleOf(desk, stats, member) {
+  const sources = sourcesOf(desk, member.member);
+  if (sources.some((s) => isSilent(stats, desk, s.ssrc))) return "silent";
+  if (sources.some((s) => isLossy(stats, desk, s.ssrc))) return "losing";
+  const isOdd = desk.floors.get(member.room) === member.member && isMuted(desk, member.member);
+  return isOdd ? "muted floor" : "";
+}
+const WEIGHTS = { "": 0, "muted floor": 1, losing: 2, silent: 2 };
+function isMuted(desk, member) {
+  const voices = sourcesOf(desk, member, "audio");
+  return voices.length > 0 && voices.every((s) => desk.mutes.has(s.ssrc));
+}
+// Whether a member is one of those that a number counts.
+function isCounted(desk, stats, filter, member) {
+  return filter === "muted" ? isMuted(desk, member.member) : troubleOf(desk, stats, member) === filter;
+}
+// What is counted of members: those of a room, or of the whole bridge.
+function tallyOf(desk, stats, members) {
+  const tally = { members: members.length, silent: 0, losing: 0, muted: 0, weight: 0 };
+  for (const member of members) {
+    const trouble = troubleOf(desk, stats, member);
+    if (trouble in tally) tally[trouble] += 1;
+    if (isMuted(desk, member.member)) tally.muted += 1;
+    tally.weight += WEIGHTS[trouble];
+  }
+  return tally;
+}
+
+// What the page knows of its link, in words. `quiet` is how long ago the last news came, in milliseconds, `since` when
+// that was, and `told` what the program says of its bridge: "", "bridge" or "seats".
+function linkOf(told, quiet) {
+  if (told) return told;
+  if (quiet > GONE) return "gone";
+  return quiet > LATE ? "late" : "live";
+}
+function linkInWords(link, quiet, since) {
+  if (link === "live") return "Live";
+  if (link === "late") return `Late: last news ${Math.floor(quiet / 1000)} s ago`;
+  if (link === "bridge") return `The bridge is gone${since ? ` since ${since}` : ""}. Looking \u2026`;
+  if (link === "seats") return `All seats are taken${since ? ` since ${since}` : ""}. Looking \u2026`;
+  if (link === "gone") return `No news ${since ? `since ${since}` : "yet"}. Looking \u2026`;
+  return "Asking the bridge";
+}
