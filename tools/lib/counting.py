@@ -47,6 +47,7 @@ def shows_counts(browser, ask, sets):
     browser.click('[data-key="take-stranger 777"]')
     is_told(browser, [(FIELDS, ["777", "80", "audio"]), ("document.activeElement.name", "member")])
     browser.click("#add-source button")
+    browser.hovers(2, 2)
     browser.wait("sourceOf(desk, 777) !== undefined")
     browser.wait("document.querySelectorAll('#strangers li').length === 1")
     sets(None)

@@ -30,6 +30,19 @@ def lines():
     yield from ("add-member 40 3 10.0.0.40:5000 l16 9040 0 0", "add-source 240 40 audio")
 
 
+def counted(desk, silent, lossy):
+    """What a bridge counts where all packets come, but for a silent source and one that loses some."""
+    rows = []
+    for source in desk.sources:
+        address = next(one["address"] for one in desk.members if one["member"] == source["member"])
+        counts = {"packets": 15_000, "expected": 15_000, "lost": 0, "ago_ms": 12, "jitter_ms": 3}
+        if source["ssrc"] == lossy:
+            counts |= {"packets": 14_400, "lost": 600}
+        if source["ssrc"] != silent:
+            rows.append({"address": address, "ssrc": source["ssrc"], **counts})
+    return {"sources": rows, "strangers": []}
+
+
 def take_pictures(command, folder, into):
     """Pictures of the page, wide and narrow, light and dark."""
     into.mkdir(parents=True, exist_ok=True)
@@ -38,9 +51,11 @@ def take_pictures(command, folder, into):
     for operator, line in [(0, line) for line in lines()] + CHANGES:
         said = one.call(line, operator)
         assert said.startswith("ok "), f"{line}: {said}"
+    one.counted = counted(one.log.desk, 217, 113)
     browser = opened(command, folder, f"http://127.0.0.1:{standin.serve(one).server_port}/")
     try:
         settles(browser, one.log.version)
+        browser.wait("stats !== null")
         for name, width, dark in [
             ("desk", 1280, False), ("desk_dark", 1280, True), ("desk_narrow", 400, False),
             ("desk_narrow_dark", 400, True),
