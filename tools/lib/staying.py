@@ -122,6 +122,14 @@ def holds_details(browser, one):
     browser.wait("document.querySelector('[data-key=\"source row 100999\"]') !== null")
     check(browser.run(f"{row} === null"), "a source that has left stays")
     browser.run("acts.close(), true")
+    last = browser.run("past.done[past.done.length - 1].number")
+    x, y = middle(browser, f'[data-key="walk {last}"]')
+    browser.hovers(x, y)
+    others(browser, one, "mute 201009")
+    browser.wait("past.version === desk.version")
+    stands(browser, x, y, f"walk {last}", "a call of the history")
+    browser.hovers(2, 2)
+    browser.wait(f"document.querySelector('#calls button').dataset.key !== 'walk {last}'")
 
 
 def lets_touch_go(browser, one):
