@@ -1,5 +1,6 @@
 //! The page in HTML, as far as its token and behind it.
-//! `tools/bridge make page` writes this file from page.html in web/.
+//! `tools/bridge make page` writes this file, from these files of web/:
+//! page.html.
 
 /// The page as far as its token.
 pub(crate) const HTML_BEFORE: &[u8] = br##"<!doctype html>

@@ -1,5 +1,6 @@
 //! What the page makes of the bridge's texts, and the lines that clicks send.
-//! `tools/bridge make page` writes this file from lines.js, overview.js, kept.js, stats.js, rules.js, history.js in web/.
+//! `tools/bridge make page` writes this file, from these files of web/:
+//! lines.js, overview.js, kept.js, stats.js, rules.js, history.js.
 
 /// The first part of the page's script.
 pub(crate) const LINES: &[u8] = br##""use strict";
@@ -239,12 +240,6 @@ function nameRefusal(status, text) {
   if (/^no [0-9]+ Unsaved/.test(text)) return "the file of names can't be written, so nothing was changed.";
   if (/^no [0-9]+ NoNames/.test(text)) return "that is no name.";
   return status === 413 ? "there are too many names." : text || String(status);
-}
-
-// A response without a desk, in words.
-function noDeskInWords(text) {
-  if (text.startsWith("Busy")) return `All seats of the bridge are taken. ${NO_SEAT}`;
-  return "The bridge is gone. Trying again.";
 }
 
 // The rooms of which something changed between two desks: those of the rows that came or went.
@@ -683,7 +678,7 @@ if (typeof module !== "undefined") {
   module.exports = {
     memberLine, roomLine, overview, parseNames, renamed, labelled, sourceName, cut, grouped, toggled, othersMuted,
     movedAll, goesAlong, changedRooms, nameRefusal, parseDesk, isMusic, roomsFor, codecOf, seen, videosFor, heard,
-    lines, dropped, free, suggested, inWords, replyInWords, noDeskInWords, parseHistory, worded, wayTo, wayWords,
+    lines, dropped, free, suggested, inWords, replyInWords, parseHistory, worded, wayTo, wayWords,
     changes, keptText, groupsIn, parseStats, agoInWords, isSilent, isLossy, countOf, countInWords, turnedRooms,
     strangersIn, objectsOfRow, objectsOfLine, othersObjects, placeChanges, inOldPlaces, troubleOf, tallyOf, isCounted,
     linkOf, linkInWords };

@@ -1,5 +1,6 @@
 //! The page's style sheet.
-//! `tools/bridge make page` writes this file from page.css in web/.
+//! `tools/bridge make page` writes this file, from these files of web/:
+//! page.css.
 
 /// The page's style sheet.
 pub(crate) const STYLE: &[u8] = br##":root {
@@ -59,10 +60,10 @@ main { display: grid; grid-template-columns: minmax(0, 1fr) 23rem; gap: 1rem; pa
 .room, aside > section { background: var(--card); border: 1px solid var(--line); border-radius: .5rem; }
 aside > section { padding: .75rem; }
 aside { display: grid; grid-template-columns: minmax(0, 1fr); gap: .7rem; align-content: start; overflow: auto;
-  position: sticky; top: 5.1rem; max-height: calc(100vh - 8rem); }
+  position: sticky; top: 5.1rem; max-height: calc(100vh - 8.7rem); }
 .room.over, .room.over .head, .slot.over { background: var(--drop); outline: 2px dashed var(--accent); }
 .head { display: grid; align-items: center; gap: 0 .5rem; padding: 0 .5rem; height: 32px;
-  grid-template-columns: 24px minmax(8rem, 1.2fr) 13rem minmax(0, .7fr) minmax(0, 1.3fr) 3.7rem 4.4rem; }
+  grid-template-columns: 24px minmax(8rem, 1.1fr) 14.5rem minmax(0, .5fr) minmax(0, 1.2fr) 3.7rem 4.4rem; }
 .head > * { min-width: 0; white-space: nowrap; }
 .head h3, .head .count { overflow: hidden; text-overflow: ellipsis; }
 .held { display: flex; gap: .3rem; align-items: center; justify-content: flex-end; }
@@ -118,7 +119,8 @@ button.fold { width: 24px; padding: 0; border: 0; background: none; }
   padding: .2rem 0; }
 #detail .row.slider { grid-template-columns: minmax(0, 1fr) 8rem auto; }
 #detail > .soft { margin-right: .5rem; }
-#detail .row > .what { overflow: hidden; text-overflow: ellipsis; white-space: nowrap; }
+#detail .row > .what { justify-self: start; max-width: 100%; overflow: hidden; text-overflow: ellipsis;
+  white-space: nowrap; }
 .acts { display: flex; gap: .3rem; flex-wrap: wrap; }
 .row .acts button { min-width: 3.4rem; }
 #detail [data-key^="mute-of "] { width: 4.2rem; }

@@ -58,7 +58,7 @@ if (typeof module !== "undefined") {
   module.exports = {
     memberLine, roomLine, overview, parseNames, renamed, labelled, sourceName, cut, grouped, toggled, othersMuted,
     movedAll, goesAlong, changedRooms, nameRefusal, parseDesk, isMusic, roomsFor, codecOf, seen, videosFor, heard,
-    lines, dropped, free, suggested, inWords, replyInWords, noDeskInWords, parseHistory, worded, wayTo, wayWords,
+    lines, dropped, free, suggested, inWords, replyInWords, parseHistory, worded, wayTo, wayWords,
     changes, keptText, groupsIn, parseStats, agoInWords, isSilent, isLossy, countOf, countInWords, turnedRooms,
     strangersIn, objectsOfRow, objectsOfLine, othersObjects, placeChanges, inOldPlaces, troubleOf, tallyOf, isCounted,
     linkOf, linkInWords };

@@ -237,12 +237,6 @@ function nameRefusal(status, text) {
   return status === 413 ? "there are too many names." : text || String(status);
 }
 
-// A response without a desk, in words.
-function noDeskInWords(text) {
-  if (text.startsWith("Busy")) return `All seats of the bridge are taken. ${NO_SEAT}`;
-  return "The bridge is gone. Trying again.";
-}
-
 // The rooms of which something changed between two desks: those of the rows that came or went.
 function changedRooms(before, after, rows) {
   // A member's place may shift, and then the same row goes and comes.

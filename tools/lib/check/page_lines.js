@@ -102,7 +102,6 @@ same(page.replyInWords(200, "ok 3"), page.inWords("ok 3"));
 same(page.replyInWords(503, "Busy: all seats").text.includes("needs a seat"), true);
 same(page.replyInWords(413, "").text, "a call is one line of up to 4096 octets");
 same(page.replyInWords(400, "NoLine: a call"), { good: false, text: "NoLine: a call" });
-same(["Busy: all", "Gone: it"].map(page.noDeskInWords).map((words) => words.slice(0, 9)), ["All seats", "The bridg"]);
 
 same(page.changes(["room 1", "mute 1"], ["room 1", "room 2"]), ["- mute 1", "+ room 2"]);
 same(page.changes(["room 1"], ["room 1", "room 2 44100"]), ["+ room 2 44100"]);

@@ -10,7 +10,9 @@ NEEDS = "nothing"
 
 WEB, SOURCES = CRATES / "desk_page/web", CRATES / "desk_page/src"
 TOKEN = "TOKEN"
-MADE = "`tools/bridge make page` writes this file from {} in web/."
+MADE = "`tools/bridge make page` writes this file, from these files of web/:\n//! {}."
+LINES = "lines.js overview.js kept.js stats.js rules.js history.js"
+VIEW = "view.js page.js link.js counts.js places.js drawing.js hands.js"
 # Each source with what it is, and its constants: a name, what that is, a web file, and the part of it.
 PARTS = [
     ("markup.rt", "The page in HTML, as far as its token and behind it.", [
@@ -18,10 +20,10 @@ PARTS = [
         ("HTML_AFTER", "The page behind its token.", "page.html", 1),
     ]),
     ("script_lines.rt", "What the page makes of the bridge's texts, and the lines that clicks send.", [
-        ("LINES", "The first part of the page's script.", "lines.js overview.js kept.js stats.js rules.js history.js", 0),
+        ("LINES", "The first part of the page's script.", LINES, 0),
     ]),
     ("script_view.rt", "How the page shows the desk, and what is done at it.", [
-        ("VIEW", "The rest of the page's script.", "view.js page.js counts.js hands.js", 0),
+        ("VIEW", "The rest of the page's script.", VIEW, 0),
     ]),
     ("style.rt", "The page's style sheet.", [("STYLE", "The page's style sheet.", "page.css", 0)]),
 ]  # fmt: skip

@@ -1,0 +1,137 @@
+// Drawing what stands around the rooms, and all of the page.
+
+// Undo and Redo name the call that they take. Their line has the version at which that is so.
+function button(id, word, top) {
+  const text = top ? `${word}: ${worded(names, desk, top.line)}` : word, line = past ? `${id} ${past.version}` : "";
+  if (at(id).textContent !== text) at(id).textContent = text;
+  at(id).title = top ? `${text} (${line})` : past ? `there is nothing to ${id}` : "";
+  at(id).disabled = !top;
+  at(id).onclick = () => call(line, text, id);
+}
+// Fills a choice again, and keeps what was picked.
+function options(form, field, values) {
+  const select = at(form).elements[field], kept = select.value;
+  const texts = values.map(([value, text]) => `${value} ${text}`).join("\n");
+  if (select.dataset.texts === texts || select === document.activeElement) return;
+  select.dataset.texts = texts;
+  select.replaceChildren(...values.map(([value, text]) => el("option", { value }, text)));
+  if (values.some(([value]) => String(value) === kept)) select.value = kept;
+}
+
+// Suggests a number in a field that no operator has changed.
+function suggest(form, field, number) {
+  const input = at(form).elements[field], key = `${form} ${field}`;
+  if (document.activeElement === input || (input.value !== "" && input.value !== suggestions.get(key))) return;
+  input.value = number;
+  suggestions.set(key, String(number));
+}
+
+function renderSelected() {
+  for (const member of picked) if (!memberOf(desk, member)) picked.delete(member);
+  at("selected").hidden = picked.size === 0;
+  if (picked.size === 0) return;
+  const what = "the selected members";
+  morphChildren(at("selected"), [el("strong", {}, `${picked.size} selected`),
+    chooses("Move to room", what, "move-chosen"), does("Mute", "mute-chosen", "", what),
+    does("Unmute", "unmute-chosen", "", what), does("Clear", "clear", "", "the selection")]);
+}
+
+// What the panel of a member says.
+function detailOf(member) {
+  const { sends: sources, floor } = memberLine(desk, names, member), room = member.room;
+  const label = (ssrc) => labelled(sourceName(names, desk, ssrc), ssrc), hears = heard(desk, member);
+  const isShown = (s) => s.gain !== 256 || widened.has(`${member.member} ${s.ssrc}`);
+  return { member: member.member, name: nameOf(names, "member", member.member), room, floor, address: member.address,
+    codec: member.codec, mix: member.mix, roomLabel: `room ${labelled(nameOf(names, "room", room), room)}`,
+    sources: sources.map((s) => ({ ...withCount(s), isPinned: desk.pins.get(room) === s.ssrc,
+      count: countInWords(countOf(stats, desk, s.ssrc)) })),
+    slots: slotsOf(desk, member.member).map((slot) => {
+      const { source, by: rule, why } = seen(desk, slot);
+      return { slot: slot.ssrc, index: slot.index, source, by: rule, why, isSubscribed: desk.subs.has(slot.ssrc),
+        label: source === null ? "" : label(source) };
+    }),
+    gains: hears.filter(isShown).map((s) => ({ ...s, label: label(s.ssrc) })),
+    hears: hears.some((s) => !isShown(s)), others: membersIn(desk, room).length > 1 };
+}
+function renderDetail() {
+  const member = opened === null ? undefined : memberOf(desk, opened);
+  const isStill = drawnPanel?.member === opened;
+  if (member) drawnPanel = isStill && isHeld("aside") ? heldDetail(drawnPanel, detailOf(member)) : detailOf(member);
+  else if (isStill && isHeld("aside")) {
+    drawnPanel = { ...drawnPanel, left: "has left" };
+    heldAside = true;
+  } else {
+    opened = drawnPanel = null;
+    at("detail").hidden = true;
+    at("detail").replaceChildren();
+    return;
+  }
+  morph(at("detail"), detailPanel(drawnPanel));
+}
+// The panel in the shape that it has.
+function heldDetail(before, now) {
+  const keys = { sources: "ssrc", slots: "slot" }, kept = { ...now, others: before.others, hears: before.hears };
+  for (const [part, key] of Object.entries(keys)) {
+    kept[part] = inOldPlaces(before[part], now[part], key);
+    if (before[part].map((one) => one[key]).join() !== now[part].map((one) => one[key]).join()) heldAside = true;
+  }
+  kept.gains = before.gains.map((one) => {
+    const found = heard(desk, memberOf(desk, now.member)).find((s) => s.ssrc === one.ssrc);
+    return found ? { ...one, ...found, hasLeft: false } : { ...one, hasLeft: true };
+  });
+  const isWider = now.gains.some((one) => !before.gains.some((old) => old.ssrc === one.ssrc));
+  if (isWider || now.gains.length !== before.gains.length) heldAside = true;
+  return kept;
+}
+
+function renderHistory() {
+  const last = (calls) => calls?.[calls.length - 1];
+  button("undo", "Undo", last(past?.done));
+  button("redo", "Redo", last(past?.undone));
+  const way = past && walked !== null ? wayTo(past, walked) : null, passed = way?.calls.map((one) => one.number) ?? [];
+  const item = (one, isUndone) => ({ key: one.number, model: { number: one.number, operator: one.operator, isUndone,
+    text: worded(names, desk, one.line), isWalked: one.number === walked && way !== null,
+    isOnWay: passed.includes(one.number), way: one.number === walked && way ? wayOf(way) : null } });
+  const undone = (past?.undone ?? []).map((one) => item(one, true));
+  at("no-calls").hidden = !past || past.done.length + past.undone.length > 0;
+  drawHeld(at("calls"), [...undone, ...(past?.done ?? []).map((one) => item(one, false)).reverse()], callItem);
+}
+function renderForms() {
+  const rooms = desk.rooms.map(roomOption);
+  const people = desk.members.map(({ member }) => [member, labelled(nameOf(names, "member", member), member)]);
+  options("add-member", "room", rooms);
+  options("add-source", "member", people);
+  options("add-slot", "member", people);
+  for (const [id, field, number] of suggested(desk)) suggest(id, field, number);
+}
+
+// Draws what may have changed: some rooms, or all where none are given, and the forms unless their choices are as
+// before. What is asked for by the operator changes places at once.
+function render(changed = null, hasForms = true, isAsked = false) {
+  if (!desk) return;
+  const focused = document.activeElement, key = focused?.dataset?.key, heirs = heirsOf(focused);
+  heldAside = false;
+  if (changed) for (const room of changed) infos.delete(room);
+  else infos.clear();
+  renderSum();
+  renderRooms(changed, isAsked);
+  renderSelected();
+  renderDetail();
+  renderStrangers();
+  renderHistory();
+  tellHeld();
+  if (!changed || hasForms) renderForms();
+  const title = `Desk, version ${desk.version}`;
+  if (document.title !== title) document.title = title;
+  if (!key || document.activeElement?.dataset?.key === key) return;
+  const next = [key, ...heirs].map((one) => document.querySelector(`[data-key="${CSS.escape(one)}"]`)).find(Boolean);
+  next?.focus({ preventScroll: true });
+}
+// Where the focus goes if its row goes: to the row after it, or else before it.
+function heirsOf(node) {
+  const row = node?.closest?.("#board .member");
+  if (!row) return node?.closest?.("#board, #detail") ? ["open " + [...here.values()].pop()] : [];
+  const rows = [...document.querySelectorAll("#board .member")], place = rows.indexOf(row);
+  const others = [...rows.slice(place + 1), ...rows.slice(0, place).reverse()].slice(0, 64);
+  return others.map((one) => `open ${one.dataset.member}`);
+}

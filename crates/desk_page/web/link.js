@@ -1,0 +1,146 @@
+// Asking the page's program, and what comes in: the desk, its history, and what others did.
+
+async function ask(path, options) {
+  return fetch(path, { ...options, cache: "no-store", signal: AbortSignal.timeout(options?.method ? PATIENCE : GONE) });
+}
+
+// Asks without changing anything. A connection that has to make way for others is tried again.
+async function get(path) {
+  for (let turn = 1; ; turn += 1) {
+    try {
+      return await ask(path);
+    } catch (error) {
+      if (turn === TRIES || !(error instanceof TypeError)) throw error;
+      await new Promise((resolve) => { setTimeout(resolve, EVERY); });
+    }
+  }
+}
+
+// Posts. A token of an earlier run of the program is replaced, but nothing is sent twice.
+async function post(path, body) {
+  const reply = await ask(path, { method: "POST", headers: { "X-Desk-Token": token }, body });
+  if (reply.status === 403) await takeToken().catch(() => {});
+  return reply;
+}
+async function takeToken() {
+  const page = new DOMParser().parseFromString(await (await get("/")).text(), "text/html");
+  token = page.querySelector('meta[name="desk-token"]').content;
+  namesVersion = -1;
+}
+const ANEW = "not sent: the page's program was started anew. Look, and press again.";
+
+// Asks for the desk, and shows it where it has changed.
+async function show() {
+  if (asking) return;
+  asking = true;
+  clearTimeout(timer);
+  try {
+    const reply = await get("/desk.txt");
+    const text = await reply.text();
+    if (reply.ok) await take(text);
+    else told = text.startsWith("Busy") ? "seats" : "bridge";
+  } catch (error) {
+    const isLink = error instanceof TypeError || ["TimeoutError", "AbortError"].includes(error.name);
+    if (!isLink) console.error(error);
+  }
+  judge();
+  asking = false;
+  timer = setTimeout(show, EVERY);
+}
+
+// What the page makes of its link. Where it is gone all can be read, and nothing is sent.
+const isGone = () => ["gone", "bridge", "seats"].includes(link);
+function judge() {
+  const quiet = performance.now() - lastNews, is = linkOf(told, quiet);
+  link = is === "live" && !desk ? "connecting" : is;
+  const text = linkInWords(link, quiet, since);
+  if (at("status").textContent !== text) at("status").textContent = at("status").title = text;
+  at("status").className = isGone() ? "bad" : link;
+  // A reader is told that the page is late, and not each second of it.
+  at("status").ariaLive = link === "late" ? "off" : "polite";
+  document.body.classList.toggle("gone", isGone());
+}
+
+async function take(text) {
+  [told, lastNews, since] = ["", performance.now(), new Date().toLocaleTimeString()];
+  judge();
+  if (text !== shownText && !drag) await takeDesk(text);
+  if (desk && past?.version !== desk.version) await takeHistory();
+}
+
+async function takeDesk(text) {
+  const next = parseDesk(text);
+  const isRenamed = next.named !== namesVersion && await takeNames();
+  const rows = desk ? changes(desk.rows, next.rows) : [];
+  const rooms = desk && !isRenamed ? changedRooms(desk, next, rows) : null;
+  // Another desk of the same version, or of an earlier one, is another bridge's.
+  if (desk && (next.version < desk.version || (next.version === desk.version && rows.length > 0))) {
+    past = null;
+    mine.clear();
+    waits.clear();
+  }
+  if (desk) takeOthers(next, rows);
+  shownText = text;
+  desk = next;
+  for (const [key, { version }] of waits) if (version && version <= desk.version) waits.delete(key);
+  showWaits();
+  loseSliders();
+  render(rooms, rows.some((row) => /^. (room|member|source|slot) /.test(row)));
+}
+
+// Notes what others have changed, and marks the rows of these members for a while.
+function takeOthers(next, rows) {
+  const sent = [...waits.values()], unanswered = sent.filter(({ version }) => !version).length, now = performance.now();
+  const lines = sent.map(({ line }) => line);
+  const objects = othersObjects(desk.version, next.version, rows, mine, lines, unanswered);
+  const marked = new Set();
+  for (const object of objects) {
+    touchedAt.set(object, now);
+    const [kind, number] = object.split(" "), row = sourceOf(next, Number(number)) ?? sourceOf(desk, Number(number));
+    if (kind === "source" && row) marked.add(row.member);
+    if (["member", "gain"].includes(kind)) marked.add(Number(number));
+  }
+  if (marked.size === 0) return;
+  for (const member of marked) freshAt.set(member, now);
+  setTimeout(() => render(new Set([...marked].map((member) => memberOf(desk, member)?.room)), false), MARKED + 50);
+}
+
+// A slider that another operator has changed while it was held follows the desk, and what was held isn't sent.
+function loseSliders() {
+  for (const [key, one] of touched) {
+    const [, member, ssrc] = key.split(" "), gain = desk.gains.get(`${member} ${ssrc}`) ?? 256;
+    if (one.isLost || gain === one.from || gain === one.sent) continue;
+    const node = document.querySelector(`[data-key="${CSS.escape(key)}"]`), held = node ? Number(node.value) : gain;
+    clearTimeout(resting.get(key));
+    one.isLost = true;
+    if (node) node.value = gain;
+    const times = (q8) => `x${(q8 / 256).toFixed(2)}`, whose = sourceLabel(Number(ssrc));
+    notice(`Gain of ${whose} for member ${member}: another operator set ${times(gain)} while you held the slider. `
+      + `Your ${times(held)} was not sent.`);
+    if (!one.isDown) touched.delete(key);
+  }
+}
+
+// The history, as the bridge tells it. Where it fails, it is asked for with the next desk.
+async function takeHistory() {
+  const reply = await get("/history.txt");
+  if (!reply.ok) return;
+  const before = past;
+  past = parseHistory(await reply.text());
+  if (before) tellOthers(before);
+  renderHistory();
+}
+
+// Tells what others did since the history before: their calls, or what they took back or did again.
+function tellOthers(before) {
+  const unanswered = [...waits.values()].filter(({ version }) => !version).length;
+  let count = -unanswered;
+  for (let version = before.version + 1; version <= past.version; version += 1) if (!mine.has(version)) count += 1;
+  if (count <= 0) return;
+  const fresh = [...past.done, ...past.undone].filter(({ number }) => number > before.version && !mine.has(number));
+  const more = count > 1 ? `, and ${count - 1} more` : "", last = fresh[fresh.length - 1];
+  const is = past.undone.length > before.undone.length ? "undid" : "did again";
+  const [taken] = (is === "undid" ? past.undone : past.done).slice(-1);
+  if (last) tellNews(`operator ${last.operator}: ${worded(names, desk, last.line)}${more}`);
+  else if (taken) tellNews(`another operator ${is}: ${worded(names, desk, taken.line)}${more}`);
+}

@@ -1,0 +1,141 @@
+// What stands where: the rooms, their members, and the numbers of the whole bridge.
+
+// Places. Nothing comes, goes or moves in the list or beside it while the pointer is there, a button is held, or a menu
+// is open, and until 600 ms after a touch. What a row says changes at once.
+const over = { board: false, aside: false }, TOUCH = 600;
+let down = null, heldBack = 0, heldAside = false, drawnPlan = [], movedAt = -Infinity, drawnPanel = null;
+let filter = "", order = new Map(), orderedAt = -Infinity;
+const lastFit = new Map();
+const isMenuOpen = () => CSS.supports("selector(:open)") && document.querySelector("select:open") !== null;
+function isHeld(part) { return over[part] || down === part || drag !== null || isMenuOpen(); }
+function releases() {
+  down = null;
+  if (heldBack > 0 || heldAside) render();
+}
+for (const part of ["board", "aside"]) {
+  at(part).addEventListener("pointerenter", ({ pointerType }) => { over[part] = pointerType === "mouse"; });
+  at(part).addEventListener("pointerleave", () => {
+    over[part] = false;
+    if (down !== part) releases();
+  });
+  at(part).addEventListener("pointerdown", () => { down = part; });
+}
+for (const type of ["pointerup", "pointercancel", "dragend"]) {
+  document.addEventListener(type, ({ pointerType }) => {
+    if (down) setTimeout(releases, pointerType === "mouse" || type === "dragend" ? 0 : TOUCH);
+  });
+}
+at("waiting").addEventListener("click", () => render(null, true, true));
+
+// Tells how many changes of place are held back.
+function tellHeld() {
+  const count = heldBack + Number(heldAside), what = `change${count === 1 ? "" : "s"} of place held back: show now`;
+  const text = count ? `${count} ${what}` : "";
+  if (at("waiting").textContent !== text) at("waiting").textContent = text;
+  at("waiting").hidden = count === 0;
+}
+
+// Draws a list beside the overview: while places are held, what was drawn before stays where it is.
+function drawHeld(node, items, draw) {
+  const old = [...(node.drawn ?? [])].map(([key, { model }]) => ({ key, model }));
+  const isSame = old.map(({ key }) => key).join() === items.map(({ key }) => key).join();
+  if (isSame || old.length === 0 || !isHeld("aside")) return drawList(node, items, draw);
+  heldAside = true;
+  const kept = inOldPlaces(old, items, "key");
+  return drawList(node, kept.map(({ key, model, hasLeft }) => ({ key, model: { ...model, hasLeft } })), draw);
+}
+
+// What is counted of a room, and who of it is in trouble, until something of it changes.
+const infos = new Map();
+function infoOf(room) {
+  if (!infos.has(room)) {
+    const members = membersIn(desk, room);
+    const troubled = members.filter((one) => troubleOf(desk, stats, one) !== "").map(({ member }) => member);
+    infos.set(room, { tally: tallyOf(desk, stats, members), troubled });
+  }
+  return infos.get(room);
+}
+// Whether a member is one of those that are counted. Who ceases to be one stays for some seconds.
+function isShown(member) {
+  const now = performance.now();
+  if (isCounted(desk, stats, filter, member)) lastFit.set(member.member, now);
+  return now - (lastFit.get(member.member) ?? -Infinity) < SETTLED;
+}
+// The rooms by trouble. Their order is made anew every few seconds at most.
+function sortRooms(isAsked) {
+  if (!isAsked && order.size > 0 && (performance.now() - orderedAt < SETTLED || isHeld("board"))) return;
+  const weight = (room) => infoOf(room).tally.weight;
+  const rooms = [...desk.rooms].sort((a, b) => weight(b) - weight(a) || a - b);
+  order = new Map(rooms.map((room, place) => [room, place]));
+  orderedAt = performance.now();
+}
+const placeOf = (room) => order.get(room) ?? Number.MAX_SAFE_INTEGER;
+
+// What should be drawn: each room, and of a folded one those in trouble.
+function planOf(isNarrowed) {
+  const found = overview(desk, names, at("search").value, at("sort").value, filter ? isShown : null, placeOf);
+  return found.map(({ room, members }) => {
+    const isClosed = !isNarrowed && isFolded(room);
+    return { room, isClosed, members: isClosed ? infoOf(room).troubled : members.map(({ member }) => member) };
+  });
+}
+
+// The overview. Where only some rooms have changed, the others stay as they are drawn. What an operator asks for of the
+// list itself, such as a search, is done at once.
+function renderRooms(changed, isAsked) {
+  const isNarrowed = wordsOf(at("search").value).length > 0 || filter !== "";
+  sortRooms(isAsked);
+  const next = planOf(isNarrowed), moved = placeChanges(drawnPlan, next);
+  const isKept = moved > 0 && drawnPlan.length > 0 && !isAsked && isHeld("board"), plan = isKept ? drawnPlan : next;
+  if (moved > 0 && drawnPlan.length > 0 && !isKept && (!isAsked || heldBack > 0)) movedAt = performance.now();
+  heldBack = isKept ? moved : 0;
+  const known = at("board").drawn ?? new Map(), all = !changed || isNarrowed;
+  const items = plan.map(({ room, isClosed, members }) => (!all && !changed.has(room) ? { key: room, isKept: true } :
+    { key: room, members, model: roomModel(room, isClosed, members, known.get(room)?.model) }));
+  drawnPlan = plan;
+  const drawn = drawList(at("board"), items, roomCard);
+  for (const { key, members } of items.filter((item) => !item.isKept)) {
+    const { node } = drawn.get(key), list = node.lastElementChild, known = list.drawn ?? new Map();
+    node.style.containIntrinsicHeight = `auto ${HEAD_HEIGHT + ROW_HEIGHT * members.length}px`;
+    drawList(list, members.map((member) => memberItem(key, member, members, known.get(member)?.model)), memberRow);
+  }
+  const none = desk.rooms.length ? "Nothing fits what you look for." : "There is no room yet: add one.";
+  at("nothing").textContent = none;
+  at("nothing").hidden = plan.length > 0;
+  at("fold").textContent = desk.rooms.every(isFolded) ? "Unfold all" : "Fold all";
+}
+function roomModel(room, isFolded, members, known) {
+  if (!desk.rates.has(room)) return { ...known, left: "was removed" };
+  return { ...roomLine(desk, names, room), isFolded, tally: infoOf(room).tally, isEmpty: members.length === 0 };
+}
+
+const withCount = (s) => ({ ...s, isSilent: isSilent(stats, desk, s.ssrc), isLossy: isLossy(stats, desk, s.ssrc) });
+function memberItem(room, number, members, known) {
+  const isHere = number === (members.includes(here.get(room)) ? here.get(room) : members[0]);
+  const member = memberOf(desk, number);
+  // One that has gone is drawn here as long as places are held.
+  if (member?.room !== room) {
+    const left = member ? `is now in room ${labelled(nameOf(names, "room", member.room), member.room)}` : "has left";
+    return { key: number, room, model: { ...known, left, isHere, isChosen: false, isFresh: false } };
+  }
+  const line = memberLine(desk, names, member), isFresh = performance.now() - freshAt.get(number) < MARKED;
+  return { key: number, room, model: { ...line, sends: line.sends.map(withCount),
+    trouble: troubleOf(desk, stats, member), isOpen: opened === number, isChosen: picked.has(number), isHere,
+    isFresh } };
+}
+
+// The numbers of the whole bridge. Those of members are filters.
+function renderSum() {
+  const sum = (key) => desk.rooms.reduce((all, room) => all + infoOf(room).tally[key], 0);
+  const unknown = strangersIn(stats, desk).length;
+  const many = (count, what) => `${count.toLocaleString("en")} ${what}${count === 1 ? "" : "s"}`;
+  const number = (key, count = sum(key)) => el("button", { type: "button", class: `small number${count ? " some" : ""}`,
+    "data-key": `filter ${key}`, "data-act": "filter", "data-of": key, "aria-pressed": String(filter === key) },
+    `${count} ${key}`);
+  morphChildren(at("sum"), [
+    el("span", { "data-key": "rooms" }, many(desk.rooms.length, "room")),
+    el("span", { "data-key": "people" }, many(desk.members.length, "member")),
+    number("silent"), number("losing"), number("muted"),
+    el("button", { type: "button", class: `small number${unknown ? " some" : ""}`, "data-key": "unknown",
+      "data-act": "unknown", "data-of": "", disabled: unknown === 0 }, `${unknown} unknown`)]);
+}
