@@ -167,13 +167,15 @@ def handler_of(standin):
     return Handler
 
 
-def serve(standin, port=0):
-    """Serves a page until the process ends. The server, whose `server_port` is its port."""
-    server = http.server.ThreadingHTTPServer(("127.0.0.1", port), handler_of(standin))
+def serve(standin, port=0, handler=None):
+    """Serves a page until the process ends, by a handler of its own or the plain one. The server, whose `server_port`
+    is its port."""
+    server = http.server.ThreadingHTTPServer(("127.0.0.1", port), handler or handler_of(standin))
     server.daemon_threads = True
     # A browser that closes is no fault.
     server.handle_error = lambda *_: None
-    threading.Thread(target=server.serve_forever, daemon=True).start()
+    server.thread = threading.Thread(target=server.serve_forever, daemon=True)
+    server.thread.start()
     return server
 
 
