@@ -1,0 +1,1 @@
+"""Checks of the tree, and what writes the parts that are made."""

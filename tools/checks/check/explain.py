@@ -1,0 +1,331 @@
+"""Explains a call that it holds over sockets: no media packet on the wire may differ from the models'.
+
+Two members send sound and one of them video, with packets lost, overtaken and doubled. The second one asks again for
+packets and for pictures. Wrong senders send beside them. An operator mutes, gives groups, removes a slot and undoes.
+The call is captured by a packet socket, and explained: each media packet is the model's, octet by octet, the program
+answers the script as the models do, and each wrong sender is named. From its middle on the capture is explained by a
+`show`.
+
+Then it holds calls whose members have planted faults, such as PCMA, a slow clock or a mute, on 1, 4 and 16 lanes. Each
+capture is made worse: begun at ten random places, with 2 percent of its packets lost, out of order by 5 ms, cut short
+by `-s 96`, with a clock that is set by an hour, and beside another bridge. Each planted fault that a capture shows has
+to be told, and nothing else may be. Where this process may not capture, all is skipped.
+"""
+
+import concurrent.futures
+import io
+import os
+import pathlib
+import random
+import socket
+import sys
+import tempfile
+import time
+
+from checks.camera import asked_numbers
+from checks.captures.recorder import Recorder
+from checks.explain.holding import LATEST, Held
+from checks.explain.planted import FAULTS, SAID, Call as MadeCall
+from checks.explain.varied import Varied, variations, wrong
+from operators.captures.files import frames_of
+from operators.captures.live import may_capture
+from operators.captures.notes import BadCapture
+from operators.captures.notes import Notes
+from operators.demo import picture, tone
+from operators.explain import compared
+from operators.explain.explaining import explained
+from operators.explain.given import given_by
+from operators.explain.telling import Telling, telling
+from operators.packets import nack, number, pli, rtp, seq_of
+from operators.serving import Operator, port_of, settings, started, udp_socket
+from operators.shared import add_program, fail, release_program
+
+NEEDS = "the program, leave to capture on `lo`"
+
+EACH = 0.02
+# What the operator says, by the second at which it does. A `V` is the number of the last call.
+CALLS = {
+    1.5: "mute 202", 2: "undo V", 2.5: "group set-gain 10 202 128 / mute 101", 3: "undo V", 3.5: "remove-slot 501",
+    3.7: "undo V",
+    4: "show", 4.4: "unsubscribe 501", 4.6: "undo V", 4.8: "redo V", 5: "subscribe 501 101", 5.5: "remove-member 11",
+    5.7: "undo V",
+}  # fmt: skip
+# The capture is cut at the `show`, and explained from there on.
+MIDDLE = 4
+ALL = (0, float("inf"))
+
+
+def options(parser):
+    parser.add_argument("--seconds", type=float, default=7, help="how long the call lasts (%(default)s)")
+    parser.add_argument(
+        "--lanes", type=int, nargs="+", default=[1, 4, 16], help="how many lanes the bridges have (%(default)s)"
+    )
+    parser.add_argument("--only", help="calls with this planted fault alone")
+    parser.add_argument("--at-once", type=int, default=3, help="how many faults a call has (%(default)s)")
+    parser.add_argument("--cuts", type=int, default=10, help="at how many places a capture begins (%(default)s)")
+    parser.add_argument(
+        "--tries", type=int, default=3, help="how many calls are tried where the machine is busy (%(default)s)"
+    )
+    parser.add_argument("--seed", type=int, default=1, help="what is lost and overtaken (%(default)s)")
+    parser.add_argument("--keep", metavar="FILE", help="leave the last capture there, or one that is told otherwise")
+    add_program(parser)
+
+
+def check(holds, text):
+    if not holds:
+        fail(text)
+
+
+class Member:
+    """A member, whose packets take a bad path."""
+
+    def __init__(self, to, seed):
+        self.socket, self.to, self.random, self.later = udp_socket(), to, random.Random(seed), []
+        self.socket.setblocking(False)
+        self.got = []
+
+    def address(self):
+        return f"127.0.0.1:{port_of(self.socket)}"
+
+    def send(self, octets, now):
+        """Sends a packet: 3 % are lost, 3 % come later, 1 % twice."""
+        fate = self.random.random()
+        if fate < 0.03:
+            return
+        if fate < 0.06:
+            self.later.append((now + self.random.choice([0.005, 0.025, 0.05]), octets))
+            return
+        self.socket.sendto(octets, self.to)
+        if fate > 0.99:
+            self.socket.sendto(octets, self.to)
+
+    def turn(self, now):
+        """Sends what was to come later, and reads what has come."""
+        for due in [one for one in self.later if one[0] <= now]:
+            self.later.remove(due)
+            self.socket.sendto(due[1], self.to)
+        new = []
+        try:
+            while True:
+                new.append(self.socket.recv(65536))
+        except BlockingIOError:
+            self.got += new
+            return new
+
+
+class Call:
+    """A call of two members and a stranger."""
+
+    def __init__(self, port, operator, seed):
+        self.one, self.other, self.stranger = (Member(("127.0.0.1", port), seed + n) for n in range(3))
+        self.operator, self.version, self.tick, self.sent = operator, 0, 0, {}
+        # By how many seconds packets left too late.
+        self.late = 0
+
+    def setup(self):
+        yield from ("add-room 1", f"add-member 10 1 {self.one.address()} pcmu 9001 0 0")
+        yield from (f"add-member 11 1 {self.other.address()} l16 9002 65530 4294967000", "add-source 201 10 audio")
+        yield from (
+            "add-source 202 11 audio", "add-source 101 10 video", "add-slot 501 11 0 65500 1000", "subscribe 501 101"
+        )
+
+    def say(self, line):
+        """Says a line, and counts the call."""
+        line = line.replace("V", str(self.version))
+        said = self.operator.shown()[-1] if line == "show" else self.operator.ask(line)
+        check(said.split(" ")[0] in ("ok", "end"), f"`{line}` is answered `{said}`")
+        self.version = int(said.split(" ")[1])
+
+    def turn(self, now):
+        """What is sent in 20 ms."""
+        tick = self.tick
+        self.one.send(rtp(tick, tick * 160, 201, tone(440, tick), pt=0), now)
+        self.other.send(rtp(tick, tick * 160, 202, tone(1000, tick), pt=0), now)
+        for part, payload in enumerate(picture(tick)):
+            seq = tick * 2 + part
+            self.sent[seq % 65536] = rtp(seq, tick * 1800, 101, payload, marker=part)
+            self.one.send(self.sent[seq % 65536], now)
+        if tick % 10 == 0:
+            self.stranger.send(rtp(tick // 10, tick * 160, 77, bytes(160), pt=0), now)
+            self.one.socket.sendto(rtp(tick // 10, tick * 160, 201, bytes(160), pt=8), self.one.to)
+        if tick % 25 == 24 and self.other.got:
+            last = [octets for octets in self.other.got if number(octets[8:12]) == 501]
+            self.other.send(nack(501, seq_of(last[-1])) if tick % 50 == 24 and last else pli(501), now)
+        self.tick += 1
+
+    def hold(self, seconds):
+        """Holds the call. Of packets that the bridge asks for, every second one is sent again."""
+        begun, calls = time.monotonic(), dict(CALLS)
+        while time.monotonic() - begun < seconds:
+            now = time.monotonic()
+            if calls and now - begun >= min(calls):
+                self.say(calls.pop(min(calls)))
+            if now - begun >= self.tick * EACH:
+                self.late = max(self.late, now - begun - self.tick * EACH)
+                self.turn(now)
+            self.other.turn(now)
+            self.stranger.turn(now)
+            for octets in self.one.turn(now):
+                numbers = asked_numbers(octets)[0] if 192 <= octets[1] <= 223 else []
+                for seq in (seq for seq in numbers if seq % 2 and seq in self.sent):
+                    self.one.send(self.sent[seq], now)
+            time.sleep(0.002)
+
+
+def captured(program, args, lanes, folder):
+    """The capture of a call, and the call."""
+    bridge, udp, tcp = started(program, settings(folder, lanes=lanes))
+    recorder = Recorder([udp, tcp], pathlib.Path(args.keep or f"{folder}/call.pcap").resolve())
+    recorder.begin()
+    with socket.create_connection(("127.0.0.1", tcp), timeout=60) as connection:
+        call = Call(udp, Operator(connection), args.seed)
+        for line in call.setup():
+            call.say(line)
+        call.hold(args.seconds)
+        time.sleep(0.2)
+        call.operator.tell("stop")
+        bridge.wait(20)
+    check(recorder.end(), "the capture lost packets")
+    return recorder.path.read_bytes(), call
+
+
+def told(octets):
+    it = explained(io.BytesIO(octets))
+    return it, "\n".join(telling(it, "the call", None, ALL))
+
+
+def check_whole(octets, call, program):
+    """The whole call has no difference, and names the wrong senders. Returns what is explained, or None where media
+    differ."""
+    it, text = told(octets)
+    if it.run.cursor.found or not it.run.cursor.equal:
+        slowest = max(one.until - one.moment for one in it.calls) / 1e6
+        found = len(it.run.cursor.found)
+        print(
+            f"{found} media packets differ, in a call whose slowest answer took {slowest:.0f} ms\n{text}",
+            file=sys.stderr,
+        )
+        return None
+    for sentence in [
+        f"{call.stranger.address()} sends SSRC 77 as type 0 (PCMU): ",
+        f"{call.one.address()} sends SSRC 201 as type 8 (PCMA): ",
+        "dropped BadPayload",
+        "dropped Unknown. No member has this address",
+        "202 was muted since call 9 of operator 0",
+    ]:
+        check(sentence in text, f"it isn't told: {sentence}\n{text}")
+    check(compared(it.run, program), "the program answers the script in another way")
+    print(f"{it.run.cursor.equal} of {it.run.cursor.equal} media packets are the models', octet by octet")
+    return it
+
+
+def check_parts(octets, it):
+    """A capture that is cut, and one that begins in mid-call."""
+    _, text = told(octets[:-10])
+    check("the capture ends in the middle of a packet" in text, f"a capture that is cut isn't named\n{text}")
+    begin, at = it.wire.begin + int(MIDDLE * 0.95e9), 24
+    while int.from_bytes(octets[at : at + 4], "little") * 10**9 + int.from_bytes(
+        octets[at + 4 : at + 8], "little"
+    ) < begin:
+        at += 16 + int.from_bytes(octets[at + 8 : at + 12], "little")
+    middle, text = told(octets[:24] + octets[at:])
+    equal, total = middle.run.cursor.equal, sum(map(len, middle.streams.firsts.values()))
+    check(
+        "begins in mid-call" in text and equal > 0.8 * total,
+        f"in mid-call {equal} of {total} media packets are the models'\n{text}",
+    )
+    print(f"from its middle on {equal} of {total} media packets are the models'")
+
+
+def run(args):
+    if not may_capture():
+        print("skipped: this process may not capture on lo (it takes root or CAP_NET_RAW)")
+        return 0
+    program = release_program(args.binary)
+    try:
+        with concurrent.futures.ProcessPoolExecutor(initializer=os.nice, initargs=(NICE,)) as workers:
+            for lanes in args.lanes:
+                if not args.only:
+                    check_one(program, args, lanes)
+                check_planted(program, args, lanes, workers)
+    except BadCapture as why:
+        fail(f"the capture can't be read: {why}")
+    return 0
+
+
+def check_one(program, args, lanes):
+    """A call whose media packets are the models'."""
+    for _ in range(args.tries):
+        with tempfile.TemporaryDirectory() as folder:
+            octets, call = captured(program, args, lanes, folder)
+        it = check_whole(octets, call, program)
+        if it and call.late < LATEST:
+            check_parts(octets, it)
+            return
+    if it:
+        fail(too_busy(call))
+    fail("media packets differ from the models'")
+
+
+def too_busy(call):
+    return f"no call was held in time: packets left {1000 * call.late:.0f} ms late, or some weren't captured"
+
+
+# Planted faults
+
+# What is so where the machine is busy, and nobody planted it.
+BUSY = ("busy", None)
+# What explains captures has less of the processors than the calls that are held meanwhile.
+NICE = 15
+OTHERS = ("127.0.0.1:5104", "127.0.0.1:7100"), ("127.0.0.1:6100", "127.0.0.1:6102")
+
+
+def check_planted(program, args, lanes, workers):
+    """Calls with planted faults, whose captures are made worse. These are explained while other calls are held."""
+    names = [name for name in FAULTS | SAID if name != "a full receive buffer" and args.only in (None, name)]
+    due = []
+    for at in range(0, len(names), args.at_once):
+        record = held_in_time(program, args, lanes, names[at : at + args.at_once])
+        seed = f"{args.seed} {lanes} {record.names}"
+        due.append((record, workers.submit(differences, record, seed, args.cuts)))
+    count = 0
+    for record, job in due:
+        tried, found = job.result()
+        count += tried
+        for how, octets, differ in found:
+            if args.keep:
+                pathlib.Path(args.keep).write_bytes(octets)
+            lines = "\n".join(f"  {line}" for line in differ)
+            fail(f"on {lanes} lanes a call with {', '.join(record.names)}, {how}:\n{lines}")
+    text = f"on {lanes} lanes {len(names)} planted faults are told, also in {count} worse captures, and nothing else"
+    print(text, flush=True)
+
+
+def held_in_time(program, args, lanes, names):
+    """A call with some faults, of which no packet left late."""
+    for _ in range(args.tries):
+        with tempfile.TemporaryDirectory() as folder:
+            held = Held(program, lanes, names, folder)
+        if held.is_whole and held.late < LATEST:
+            return held.record
+    return fail(too_busy(held))
+
+
+def differences(record, seed, cuts):
+    """How many worse captures of a call were explained, and of which of them other things were told than what they
+    show: how they are worse, their octets, and the differences."""
+    packets = [(frame.moment, frame.octets) for frame in frames_of(io.BytesIO(record.octets), Notes())]
+    others = MadeCall(bridge=OTHERS[0], members=OTHERS[1]).packets
+    worse = variations(
+        random.Random(seed), packets, cuts, (given_by(record.rows), record.known), others, {"udp": record.udp}
+    )
+    found, count = [], -1
+    for one in (Varied("whole", record.octets, {}, packets[0][0]), *worse):
+        count += 1
+        it = explained(io.BytesIO(one.octets), **one.named)
+        told = Telling(it, None, ALL).found() if it.run else []
+        must, may = record.wanted(one.begin, one.broken)
+        differ = wrong(told, may | {BUSY}, must if it.run else set())
+        if differ:
+            found.append((one.how, one.octets, differ))
+    return count, found

@@ -1,0 +1,1 @@
+"""Calls that are explained: made, held, and spoiled."""

@@ -1,0 +1,1 @@
+"""Models that checks alone use."""

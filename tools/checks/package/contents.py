@@ -1,0 +1,150 @@
+"""The files of a package: their places, their octets, and whether they are run."""
+
+import ast
+import dataclasses
+import gzip
+import re
+
+from checks.package import manual
+from checks.package.commit import changelog
+from operators.shared import ROOT
+
+# The tools that operators use, and what they read or import beside tools/operators.
+TOOLS = ["demo", "explain", "keep", "keeper", "member", "restore", "watch"]
+BESIDE = ["examples/fleet/kept.py", "examples/fleet/printable.py", "examples/serve.toml"]
+UNITS = ["confbridge", "confbridge-desk", "confbridge-page"]
+SHARE, DOC, MAN = "usr/share/confbridge", "usr/share/doc/confbridge", "usr/share/man/man1"
+IN_CLONE = re.compile(r"^# --- in a clone alone\n.*?^# --- anywhere\n", re.M | re.S)
+COMMAND = manual.COMMAND
+
+
+@dataclasses.dataclass(frozen=True)
+class File:
+    """A file, or what a link leads to."""
+
+    octets: bytes = b""
+    is_run: bool = False
+    link: str = None
+
+
+def text(octets, is_run=False):
+    return File(octets.encode(), is_run)
+
+
+def packed(octets):
+    """A text that is packed, the same each time."""
+    return File(gzip.compress(octets.encode(), 9, mtime=0))
+
+
+# Tools
+
+
+def imported(path):
+    """The modules of tools/operators that a source imports, and those above them, by their paths in tools."""
+    names = set()
+    for node in ast.walk(ast.parse(path.read_text())):
+        if isinstance(node, ast.Import):
+            names |= {one.name for one in node.names}
+        elif isinstance(node, ast.ImportFrom):
+            names |= {node.module, *(f"{node.module}.{one.name}" for one in node.names)}
+    for name in {".".join(name.split(".")[: n + 1]) for name in names for n in range(name.count(".") + 1)}:
+        if name.split(".")[0] == "operators":
+            place = ROOT / "tools" / name.replace(".", "/")
+            yield from (one for one in (place.with_suffix(".py"), place / "__init__.py") if one.is_file())
+
+
+def sources():
+    """The sources of the tools that operators use, and all that these import."""
+    tools = ROOT / "tools"
+    left = [tools / "bridge", *(path for name in TOOLS for path in tool_paths(tools / "operators" / name))]
+    found = set()
+    while left:
+        path = left.pop()
+        if path not in found:
+            found.add(path)
+            left += imported(path)
+    return sorted(found)
+
+
+def tool_paths(place):
+    return [one for one in (place.with_suffix(".py"), place / "__init__.py") if one.is_file()]
+
+
+def as_packaged(source):
+    """A source whose tools are called as the package's are."""
+    return source.replace("tools/bridge", COMMAND).replace("#!/usr/bin/env python3", "#!/usr/bin/python3")
+
+
+def tools():
+    for path in sources():
+        place = path.relative_to(ROOT)
+        yield f"{SHARE}/{place}", text(as_packaged(path.read_text()), place.name == "bridge")
+    for name in BESIDE:
+        yield f"{SHARE}/{name}", File((ROOT / name).read_bytes())
+    yield f"usr/bin/{COMMAND}", File(link="../share/confbridge/tools/bridge")
+
+
+# The bridge, its page, and what starts them
+
+
+def starter():
+    """./confbridge without what it does in a clone alone."""
+    whole = IN_CLONE.sub("", (ROOT / "confbridge").read_text())
+    return whole.replace("./confbridge", "confbridge").replace("# Elsewhere, as in /usr/local/bin, it", "# It")
+
+
+def unit(name):
+    """A unit of examples/ with the package's places."""
+    whole = (ROOT / f"examples/{name}.service").read_text()
+    return whole.replace("/usr/local/", "/usr/").replace("/usr/bin/desk_page", "/usr/bin/confbridge-page")
+
+
+def programs(program, page):
+    yield "usr/bin/confbridge", text(starter(), True)
+    yield "usr/lib/confbridge/confbridge", File(program.read_bytes(), True)
+    yield "etc/confbridge.toml", File((ROOT / "examples/confbridge.toml").read_bytes())
+    if page:
+        yield "usr/lib/confbridge/desk_page", File(page.read_bytes(), True)
+        yield "usr/bin/confbridge-page", File(link="../lib/confbridge/desk_page")
+    for name in UNITS if page else UNITS[:-1]:
+        yield f"usr/lib/systemd/system/{name}.service", text(unit(name))
+
+
+# Documents
+
+
+def licence():
+    """LICENSE in Debian's form."""
+    lines = (ROOT / "LICENSE").read_text().strip().split("\n")
+    owner = next(line.removeprefix("Copyright (c) ") for line in lines if line.startswith("Copyright"))
+    body = "\n".join(f" {line}" if line else " ." for line in lines[lines.index(f"Copyright (c) {owner}") + 2 :])
+    form = "https://www.debian.org/doc/packaging-manuals/copyright-format/1.0/"
+    return f"Format: {form}\nUpstream-Name: confbridge\n\nFiles: *\nCopyright: {owner}\nLicense: Expat\n{body}\n"
+
+
+OVERRIDES = """# Each program is, octet by octet, the one that was proved, built and run: nothing is stripped of it.
+confbridge: unstripped-binary-or-object [usr/lib/confbridge/confbridge]
+confbridge: unstripped-binary-or-object [usr/lib/confbridge/desk_page]
+"""
+
+
+def documents(commit, modules, has_page):
+    yield "usr/share/lintian/overrides/confbridge", text(OVERRIDES)
+    yield f"{DOC}/copyright", text(licence())
+    yield f"{DOC}/changelog.Debian.gz", packed(changelog(commit))
+    yield f"{DOC}/README.md", File((ROOT / "README.md").read_bytes())
+    for path in sorted(path for path in (ROOT / "docs").rglob("*") if path.is_file()):
+        yield f"{DOC}/{path.relative_to(ROOT)}", File(path.read_bytes())
+    for path in sorted((ROOT / "examples").glob("*.txt")):
+        yield f"{DOC}/examples/{path.name}", File(path.read_bytes())
+    for name in ["confbridge", "confbridge-page"] if has_page else ["confbridge"]:
+        yield f"{MAN}/{name}.1.gz", packed(manual.of_file(name, commit))
+    yield f"{MAN}/{COMMAND}.1.gz", packed(manual.of_tools(modules, commit))
+    for name, module in modules:
+        yield f"{MAN}/{COMMAND}-{name}.1.gz", packed(manual.of_tool(name, module, commit))
+
+
+def files_of(program, page, commit, modules):
+    """All files of a package by their places, from programs, a commit, and the modules of its tools."""
+    parts = programs(program, page), tools(), documents(commit, modules, bool(page))
+    return {name: one for part in parts for name, one in part}

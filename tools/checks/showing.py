@@ -1,0 +1,70 @@
+"""Pictures of the page for documents: a room of 16 members with names, and a history of several operators."""
+
+import json
+import time
+
+from checks import standin
+from checks.driving import opened, settles
+
+PEOPLE = "Alice Bob Chen Dunja Emeka Fatima Grace Hiro Ines Jamal Kofi Lena Mateo Nadia Omar Priya".split()
+NAMES = {"room 1": "Weekly call", "room 2": "Lobby", "room 3": "Concert", "member 40": "Piano"}
+WITH_VIDEO = 6
+# What is done once all are there: an operator, and a line.
+CHANGES = [
+    (0, "give-floor 1 12"), (0, "set-gain 11 210 384"), (0, "set-gain 11 212 128"), (0, "subscribe 510 111"),
+    (0, "subscribe 515 110"), (2, "group mute 214 / mute 216 / mute 225"), (0, "mute 219"), (3, "mute 218"),
+    (3, "undo 67"),
+]  # fmt: skip
+
+
+def lines():
+    """The lines that fill the desk."""
+    yield from ("add-room 1", "add-room 2", "add-room 3 44100")
+    for place in range(len(PEOPLE)):
+        member = 10 + place
+        yield f"add-member {member} 1 10.0.0.{member}:5000 pcmu {9000 + member} 0 0"
+        if place < WITH_VIDEO:
+            yield f"add-source {100 + member} {member} video"
+        yield f"add-source {200 + member} {member} audio"
+        yield f"add-slot {500 + member} {member} 0 0 0"
+    yield from ("add-member 40 3 10.0.0.40:5000 l16 9040 0 0", "add-source 240 40 audio")
+
+
+def counted(desk, silent, lossy):
+    """What a bridge counts where all packets come, but for a silent source and one that loses some."""
+    rows = []
+    for source in desk.sources:
+        address = next(one["address"] for one in desk.members if one["member"] == source["member"])
+        counts = {"packets": 15_000, "expected": 15_000, "lost": 0, "ago_ms": 12, "jitter_ms": 3}
+        if source["ssrc"] == lossy:
+            counts |= {"packets": 14_400, "lost": 600}
+        if source["ssrc"] != silent:
+            rows.append({"address": address, "ssrc": source["ssrc"], **counts})
+    return {"sources": rows, "strangers": []}
+
+
+def take_pictures(command, folder, into):
+    """Pictures of the page, wide and narrow, light and dark."""
+    into.mkdir(parents=True, exist_ok=True)
+    names = {f"member {10 + place}": name for place, name in enumerate(PEOPLE)} | NAMES
+    one = standin.Standin(text=json.dumps(names))
+    for operator, line in [(0, line) for line in lines()] + CHANGES:
+        said = one.call(line, operator)
+        assert said.startswith("ok "), f"{line}: {said}"
+    one.counted = counted(one.log.desk, 217, 113)
+    browser = opened(command, folder, f"http://127.0.0.1:{standin.serve(one).server_port}/")
+    try:
+        settles(browser, one.log.version)
+        browser.wait("stats !== null")
+        for name, width, dark in [
+            ("desk", 1280, False), ("desk_dark", 1280, True), ("desk_narrow", 400, False),
+            ("desk_narrow_dark", 400, True),
+        ]:  # fmt: skip
+            is_open = width == 1280
+            browser.run(f"opened = {11 if is_open else 'null'}; picked.clear(); render(); true")
+            browser.run("if (opened) { picked.add(14).add(16); render(); } scrollTo(0, 0), true")
+            browser.shows(width, 900, dark)
+            time.sleep(0.5)
+            browser.picture(into / f"{name}.png")
+    finally:
+        browser.close()

@@ -1,0 +1,199 @@
+"""A page without a build: it answers HTTP as desk_page does, over the plain desk of the models in the place of a
+bridge."""
+
+import http.server
+import json
+import os
+import pathlib
+import secrets
+import threading
+import time
+
+from checks.make.page import PARTS, TOKEN, WEB
+from operators.models.desk import Log
+from operators.models.lines import COMMANDS, TURNS
+
+RESERVED = ("show", "history", "stats", "watch", "quit", "stop", "names")
+MOST_CALLS = 256
+LONGEST_NAME, LONGEST_CHANGE = 800, 262_144
+
+
+def is_names(text):
+    """Whether a text is a JSON object whose values are names."""
+    try:
+        found = json.loads(text)
+    except ValueError:
+        return False
+    return (
+        isinstance(found, dict)
+        and all(isinstance(name, str) and len(name.encode()) <= LONGEST_NAME for name in found.values())
+    )
+
+
+class Standin:
+    """A desk and the names."""
+
+    def __init__(self, names=None, text="{}"):
+        self.log, self.token = Log(), secrets.token_hex(16)
+        self.path, self.names, self.version = names and pathlib.Path(names), text, 0
+        self.lock, self.is_gone, self.counted = threading.Lock(), False, None
+        self.pause = 0
+
+    def waits(self):
+        """Answers late, by a pause that may end earlier."""
+        end = time.monotonic() + self.pause
+        while time.monotonic() < min(end, time.monotonic() + self.pause):
+            time.sleep(0.02)
+
+    def call(self, line, operator=0):
+        """What the bridge answers to a line. The page is operator 0."""
+        words = line.split(" ")
+        if words[0] not in (*COMMANDS, *TURNS, "group"):
+            return "fault 1 3 UnknownWord"
+        with self.lock:
+            return self.log.call(words, operator)
+
+    def ask(self, line):
+        """Another operator's call."""
+        return self.call(line, 1)
+
+    def shown(self):
+        with self.lock:
+            return self.log.desk.shown(self.log.version)
+
+    def history(self, most=MOST_CALLS):
+        with self.lock:
+            return self.log.history(most)
+
+    def desk(self):
+        return self.shown() + [f"names {self.version}"]
+
+    def rename(self, body):
+        head, _, text = body.partition("\n")
+        with self.lock:
+            if head != f"names {self.version}":
+                return f"no {self.version} Newer"
+            if not is_names(text):
+                return f"no {self.version} NoNames"
+            if self.path:
+                try:
+                    part = self.path.with_name(self.path.name + ".new")
+                    with open(os.open(part, os.O_WRONLY | os.O_CREAT | os.O_TRUNC, 0o600), "w") as file:
+                        file.write(text)
+                    part.rename(self.path)
+                except OSError:
+                    return f"no {self.version} Unsaved"
+            self.names, self.version = text, self.version + 1
+            return f"ok {self.version}"
+
+    def file(self, path):
+        """A web file as the program serves it, and its kind."""
+        if path == "/":
+            return (WEB / "page.html").read_text().replace(TOKEN, self.token), "text/html"
+        if path == "/page.css":
+            return (WEB / "page.css").read_text(), "text/css"
+        if path == "/page.js":
+            files = [
+                name
+                for _, _, constants in PARTS
+                for _, _, names, _ in constants
+                for name in names.split() if name.endswith(".js")
+            ]
+            return "\n".join((WEB / name).read_text() for name in files), "text/javascript"
+        return None
+
+
+def handler_of(standin):
+    class Handler(http.server.BaseHTTPRequestHandler):
+        def log_message(self, *_):
+            pass
+
+        def tell(self, status, text, kind="text/plain"):
+            body = text.encode()
+            self.send_response(status)
+            policy = "default-src 'none'; script-src 'self'; style-src 'self'; connect-src 'self'"
+            fields = {
+                "Content-Type": f"{kind}; charset=utf-8",
+                "Content-Length": len(body),
+                "Cache-Control": "no-store",
+                "Content-Security-Policy": policy,
+            }
+            for name, value in fields.items():
+                self.send_header(name, value)
+            self.end_headers()
+            self.wfile.write(body)
+
+        def do_GET(self):
+            standin.waits()
+            if standin.file(self.path):
+                return self.tell(200, *standin.file(self.path))
+            if self.path == "/names":
+                return self.tell(200, f"names {standin.version}\n{standin.names}")
+            if self.path == "/stats":
+                return self.count()
+            if self.path not in ("/desk.txt", "/history.txt"):
+                return self.tell(404, "NotFound\n")
+            if standin.is_gone:
+                return self.tell(502, "Gone: the bridge is not there, nothing was sent\n")
+            lines = standin.desk() if self.path == "/desk.txt" else standin.history()
+            return self.tell(200, "".join(f"{line}\n" for line in lines))
+
+        def count(self):
+            """What is counted, or that nothing is, as where the bridge is an older one."""
+            if standin.is_gone:
+                return self.tell(502, "Gone: the bridge is not there, nothing was sent\n")
+            if standin.counted is None:
+                return self.tell(501, "Unknown: this bridge doesn't know the question, it is an older one\n")
+            return self.tell(200, json.dumps(standin.counted), "application/json")
+
+        def do_POST(self):
+            body = self.rfile.read(int(self.headers["Content-Length"])).decode()
+            standin.waits()
+            if self.headers["X-Desk-Token"] != standin.token:
+                return self.tell(403, "NoToken: load the page again, its token is of an earlier run\n")
+            if self.path == "/names" and body.split(" ")[0] != "names":
+                return self.tell(
+                    400, "NoNames: a change is the word names, the version that was seen, and a JSON object of texts\n"
+                )
+            if self.path == "/names":
+                return self.tell(200, standin.rename(body) + "\n")
+            if body.split(" ")[0] in RESERVED:
+                told = "Reserved: show, history, stats, watch, quit, stop and names are not for the page\n"
+                return self.tell(400, told)
+            if standin.is_gone:
+                return self.tell(502, "Gone: the bridge is not there, nothing was sent\n")
+            return self.tell(200, standin.call(body) + "\n")
+
+    return Handler
+
+
+def serve(standin, port=0, handler=None):
+    """Serves a page until the process ends, by a handler of its own or the plain one. The server, whose `server_port`
+    is its port."""
+    server = http.server.ThreadingHTTPServer(("127.0.0.1", port), handler or handler_of(standin))
+    server.daemon_threads = True
+    # A browser that closes is no fault.
+    server.handle_error = lambda *_: None
+    server.thread = threading.Thread(target=server.serve_forever, daemon=True)
+    server.thread.start()
+    return server
+
+
+def fill(standin, rooms, size):
+    """Makes so many rooms of so many members, each with sound, a picture and a slot, in one step that no operator
+    made."""
+    desk = standin.log.desk
+    for room in range(1, rooms + 1):
+        desk.rooms.append({"room": room, "rate": 8000})
+        for place in range(size):
+            m = 1000 * room + place
+            address = f"10.{room}.0.{place + 1}:5000"
+            desk.members.append(
+                dict(member=m, room=room, address=address, codec="pcmu", out_audio=900_000 + m, seq=0, ts=0)
+            )
+            desk.sources += [
+                dict(ssrc=200_000 + m, member=m, media="audio"), dict(ssrc=300_000 + m, member=m, media="video")
+            ]
+            desk.slots.append(dict(out=500_000 + m, member=m, index=0, seq=0, ts=0))
+        desk.floors.append({"room": room, "member": 1000 * room})
+    standin.log.version += 1

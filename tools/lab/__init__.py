@@ -1,0 +1,1 @@
+"""Laboratories, which measure and hold calls with other programs."""

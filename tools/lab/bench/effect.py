@@ -1,0 +1,118 @@
+"""Measures how soon a mute takes effect in a room of 64 members, and its undo.
+
+From the `ok` of a mute on the operator's socket to the first mix that a listener is sent without the muted member; and
+the same for its undo. The status is 0 where the 99th percentile of each is at most 30 ms. Mixes leave every 20 ms.
+"""
+
+import select
+import socket
+import tempfile
+import threading
+import time
+
+from operators.packets import is_rtp_of, payload_of, rtp
+from operators.serving import Operator, port_of, settings, started, udp_socket
+from operators.shared import add_program, fail, release_program
+
+NEEDS = "the program, a minute"
+
+MEMBERS = 64
+ALLOWED = 0.03
+# A sample of PCMU that is loud, and one that is silence.
+LOUD, SILENT = 0x90, 0xFF
+
+
+def options(parser):
+    parser.add_argument("--mutes", type=int, default=300, help="how many mutes and undos are measured (%(default)s)")
+    parser.add_argument("--lanes", type=int, default=1, help="how many lanes the bridge has (%(default)s)")
+    add_program(parser)
+
+
+class Speakers(threading.Thread):
+    """All members, who send a packet every 20 ms: the first one is loud, the others are silent. What comes to all but
+    the listener is let go."""
+
+    def __init__(self, port, sockets):
+        super().__init__(daemon=True)
+        self.to, self.sockets = ("127.0.0.1", port), sockets
+        self.is_done = threading.Event()
+
+    def run(self):
+        at, due = 0, time.monotonic()
+        while not self.is_done.is_set():
+            for number, one in enumerate(self.sockets):
+                sample = SILENT if number else LOUD
+                one.sendto(rtp(at, 160 * at, 1000 + number, bytes([sample]) * 160, pt=0), self.to)
+            at += 1
+            due += 0.02
+            time.sleep(max(0, due - time.monotonic()))
+
+
+def wait_for(listener, ssrc, is_heard):
+    """The moment at which a mix came in which the loud member is heard, or isn't."""
+    end = time.monotonic() + 5
+    while time.monotonic() < end:
+        if not select.select([listener], [], [], 0.5)[0]:
+            continue
+        octets = listener.recv(65536)
+        moment = time.monotonic()
+        if is_rtp_of(octets, ssrc):
+            payload = payload_of(octets)
+            if (sum(it in (0xFF, 0x7F) for it in payload) < len(payload) // 2) == is_heard:
+                return moment
+    fail("the listener waited for 5 s in vain")
+
+
+def measured(operator, listener, ssrc, line, is_heard):
+    """How long after the `ok` of a line the listener first heard, or did not hear, the loud member, in seconds."""
+    while select.select([listener], [], [], 0)[0]:
+        listener.recv(65536)
+    told = operator.ask(line).split()
+    moment = time.monotonic()
+    if told[0] != "ok":
+        fail(f"{line}: {told}")
+    return max(0, wait_for(listener, ssrc, is_heard) - moment), int(told[1])
+
+
+def told(name, times):
+    times.sort()
+    late = times[int(len(times) * 0.99)]
+    print(
+        f"{name}: {times[len(times) // 2] * 1e3:.1f} ms (median), {late * 1e3:.1f} ms (99th percentile), "
+        f"{times[-1] * 1e3:.1f} ms (all)"
+    )
+    return late <= ALLOWED
+
+
+def run(args):
+    program = release_program(args.binary)
+    sockets = [udp_socket() for _ in range(MEMBERS)]
+    with tempfile.TemporaryDirectory() as folder:
+        bridge, udp, tcp = started(program, settings(folder, lanes=args.lanes))
+        with socket.create_connection(("127.0.0.1", tcp)) as connection:
+            operator = Operator(connection)
+            lines = ["add-room 1"]
+            for number, one in enumerate(sockets):
+                lines.append(f"add-member {number} 1 127.0.0.1:{port_of(one)} pcmu {5000 + number} 0 0")
+                lines.append(f"add-source {1000 + number} {number} audio")
+            for line in lines:
+                if not operator.ask(line).startswith("ok "):
+                    fail(f"{line} isn't accepted")
+            speakers = Speakers(udp, sockets)
+            speakers.start()
+            time.sleep(1)
+            listener, ssrc = sockets[1], 5001
+            mutes, undos = [], []
+            for number in range(args.mutes):
+                took, version = measured(operator, listener, ssrc, "mute 1000", False)
+                mutes.append(took)
+                # The moments of calls have all distances to those of ticks.
+                time.sleep(0.05 + number % 20 / 1000)
+                took, _ = measured(operator, listener, ssrc, f"undo {version}", True)
+                undos.append(took)
+                time.sleep(0.05 + number % 19 / 1000)
+            speakers.is_done.set()
+            operator.tell("stop")
+        if bridge.wait(10):
+            fail(f"the bridge ended with status {bridge.returncode}")
+    return 0 if told("mute", mutes) & told("undo", undos) else 1

@@ -1,0 +1,1 @@
+"""Checks with programs of others."""

@@ -1,0 +1,1 @@
+"""Models of bridges and of a way, which run as programs."""

@@ -1,1 +1,0 @@
-"""The subcommands of tools/bridge, a module each, and what they share."""

@@ -1,0 +1,239 @@
+"""The calls of operators: who asked for what, when, and what the bridge answered."""
+
+import collections
+import dataclasses
+import re
+
+from operators.models.lines import ALONE, fault_of_line
+
+SEATS = 16
+# A capture that is out of order may have an answer so long before its question, in nanoseconds.
+EARLY = 10_000_000
+# Where lines of an operator are lost, the answers that follow may be theirs. A line that comes so long behind those
+# before it, in nanoseconds, has the answer that follows it.
+QUIET = 100_000_000
+# The longest line of an operator, in octets.
+LONGEST = 4096
+# So many lines may wait for their answers, and so many rows for their end: a `history` has 4,194,304 octets at most.
+MOST_WAITING, MOST_ROWS = 4096, 1 << 19
+
+
+def is_good(text):
+    """Whether an operator's line is one that a bridge takes for a call, or for a word such as `show`."""
+    return len(text) <= LONGEST and fault_of_line(text.encode("latin-1")) is None
+
+
+def version_in(text, word):
+    """The number behind a word, as in `ok 12`, or None."""
+    found = re.fullmatch(word + " ([0-9]{1,20})", text)
+    return int(found[1]) if found else None
+
+
+@dataclasses.dataclass
+class Call:
+    """A line of an operator: when it came, the connection and the seat, its words, the answer and when that left. A
+    call that was accepted has its number. `at` is the moment at which it counts. In place of lines that are lost stands
+    one that `is_hole`; an accepted call whose line is lost has its number alone."""
+
+    moment: int
+    client: str
+    text: str
+    seat: int = 0
+    answer: str = ""
+    until: int = 0
+    number: int = 0
+    at: int = 0
+    is_hole: bool = False
+
+    def is_lost(self):
+        """Whether it is a call that was accepted, and nobody knows which one."""
+        return self.number > 0 and not self.text
+
+    def is_call(self):
+        """Whether it is a call of the desk."""
+        return self.is_lost() or self.text.split(" ")[0] not in ALONE and is_good(self.text)
+
+    def is_told_lines(self):
+        """Whether its answer is some lines, of which the last is `end VERSION` or `end`."""
+        return self.text.split(" ")[0] in ("show", "history", "stats", "watch")
+
+
+@dataclasses.dataclass(frozen=True)
+class Shown:
+    """A desk as it was told: its rows, its version (None where it isn't known), the moments of the question and of the
+    last line; or, by a history, the calls that made it, those in force and those undone, each with its operator. So
+    many of the first calls aren't undone by any that follow. `by` is what told it."""
+
+    moment: int
+    until: int
+    rows: tuple
+    version: int
+    calls: tuple = ()
+    undone: tuple = ()
+    floor: int = 0
+    by: str = "a `show`"
+
+
+# A call as a history tells it: its number, its operator, its words.
+TOLD = re.compile(r"([0-9]{1,20}) ([0-9]{1,2}) (.+)", re.ASCII)
+
+
+def history_of(lines):
+    """The calls of a history, those in force and those undone, as pairs of operator and words; None where a line is
+    none of a history."""
+    parts, at = ([], []), 0
+    for line in lines:
+        found = TOLD.fullmatch(line)
+        if line == "undone":
+            at = 1
+        elif found and int(found[2]) < SEATS and is_good(found[3]):
+            parts[at].append((int(found[2]), found[3]))
+        else:
+            return None
+    return tuple(map(tuple, parts))
+
+
+class Told:
+    """What answers tell of the desk: the desks of `show` and `history`, the calls of a `watch` by their numbers, which
+    version there was at a moment, and when calls were accepted whose lines are lost, by their numbers."""
+
+    def __init__(self):
+        self.shown, self.calls, self.versions, self.lost = [], {}, [], {}
+
+
+class Answers:
+    """Gives the lines of a bridge to a client to the lines that they answer."""
+
+    def __init__(self, asked, told, is_whole=False):
+        # Where the connection's beginning was captured, or an answer found its question, an answer that stands before
+        # the next question may be that one's.
+        self.waiting, self.told, self.rows, self.has_answered = collections.deque(asked), told, [], is_whole
+        # Behind lost lines of the operator: when a line came last.
+        self.unsure = None
+
+    def take(self, line):
+        """Takes an answer."""
+        if not line.is_whole:
+            # Whose answer a line is that stands behind a hole, nobody knows.
+            self.rows = None
+            while self.waiting and self.waiting[0].moment < line.moment:
+                passed = self.waiting.popleft()
+                self.unsure = passed.moment if passed.is_hole else self.unsure
+            return
+        while self.waiting and self.waiting[0].text in ("quit", "stop"):
+            self.waiting.popleft()
+        if line.text.startswith("call "):
+            # A line of a watch answers nothing.
+            self.take_told(line)
+            return
+        self.pass_holes(line.moment)
+        early = EARLY if self.has_answered and self.unsure is None else 0
+        if not self.waiting or self.waiting[0].moment > line.moment + early:
+            number = version_in(line.text, "ok")
+            if number and (self.has_answered or self.unsure is not None):
+                self.told.lost.setdefault(number, line.moment)
+            self.unsure = self.unsure and line.moment
+            return
+        if self.waiting[0].is_told_lines() and not line.text.startswith(("busy", "fault", "no ")):
+            self.take_row(line)
+            return
+        call = self.waiting.popleft()
+        call.answer, call.until, self.has_answered = line.text, max(line.moment, call.moment), True
+        call.number = version_in(line.text, "ok") or 0
+        refused = re.fullmatch("no ([0-9]{1,20}) .*", line.text, re.ASCII)
+        if call.number or refused:
+            self.told.versions.append((line.moment, call.number or int(refused[1])))
+
+    def pass_holes(self, moment):
+        """Passes lost lines, and those behind them whose answers nobody knows, up to a moment."""
+        while self.waiting and self.waiting[0].moment <= moment:
+            is_sure = self.unsure is None or self.waiting[0].moment - self.unsure >= QUIET
+            if is_sure and not self.waiting[0].is_hole:
+                self.unsure = None
+                return
+            self.unsure = self.waiting.popleft().moment
+
+    def take_told(self, line):
+        """Takes a call that a watch tells."""
+        found = TOLD.fullmatch(line.text.removeprefix("call "))
+        if found and int(found[2]) < SEATS and is_good(found[3]):
+            self.told.calls.setdefault(int(found[1]), (line.moment, int(found[2]), found[3]))
+
+    def take_row(self, line):
+        """Takes a line that answers `show`, `history`, `stats` or `watch`."""
+        is_last, version = line.text.split(" ")[0] == "end", version_in(line.text, "end")
+        if self.rows is not None and not is_last:
+            self.rows.append(line.text)
+            self.rows = None if len(self.rows) > MOST_ROWS else self.rows
+        elif is_last:
+            call = self.waiting.popleft()
+            call.answer, call.until, self.has_answered = line.text, max(line.moment, call.moment), True
+            if version is not None:
+                self.told.versions.append((line.moment, version))
+                self.take_desk(call, line.moment, version)
+            self.rows = []
+
+    def take_desk(self, call, until, version):
+        """Takes a desk that was told in whole."""
+        if call.text == "show" and self.rows is not None:
+            self.told.shown.append(Shown(call.moment, until, tuple(self.rows), version))
+        if call.text == "history" and self.rows is not None:
+            calls = history_of(self.rows)
+            if calls:
+                self.told.shown.append(Shown(call.moment, until, (), version, *calls, by="a `history`"))
+
+
+def take_seats(calls, ends, known):
+    """Gives each connection the seat that it is known to have, or the lowest one that is free at its first good line
+    (docs/FORMATS.md, Operators' lines)."""
+    taken = dict(known)
+    for call in calls:
+        for client in [client for client in taken if ends.get(client, call.moment) < call.moment]:
+            del taken[client]
+        if call.client not in taken and call.answer != "busy":
+            free = [seat for seat in range(SEATS) if seat not in taken.values()]
+            taken[call.client] = free[0] if free else SEATS
+        call.seat = taken.get(call.client, 0)
+
+
+def give_moments(calls):
+    """The moment at which each call counts: its answer's, but none counts later than one with a greater number."""
+    latest = None
+    for call in sorted((call for call in calls if call.number), key=lambda call: -call.number):
+        latest = min(call.until, latest or call.until)
+        call.at = latest
+    for call in calls:
+        call.at = call.at or call.until or call.moment
+
+
+def calls_of(wire, more=()):
+    """All lines of operators, the calls among them in the order in which the bridge took them, and what answers told of
+    the desk. `more` are calls that another source tells, as (number, moment, seat, words)."""
+    told, by_client = Told(), collections.defaultdict(list)
+    for line in wire.asked:
+        text = line.text if line.is_whole else ""
+        by_client[line.source].append(Call(line.moment, line.source, text, is_hole=not line.is_whole))
+    calls = [call for asked in by_client.values() for call in asked if not call.is_hole]
+    answers = {client: Answers(asked, told, client in wire.begun) for client, asked in by_client.items()}
+    for line in wire.answered:
+        if line.target not in answers:
+            # A connection of which the capture has what the bridge says alone.
+            answers[line.target] = Answers([], told)
+        answers[line.target].take(line)
+    take_seats(sorted(calls, key=lambda call: call.moment), wire.ends, wire.seats)
+    told.calls = {number: (moment, seat, text) for number, moment, seat, text in more} | told.calls
+    known = {call.number: call for call in calls if call.number}
+    for number, (moment, seat, text) in told.calls.items():
+        if number in known:
+            known[number].seat = seat
+        else:
+            calls.append(Call(moment, "", text, seat, f"ok {number}", moment, number))
+    known = {call.number for call in calls}
+    calls += [
+        Call(moment, "", "", 0, f"ok {number}", moment, number)
+        for number, moment in told.lost.items() if number not in known
+    ]
+    give_moments(calls)
+    calls.sort(key=lambda call: (call.at, call.number))
+    told.shown.sort(key=lambda one: one.until)
+    return calls, told

@@ -1,0 +1,137 @@
+"""Prints the desk of a running bridge as groups that make all its rows again.
+
+    tools/bridge keep 127.0.0.1:7000 > desk.txt
+
+A desk ends with its bridge. `tools/bridge restore` gives these groups to an empty bridge, and its `show` then says
+the same but for FIRST_SEQ: streams begin anew, and 1,000 is added to that number of each (modulo 65,536), so that
+receivers don't take new packets for old ones. Each group is all or nothing, and one undo takes it back. The first and
+the last line say how many there are. It takes a seat for a moment. The status is 2 where the bridge is gone or busy,
+and nothing is printed then.
+"""
+
+import contextlib
+import socket
+import sys
+
+from operators.serving import Operator
+from operators.shared import ROOT
+
+sys.path.insert(0, str(ROOT / "examples/fleet"))
+
+from kept import FURTHER, Unmade, commands_of, groups_of  # noqa: E402
+from printable import printable  # noqa: E402
+
+NEEDS = "a bridge that runs"
+
+# How many seconds a bridge may take for an answer. How many octets a line of it has at most, and how many rows a desk:
+# more are no bridge's.
+PATIENCE, MOST_OCTETS, MOST_ROWS = 30, 4096, 200_000
+
+
+class Trouble(Exception):
+    """What a person is told, as a terminal may show it, and the exit status."""
+
+    def __init__(self, text, status):
+        super().__init__(printable(text))
+        self.status = status
+
+
+def options(parser):
+    parser.add_argument("address", metavar="ADDRESS", help="the bridge's `tcp`, as an address or a port of 127.0.0.1")
+
+
+class Seat(Operator):
+    """An operator's connection to the bridge at an address. Where no answer comes it raises Trouble."""
+
+    def __init__(self, address):
+        self.address = address if ":" in address else f"127.0.0.1:{address}"
+        host, _, port = self.address.rpartition(":")
+        if not port.isdigit() or int(port) > 65535:
+            raise Trouble(f"{address} is no address", 4)
+        try:
+            connection = socket.create_connection((host, int(port)), PATIENCE)
+        except OSError as why:
+            raise Trouble(f"there is no bridge at {self.address}: {why.strerror or why}", 2) from None
+        self.connection = connection
+        # Whatever octets come are a text.
+        self.lines = connection.makefile("rw", newline="\n", encoding="ascii", errors="backslashreplace")
+
+    def line(self):
+        """The next line: empty where the connection has ended."""
+        return self.lines.readline(MOST_OCTETS).strip("\n")
+
+    def answered(self, line):
+        """The first line that answers a line."""
+        try:
+            self.tell(line)
+            said = self.line()
+        except TimeoutError:
+            raise Trouble(f"the bridge at {self.address} doesn't answer within {PATIENCE} s", 2) from None
+        except OSError:
+            said = ""
+        if said == "busy":
+            raise Trouble(f"the bridge at {self.address} is busy: all seats at its desk are taken", 2)
+        if not said:
+            raise Trouble(f"the bridge at {self.address} is gone: it closed the connection", 2)
+        return said
+
+    def rows(self):
+        """The rows of the desk, and its version."""
+        rows, line = [], self.answered("show")
+        while not line.startswith("end "):
+            rows.append(line)
+            try:
+                line = self.line()
+            except OSError:
+                line = ""
+            if not line or len(rows) > MOST_ROWS:
+                raise Trouble(f"the bridge at {self.address} is gone: its rows end in the middle", 2)
+        version = line.removeprefix("end ")
+        if not version.isdigit():
+            raise Trouble(f"{self.address} is no bridge: it says {line[:80]!r}", 2)
+        return rows, int(version)
+
+    def close(self):
+        with contextlib.suppress(OSError):
+            self.tell("quit")
+        for one in self.lines, self.connection:
+            with contextlib.suppress(OSError):
+                one.close()
+
+
+def last_line(groups, commands):
+    """The line that ends a file of groups: without it the file was cut."""
+    return f"# end: {groups} groups of {commands} commands"
+
+
+def made_by(rows, address):
+    """The commands that make the rows of a bridge."""
+    try:
+        return commands_of(rows)
+    except Unmade as row:
+        raise Trouble(f"{address} is no bridge: `{str(row)[:80]}` is no row", 2) from None
+
+
+MOVED = f"FIRST_SEQ of each stream is {FURTHER} further on, as streams begin anew"
+
+
+def text_of(rows, version, address):
+    """What makes the rows of a bridge again, as a file has it."""
+    commands = made_by(rows, address)
+    groups = groups_of(commands)
+    lines = [f"# the desk of version {version}: {MOVED}", *groups, last_line(len(groups), len(commands))]
+    return "".join(f"{line}\n" for line in lines)
+
+
+def run(args):
+    try:
+        with contextlib.closing(Seat(args.address)) as seat:
+            rows, version = seat.rows()
+        text = text_of(rows, version, args.address)
+    except Trouble as why:
+        print(f"tools/bridge keep: {why}", file=sys.stderr)
+        return why.status
+    print(text, end="")
+    groups = text.count("\n") - 2
+    print(f"tools/bridge keep: {len(rows)} rows in {groups} groups; {MOVED}", file=sys.stderr)
+    return 0
