@@ -12,8 +12,8 @@ import subprocess
 import time
 import urllib.request
 
+from checks.sound import amplitude, write_tone
 from checks.substitutes import write_all
-from lab.gateway_call.callers import level, write_tone
 from operators.shared import ROOT, fail
 
 # What differs each time: the moment at which a bridge that listens began, and the SSRC of a mix that an agent chose.
@@ -142,7 +142,9 @@ class Folder:
         """Whether the other member's tone of 1000 Hz was heard, and the own one of 440 Hz wasn't."""
         sound, piece = samples(self.path / "heard"), rate // 4
         pieces = [sound[at : at + piece] for at in range(0, len(sound) - piece, piece)]
-        other, own = (max((level(one, hertz, rate) for one in pieces[4:]), default=0) for hertz in (1000, 440))
+        other, own = (
+            max((amplitude(one, hertz, rate) / 32767 for one in pieces[4:]), default=0) for hertz in (1000, 440)
+        )
         if other < 0.05 or own > other / 10:
             fail(f"{where}: the other's tone is heard at {other:.3f}, the own one at {own:.3f}")
 

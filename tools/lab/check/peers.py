@@ -21,6 +21,7 @@ import tempfile
 import threading
 import time
 
+from checks.sound import amplitude, strength
 from operators.models.mix import samples_of
 from operators.packets import has_no_gap, is_rtcp, is_rtp_of, nack, number, payload_of, rtp, seq_of, ssrc_of
 from operators.serving import Operator, port_of, settings, started, udp_socket
@@ -92,31 +93,19 @@ def samples(packets):
     return [sample for packet in packets for sample in samples_of(packet[1] & 127, payload_of(packet))]
 
 
-def strength(sound, hertz, rate):
-    """The square of a sound's Fourier sum at a frequency, as Goertzel adds it up."""
-    w, a, b = 2 * math.cos(2 * math.pi * hertz / rate), 0.0, 0.0
-    for v in sound:
-        a, b = v + w * a - b, a
-    return max(0.0, a * a + b * b - w * a * b)
-
-
 def power(sound, hertz):
     """The share of a sound's power at a frequency: 0.5 for a pure tone."""
     whole = sum(v * v for v in sound) * len(sound)
     return strength(sound, hertz, RATE) / whole if whole else 0.0
 
 
-def level(sound, hertz):
-    """The amplitude of the tone of a frequency in music."""
-    return 2 * math.sqrt(strength(sound, hertz, MUSIC)) / len(sound) if sound else 0.0
-
-
 def are_music(sound, wanted):
     """Whether half a second of music has the wanted tones at their levels, the others not, and each at its frequency.
     What it has."""
     half = sound[-MUSIC // 2 :]
-    levels = {hertz: round(level(half, hertz)) for hertz in LEVELS}
-    peaks = {hertz: max(range(hertz - 6, hertz + 7, 2), key=lambda near: level(half, near)) for hertz in wanted}
+    levels = {hertz: round(amplitude(half, hertz, MUSIC)) for hertz in LEVELS}
+    loudest = lambda hertz: max(range(hertz - 6, hertz + 7, 2), key=lambda near: amplitude(half, near, MUSIC))
+    peaks = {hertz: loudest(hertz) for hertz in wanted}
     near = all(abs(levels[hertz] - LEVELS[hertz]) < LEVELS[hertz] / 10 for hertz in wanted)
     quiet = all(levels[hertz] < 50 for hertz in LEVELS if hertz not in wanted)
     return len(half) == MUSIC // 2 and near and quiet and all(

@@ -3,7 +3,6 @@
 import contextlib
 import glob
 import json
-import math
 import os
 import pathlib
 import re
@@ -11,9 +10,9 @@ import socket
 import struct
 import subprocess
 import time
-import wave
 
 from checks.browser import Browser
+from checks.sound import LEVEL, amplitude, write_tone
 from lab.firefox import Firefox
 from lab.waits import ended, within
 from operators.shared import fail
@@ -22,28 +21,9 @@ PROBE = pathlib.Path(__file__).with_name("probe.js").read_text()
 # The tone of each caller in Hz. A browser's picture has a colour of its own besides.
 TONES = {"A": 440, "B": 1000, "C": 1500, "D": 700, "E": 2200, "F": 2750, "L": 3300}
 COLOURS = {"A": "red", "B": "blue", "C": "green", "F": "yellow"}
-# The share of full sound that each sends. All together are no full sound, which would be clamped.
-LEVEL = 0.15
 WIDTH, HEIGHT, RATE = 320, 240, 15
 # The most that a browser may take, in seconds: to start, to load the page, to join, and to say what it sees or hears.
 STARTING, LOADING, JOINING, SAYING = 90, 60, 60, 30
-
-
-def write_tone(path, hertz, rate, seconds):
-    """Writes a file with a tone."""
-    turn = 2 * math.pi * hertz / rate
-    second = b"".join(struct.pack("<h", round(LEVEL * 32767 * math.sin(turn * at))) for at in range(rate))
-    with wave.open(str(path), "wb") as file:
-        file.setparams((1, 2, rate, 0, "NONE", ""))
-        file.writeframes(second * seconds)
-
-
-def level(sound, hertz, rate):
-    """The level of a tone among samples, by Goertzel's way: 1 is full."""
-    w, a, b = 2 * math.cos(2 * math.pi * hertz / rate), 0.0, 0.0
-    for v in sound:
-        a, b = v + w * a - b, a
-    return 2 * math.sqrt(max(0.0, a * a + b * b - w * a * b)) / max(1, len(sound)) / 32767
 
 
 class Caller:
@@ -189,7 +169,7 @@ class Phone(Caller):
         # Linphone writes the rate to the file's head at the end of a call alone.
         rate, octets = int.from_bytes(octets[24:28], "little") or self.RATE, octets[44:]
         sound = [sample for sample, in struct.iter_unpack("<h", octets[: len(octets) // 2 * 2][-rate:])]
-        return {name: round(level(sound, hertz, rate), 4) for name, hertz in TONES.items()}
+        return {name: round(amplitude(sound, hertz, rate) / 32767, 4) for name, hertz in TONES.items()}
 
     def close(self):
         """Hangs up."""
