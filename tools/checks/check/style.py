@@ -18,9 +18,11 @@ that an edit of edits/ or must-fail/ replaces doesn't stand once in its file, or
 sorts before one of the product.
 
 A line of src/, specs/, proofs/, the page's web files and tools/ has at most 120 columns, if it is more than one text in
-quotes. `make layout` breaks those of specs/ and proofs/.
+quotes. `make layout` breaks those of specs/ and proofs/. Of the folders of tools/, operators imports neither of the
+others, since a package ships it alone, and checks imports nothing of lab.
 """
 
+import ast
 import collections
 import itertools
 import re
@@ -44,6 +46,8 @@ MOST_COLUMNS = 120
 MOST_LINES_OF_FILE = 300
 
 TOOLS = ROOT / "tools"
+# Which folders of tools/ each may import besides itself. A package ships the first one alone.
+MAY_IMPORT = {"operators": [], "checks": ["operators"], "lab": ["operators", "checks"]}
 # A line that is a text in quotes.
 ONE_TEXT = re.compile(r'\s*"[^"]*"[,;]?')
 
@@ -394,6 +398,27 @@ def check_edits():
     return not found
 
 
+def imported(path):
+    """The names of the modules that a source in Python imports."""
+    for node in ast.walk(ast.parse(path.read_text())):
+        if isinstance(node, ast.Import):
+            yield from (one.name for one in node.names)
+        elif isinstance(node, ast.ImportFrom):
+            yield node.module
+
+
+def check_folders():
+    """Prints which tools import a folder of tools/ that theirs may not. Whether none does."""
+    found = []
+    for path in sorted(TOOLS.glob("*/**/*.py")):
+        folder = path.relative_to(TOOLS).parts[0]
+        others = MAY_IMPORT.keys() - {folder, *MAY_IMPORT[folder]}
+        found += [f"{path.relative_to(ROOT)}: {name}" for name in imported(path) if name.split(".")[0] in others]
+    print(f"{len(found)} imports of tools that their folder may not have")
+    print("".join(f"       {fault}\n" for fault in found), end="")
+    return not found
+
+
 def check_order():
     """Prints which crates that are there to check sort before one of the product. Whether none does."""
     product = bridge_crates()
@@ -408,5 +433,5 @@ def run(args):
     if not args.docs:
         print()
         good += [check_sources(), check_lines(), check_names(), check_examples(), check_made(), check_edits()]
-        good += [check_order()]
+        good += [check_order(), check_folders()]
     return 0 if all(good) else 1

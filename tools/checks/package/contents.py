@@ -1,6 +1,5 @@
 """The files of a package: their places, their octets, and whether they are run."""
 
-import ast
 import dataclasses
 import gzip
 import re
@@ -9,7 +8,7 @@ from checks.package import manual
 from checks.package.commit import changelog
 from operators.shared import ROOT
 
-# The tools that operators use, and what they read or import beside tools/operators.
+# The tools that operators use, and what they read or import beside their folder.
 TOOLS = ["demo", "explain", "keep", "keeper", "member", "restore", "watch"]
 BESIDE = ["examples/fleet/kept.py", "examples/fleet/printable.py", "examples/serve.toml"]
 UNITS = ["confbridge", "confbridge-desk", "confbridge-page"]
@@ -39,35 +38,9 @@ def packed(octets):
 # Tools
 
 
-def imported(path):
-    """The modules of tools/operators that a source imports, and those above them, by their paths in tools."""
-    names = set()
-    for node in ast.walk(ast.parse(path.read_text())):
-        if isinstance(node, ast.Import):
-            names |= {one.name for one in node.names}
-        elif isinstance(node, ast.ImportFrom):
-            names |= {node.module, *(f"{node.module}.{one.name}" for one in node.names)}
-    for name in {".".join(name.split(".")[: n + 1]) for name in names for n in range(name.count(".") + 1)}:
-        if name.split(".")[0] == "operators":
-            place = ROOT / "tools" / name.replace(".", "/")
-            yield from (one for one in (place.with_suffix(".py"), place / "__init__.py") if one.is_file())
-
-
 def sources():
-    """The sources of the tools that operators use, and all that these import."""
-    tools = ROOT / "tools"
-    left = [tools / "bridge", *(path for name in TOOLS for path in tool_paths(tools / "operators" / name))]
-    found = set()
-    while left:
-        path = left.pop()
-        if path not in found:
-            found.add(path)
-            left += imported(path)
-    return sorted(found)
-
-
-def tool_paths(place):
-    return [one for one in (place.with_suffix(".py"), place / "__init__.py") if one.is_file()]
+    """The sources of the tools that operators use, which import nothing else of tools/."""
+    return [ROOT / "tools/bridge", *sorted((ROOT / "tools/operators").rglob("*.py"))]
 
 
 def as_packaged(source):
