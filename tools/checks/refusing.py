@@ -9,6 +9,7 @@ import subprocess
 import tempfile
 import time
 
+from checks.bridges import until
 from operators.shared import fail
 
 HERE = pathlib.Path(__file__).resolve().parent
@@ -16,19 +17,6 @@ HERE = pathlib.Path(__file__).resolve().parent
 PATIENCE = 20
 # Whose requests are counted, where it isn't one thread.
 ANY, NONE = 0, -1
-
-
-def check(holds, text):
-    if not holds:
-        fail(text)
-
-
-def until(holds, text):
-    """Waits until something holds, and ends where it doesn't in time."""
-    end = time.monotonic() + PATIENCE
-    while not holds():
-        check(time.monotonic() < end, text)
-        time.sleep(0.001)
 
 
 def library(folder, source="refusing.c"):

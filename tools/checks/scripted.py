@@ -8,21 +8,17 @@ import socket
 import subprocess
 import time
 
+from checks.bridges import accepted, check, operator_at
 from checks.confined import confined, lacks
 from checks.pair import Pair
-from operators.serving import LISTENS, Operator, free_port, said_at_the_end, settings
-from operators.shared import ROOT, fail
+from operators.serving import LISTENS, free_port, said_at_the_end, settings
+from operators.shared import ROOT
 
 SCRIPT, UNIT = ROOT / "confbridge", ROOT / "examples/confbridge.service"
 # How many seconds a bridge may take to listen or to end. It takes one; a busy machine may take many.
 PATIENCE = 150
 # The status of a bridge that had to be killed.
 KILLED = 143
-
-
-def check(holds, text):
-    if not holds:
-        fail(text)
 
 
 def installed(folder, program):
@@ -66,16 +62,14 @@ def begun(script, path, unit=None):
 
 
 def seated(tcp):
-    return Operator(socket.create_connection(("127.0.0.1", tcp), PATIENCE))
+    return operator_at(tcp, PATIENCE)
 
 
 def stop_in_mid_call(script, path, by):
     """SIGHUP does nothing to a call of two members; SIGTERM and SIGINT stop its bridge as `stop` does."""
     bridge, udp, tcp = begun(script, path)
     operator, pair = seated(tcp), Pair()
-    for line in pair.lines():
-        said = operator.ask(line)
-        check(said.startswith("ok "), f"`{line}` is answered `{said}`")
+    accepted(operator, *pair.lines())
     pair.begin(udp)
     pair.wait_until_heard()
     for _ in range(2):

@@ -1,13 +1,13 @@
 """A call of four members, and steps of it: what members send, and what they then get."""
 
 import select
-import socket
 import time
 
-from checks.refusing import PATIENCE, check, own_threads, until
+from checks.bridges import accepted, operator_at, until
+from checks.refusing import PATIENCE, own_threads
 from operators.models.mix import expanded, octets_of
 from operators.packets import nack, number, payload_of, pli, rtp, seq_of
-from operators.serving import Operator, port_of, started, udp_socket
+from operators.serving import port_of, started, udp_socket
 
 # Each member's tone, as a mu-law octet; its slot, but for the first one, who sends the video.
 TONES = {10: 0xCE, 11: 0x4E, 12: 0xBC, 13: 0x2A}
@@ -57,7 +57,7 @@ class Call:
     def begin(self, lanes):
         """An operator makes the desk."""
         self.threads = own_threads(self.bridge, lanes)
-        self.operator = Operator(socket.create_connection(("127.0.0.1", self.tcp), timeout=PATIENCE))
+        self.operator = operator_at(self.tcp, PATIENCE)
         self.ask(
             "add-room 1",
             *(f"add-member {it} 1 127.0.0.1:{port_of(one)} pcmu {9000 + it} 0 0" for it, one in self.members.items()),
@@ -68,9 +68,7 @@ class Call:
         )
 
     def ask(self, *lines):
-        for line in lines:
-            answer = self.operator.ask(line)
-            check(answer.startswith("ok "), f"`{line}` is answered `{answer}`")
+        accepted(self.operator, *lines)
 
     def send(self, member, octets):
         self.members[member].sendto(octets, self.udp)

@@ -6,9 +6,10 @@ import subprocess
 import threading
 import time
 
+from checks.bridges import check, operator_at
 from checks.traces import stream_in
 from operators.packets import nack, pli, rtp, seq_of
-from operators.serving import Operator, free_port, udp_socket
+from operators.serving import free_port, udp_socket
 from operators.shared import CRATES, fail, found_program, try_command
 
 # How many members there are.
@@ -17,11 +18,6 @@ MEMBERS = 4
 PATIENCE = 600
 # Payload of a packet of video.
 PICTURE = 700
-
-
-def check(holds, text):
-    if not holds:
-        fail(text)
 
 
 class Bridge:
@@ -48,7 +44,7 @@ class Bridge:
         end = time.monotonic() + PATIENCE
         while self.process.poll() is None and time.monotonic() < end:
             try:
-                return Operator(socket.create_connection(("127.0.0.1", self.tcp), timeout=60))
+                return operator_at(self.tcp, 60)
             except ConnectionRefusedError:
                 time.sleep(0.1)
         return fail(f"the bridge doesn't listen: {self.said.read_text()[-2000:]}")

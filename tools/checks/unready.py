@@ -7,7 +7,8 @@ import itertools
 import mmap
 import tempfile
 
-from checks.refusing import ANY, NONE, check
+from checks.bridges import check
+from checks.refusing import ANY, NONE
 from operators.packets import is_rtcp, seq_of, ssrc_of
 
 # A call after which the socket may be ready, and how often a lane tries a datagram before it gives it up.

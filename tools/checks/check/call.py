@@ -16,6 +16,7 @@ import subprocess
 import tempfile
 import time
 
+from checks.bridges import check, seconds_of
 from operators.packets import has_no_gap, is_rtp_of, nack, pli, rtp, seq_of
 from operators.serving import Operator, free_port, port_of, settings, udp_socket
 from operators.shared import CRATES, add_program_or_build, fail, found_program, try_command
@@ -54,11 +55,6 @@ SETUP = [
 
 def options(parser):
     add_program_or_build(parser)
-
-
-def check(holds, text):
-    if not holds:
-        fail(text)
 
 
 def start(args, folder):
@@ -175,18 +171,11 @@ def has_more(call, member, ssrc, text):
     call.talk_until(lambda: len(call.stream(member, ssrc)) > before + 1, text)
 
 
-def spent(bridge):
-    """The seconds of processor time that a process and its threads have taken."""
-    words = pathlib.Path(f"/proc/{bridge.pid}/stat").read_text().rpartition(")")[2].split()
-    # User and system time are the 14th and 15th field (proc(5)); the first two stand before what is split.
-    return (int(words[11]) + int(words[12])) / os.sysconf("SC_CLK_TCK")
-
-
 def share_of(bridge, seconds):
     """The share of a processor that a bridge takes for so many seconds."""
-    begun, before = time.monotonic(), spent(bridge)
+    begun, before = time.monotonic(), seconds_of(bridge)
     time.sleep(seconds)
-    return (spent(bridge) - before) / (time.monotonic() - begun)
+    return (seconds_of(bridge) - before) / (time.monotonic() - begun)
 
 
 def check_idle(bridge):

@@ -20,6 +20,7 @@ import subprocess
 import sys
 import tempfile
 
+from checks.bridges import check
 from checks.captures.writing import VLAN, pcap, pcapng, tcp_packet, udp_packets
 from checks.explain import hostile
 from checks.explain.made import BEGIN, BRIDGE, DESK, GAP, ONE, OPERATOR, OTHER, Made
@@ -65,11 +66,6 @@ FEW = 64
 
 def options(_parser):
     pass
-
-
-def check(holds, text):
-    if not holds:
-        fail(text)
 
 
 def packets_in(octets):

@@ -16,12 +16,12 @@ still told.
 
 import multiprocessing
 import os
-import pathlib
 import socket
 import struct
 import tempfile
 import time
 
+from checks.bridges import accepted, status_of
 from operators.packets import rtp
 from operators.serving import Operator, port_of, settings, started, udp_socket
 from operators.shared import add_program, fail, release_program
@@ -76,9 +76,7 @@ def flood(port, holds, until):
 
 def state_of(bridge):
     """The threads, open files and kB of memory of a bridge."""
-    lines = pathlib.Path(f"/proc/{bridge.pid}/status").read_text().splitlines()
-    status = dict(line.split(":", 1) for line in lines)
-    files = len(os.listdir(f"/proc/{bridge.pid}/fd"))
+    status, files = status_of(bridge), len(os.listdir(f"/proc/{bridge.pid}/fd"))
     return int(status["Threads"]), files, int(status["VmRSS"].split()[0])
 
 
@@ -189,9 +187,7 @@ def check_watch(tcp, operator):
         one.sendall(b"watch\n")
         words = " / ".join(f"add-room 7{room} / remove-room 7{room}" for room in range(10, 42))
         for _ in range(TOLD):
-            told = operator.ask(f"group {words}")
-            if not told.startswith("ok "):
-                fail(f"a group is answered `{told}`")
+            told = accepted(operator, f"group {words}")
         begin, octets = time.monotonic(), b""
         last = f"call {told.split()[1]} ".encode()
         while not any(line.startswith(last) for line in octets[-8_192:].split(b"\n")[:-1]):
@@ -222,17 +218,15 @@ def said_of(operator, ssrc):
 def check_reports(udp, operator):
     """Reports on streams that don't exist."""
     near, far = udp_socket(), udp_socket()
-    for line in (
+    accepted(
+        operator,
         "add-room 1",
         f"add-member 10 1 127.0.0.1:{port_of(near)} pcmu 9001 0 0",
         f"add-member 11 1 127.0.0.1:{port_of(far)} pcmu 9002 0 0",
         "add-source 101 10 video",
         "add-slot 501 11 0 0 0",
         "subscribe 501 101",
-    ):
-        told = operator.ask(line)
-        if not told.startswith("ok "):
-            fail(f"`{line}` is answered `{told}`")
+    )
     at = ("127.0.0.1", udp)
     for number in range(1, 30):
         near.sendto(rtp(number, number * 3000, 101, b"v" * 300, marker=1), at)

@@ -17,7 +17,6 @@ is so.
 
 import contextlib
 import multiprocessing
-import pathlib
 import re
 import selectors
 import socket
@@ -25,6 +24,7 @@ import tempfile
 import threading
 import time
 
+from checks.bridges import status_of
 from checks.filling import fill, full_desk
 from checks.pair import Pair
 from operators.serving import Operator, said_at_the_end, settings, started
@@ -211,7 +211,7 @@ def asked(operator, connection, crowd, thread, accepted):
 
 def resident(bridge):
     """The memory of a bridge in MB."""
-    return int(re.search(r"VmRSS:\s+([0-9]+)", pathlib.Path(f"/proc/{bridge.pid}/status").read_text())[1]) / 1000
+    return int(status_of(bridge)["VmRSS"].split()[0]) / 1000
 
 
 def told_of(name, took, rows, accepted, crowd, heard, sent):

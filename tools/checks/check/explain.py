@@ -22,6 +22,7 @@ import sys
 import tempfile
 import time
 
+from checks.bridges import check
 from checks.camera import asked_numbers
 from checks.captures.recorder import Recorder
 from checks.explain.holding import LATEST, Held
@@ -69,11 +70,6 @@ def options(parser):
     parser.add_argument("--seed", type=int, default=1, help="what is lost and overtaken (%(default)s)")
     parser.add_argument("--keep", metavar="FILE", help="leave the last capture there, or one that is told otherwise")
     add_program(parser)
-
-
-def check(holds, text):
-    if not holds:
-        fail(text)
 
 
 class Member:

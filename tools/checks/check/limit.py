@@ -19,6 +19,7 @@ import tempfile
 import threading
 import time
 
+from checks.bridges import operator_at
 from checks.filling import in_groups
 from operators.packets import rtp
 from operators.serving import LISTENS, Operator, port_of, settings, udp_socket
@@ -51,7 +52,7 @@ class Filler(threading.Thread):
 
     def __init__(self, port, number):
         super().__init__(daemon=True)
-        self.operator = Operator(socket.create_connection(("127.0.0.1", port), timeout=20))
+        self.operator = operator_at(port, 20)
         self.number = number
         self.accepted, self.refused, self.is_closed, self.last = {}, 0, False, None
 
@@ -173,7 +174,7 @@ class Bridge:
         """Whether an operator is answered at all, who is still there or comes anew."""
         came = [filler.operator for filler in fillers if not filler.is_closed]
         with contextlib.suppress(OSError):
-            came.append(Operator(socket.create_connection(("127.0.0.1", self.tcp), timeout=20)))
+            came.append(operator_at(self.tcp, 20))
         for one in came:
             with contextlib.suppress(OSError):
                 if one.ask("add-room 1").startswith(("ok ", "no ")):
@@ -184,7 +185,7 @@ class Bridge:
         """Has it stopped by whoever is there. Its status."""
         came = [filler.operator for filler in fillers if not filler.is_closed]
         with contextlib.suppress(OSError):
-            came.append(Operator(socket.create_connection(("127.0.0.1", self.tcp), timeout=20)))
+            came.append(operator_at(self.tcp, 20))
         for one in came:
             with contextlib.suppress(OSError):
                 one.tell("stop")

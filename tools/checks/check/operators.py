@@ -21,9 +21,10 @@ import tempfile
 import threading
 import time
 
+from checks.bridges import operator_at
 from checks.filling import fill, full_desk
 from checks.pair import Pair
-from operators.serving import Operator, said_at_the_end, settings, started
+from operators.serving import said_at_the_end, settings, started
 from operators.shared import add_program, fail, release_program
 
 NEEDS = "the program, half a minute"
@@ -69,7 +70,7 @@ def call_of(one, last):
 
 def seated(port):
     """An operator who has the lowest free seat."""
-    operator = Operator(socket.create_connection(("127.0.0.1", port), timeout=PATIENCE))
+    operator = operator_at(port, PATIENCE)
     told = operator.ask(REFUSED)
     if not told.startswith("no "):
         fail(f"`{REFUSED}` is answered `{told}`")

@@ -28,6 +28,7 @@ import tempfile
 import time
 import urllib.request
 
+from checks.bridges import check, until
 from checks.captures.writing import pcap
 from checks.confined import directives, filters, lacks, libraries, limit
 from checks.explain.planted import FAULTS, Call
@@ -35,7 +36,7 @@ from checks.make import package
 from checks.package.proved import lack_of_proof
 from operators.packets import is_rtp_of, rtp
 from operators.serving import Operator, said_at_the_end
-from operators.shared import CRATES, add_program, fail
+from operators.shared import CRATES, add_program
 
 NEEDS = "the programs, git, dpkg-deb; root for a root of its own"
 
@@ -59,25 +60,12 @@ def options(parser):
     )
 
 
-def check(holds, text):
-    if not holds:
-        fail(text)
-
-
 def told(name, text):
     print(f"package, {name}: {text}", flush=True)
 
 
 def skipped(name, why):
     print(f"skipped: package, {name}: {why}", flush=True)
-
-
-def until(holds, text):
-    """Waits until something holds."""
-    end = time.monotonic() + PATIENCE
-    while not holds():
-        check(time.monotonic() < end, text)
-        time.sleep(0.05)
 
 
 # The files
@@ -304,7 +292,8 @@ def said_by(one):
 
 def listening(bridge):
     """An operator's connection, once a bridge listens."""
-    until(lambda: "listening" in said_by(bridge) or bridge.poll() is not None, "the bridge doesn't say that it listens")
+    listens = lambda: "listening" in said_by(bridge) or bridge.poll() is not None
+    until(listens, "the bridge doesn't say that it listens", PATIENCE)
     check(bridge.poll() is None, f"the bridge ends with status {bridge.returncode}: {said_by(bridge)}")
     return Operator(socket.create_connection(TCP, PATIENCE))
 
@@ -385,7 +374,7 @@ def check_bridge(root):
     desk = listening(bridge)
     told("start", said_by(bridge).splitlines()[0].removeprefix("confbridge: ").split(", ticks")[0])
     keeper = root.start_unit("confbridge-desk")
-    until(lambda: "nothing to restore" in said_by(keeper), "what keeps the desk doesn't begin")
+    until(lambda: "nothing to restore" in said_by(keeper), "what keeps the desk doesn't begin", PATIENCE)
     check_stats(desk, hold(root, desk))
     rows = desk.shown()[:-1]
     # systemd ends what keeps the desk before the bridge.
@@ -397,7 +386,7 @@ def check_bridge(root):
     told("stop", f"SIGTERM ends it with `{last.splitlines()[-1]}`, and its calls")
     bridge, keeper = root.start_unit("confbridge"), root.start_unit("confbridge-desk")
     desk = listening(bridge)
-    until(lambda: "were accepted" in said_by(keeper), f"the desk isn't restored: {said_by(keeper)}")
+    until(lambda: "were accepted" in said_by(keeper), f"the desk isn't restored: {said_by(keeper)}", PATIENCE)
     kinds = lambda rows: [row.split(" ")[:4] for row in rows]
     check(kinds(desk.shown()[:-1]) == kinds(rows), "the restored desk is another one")
     told("desk", f"the next bridge has its {len(rows)} rows again")
@@ -410,7 +399,7 @@ def check_page(root):
     if not (root.path / "usr/bin/confbridge-page").is_symlink():
         return
     page = root.start_unit("confbridge-page")
-    until(lambda: "http://" in said_by(page), f"the page doesn't listen: {said_by(page)}")
+    until(lambda: "http://" in said_by(page), f"the page doesn't listen: {said_by(page)}", PATIENCE)
     with urllib.request.urlopen(PAGE, timeout=PATIENCE) as answer:
         check(b"<title>" in answer.read(), "the page isn't there")
     page.terminate()
@@ -435,11 +424,12 @@ def check_demo(root):
         skipped("demo", "there is no page")
         return
     demo = root.start(["/usr/bin/confbridge-tools", "demo"])
-    until(lambda: PAGE in said_by(demo) or demo.poll() is not None, f"the demo doesn't begin: {said_by(demo)}")
+    begins = lambda: PAGE in said_by(demo) or demo.poll() is not None
+    until(begins, f"the demo doesn't begin: {said_by(demo)}", PATIENCE)
     check(demo.poll() is None, f"the demo ends with status {demo.returncode}: {said_by(demo)}")
     desk = Operator(socket.create_connection(TCP, PATIENCE))
     heard = lambda: sum(line.startswith("stream ") for line in desk.shown("stats")) >= 2
-    until(heard, "nobody is heard in the demo")
+    until(heard, "nobody is heard in the demo", PATIENCE)
     demo.send_signal(signal.SIGINT)
     check(demo.wait(PATIENCE) == 0, f"the demo ends with status {demo.returncode}: {said_by(demo)}")
     told("demo", "`confbridge-tools demo` holds a call, and Ctrl-C ends it")

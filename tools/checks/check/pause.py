@@ -7,13 +7,13 @@ one to three seconds it is heard later, so that the status is 1 where these are 
 
 import os
 import signal
-import socket
 import tempfile
 
+from checks.bridges import held
 from checks.filling import fill
 from checks.voice import Voice, heard_worse, members
-from operators.serving import Operator, settings, started
-from operators.shared import add_program, fail, release_program
+from operators.serving import settings
+from operators.shared import add_program, release_program
 
 NEEDS = "the program, a minute"
 
@@ -33,10 +33,8 @@ def paused(program, seconds, lanes):
     """What is wrong with what is heard behind a pause of a bridge, and how late it was heard before and is heard
     now."""
     with tempfile.TemporaryDirectory() as folder:
-        bridge, udp, tcp = started(program, settings(folder, lanes=lanes))
-        voice = Voice(udp)
-        with socket.create_connection(("127.0.0.1", tcp), timeout=20) as connection:
-            operator = Operator(connection)
+        with held(program, settings(folder, lanes=lanes)) as (bridge, udp, operator):
+            voice = Voice(udp)
             fill(operator, members([voice.speaker, voice.listener]))
             voice.talk(1)
             before = voice.delays(voice.talk(LOOKED_AT))
@@ -45,9 +43,6 @@ def paused(program, seconds, lanes):
             os.kill(bridge.pid, signal.SIGCONT)
             voice.talk(RECOVERY)
             behind = voice.delays(voice.talk(LOOKED_AT))
-            operator.tell("stop")
-        if bridge.wait(10):
-            fail(f"the bridge ended with status {bridge.returncode}")
     return heard_worse(before, behind, LOOKED_AT), before, behind
 
 

@@ -27,16 +27,16 @@ one on again.
 import collections
 import copy
 import re
-import socket
 import subprocess
 import tempfile
 import time
 from concurrent.futures import ThreadPoolExecutor
 
-from checks.refusing import ANY, PATIENCE, Heap, check, is_asleep, is_started, library, own_threads, threads, until
+from checks.bridges import check, operator_at, until
+from checks.refusing import ANY, PATIENCE, Heap, is_asleep, is_started, library, own_threads, threads
 from checks.steps import STEPS, Call
 from operators.models.desk import Log
-from operators.serving import LISTENS, Operator, said_at_the_end, settings, started
+from operators.serving import LISTENS, said_at_the_end, settings, started
 from operators.shared import add_program, fail, release_program
 
 NEEDS = "the program, `cc`, two minutes"
@@ -175,7 +175,7 @@ class Desk:
         self.watcher, _ = self.seated()
 
     def connected(self):
-        return Operator(socket.create_connection(("127.0.0.1", self.port), timeout=PATIENCE))
+        return operator_at(self.port, PATIENCE)
 
     def seated(self):
         """An operator, and the thread of the bridge that answers it."""
@@ -449,7 +449,7 @@ def try_start(bridges, nth):
     def is_served():
         listens = LISTENS.fullmatch(bridge.stderr.readline())
         check(listens, f"{what}: none is refused, and the bridge doesn't say where it listens")
-        stopped(bridge, Operator(socket.create_connection(("127.0.0.1", int(listens[2])), timeout=PATIENCE)))
+        stopped(bridge, operator_at(int(listens[2]), PATIENCE))
 
     return came_of(
         bridge, heap, what, {2: OUT_OF_MEMORY, 3: FAILED}, lambda: is_started(bridge, bridges.lanes), is_served
@@ -473,7 +473,7 @@ def try_end(bridges, nth):
     heap, what = bridges.heap(), f"request {nth} of the end"
     bridge, _, port = started(bridges.program, bridges.path, environment=heap.environment)
     front = own_threads(bridge, bridges.lanes)["front"]
-    operator = Operator(socket.create_connection(("127.0.0.1", port), timeout=PATIENCE))
+    operator = operator_at(port, PATIENCE)
     check(operator.ask("add-room 1") == "ok 1", "`add-room 1` isn't accepted")
     heap.refuse(front, nth)
     operator.tell("stop")

@@ -14,9 +14,10 @@ import subprocess
 import tempfile
 import time
 
+from checks.bridges import check
 from checks.scripted import check_script
 from operators.serving import LISTENS, Operator, said_at_the_end, udp_socket
-from operators.shared import add_program, fail, release_program
+from operators.shared import add_program, release_program
 
 NEEDS = "the program, a minute"
 
@@ -85,11 +86,6 @@ LEFT_OUT = re.compile(r"confbridge: ([0-9]+) events left out")
 
 def options(parser):
     add_program(parser)
-
-
-def check(holds, text):
-    if not holds:
-        fail(text)
 
 
 def ended(program, words):

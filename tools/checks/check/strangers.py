@@ -10,7 +10,8 @@ import random
 import tempfile
 import time
 
-from checks.check.call import PATIENCE, SETUP, Call, check, check_mixes, connected, counted, has_more, start
+from checks.bridges import check
+from checks.check.call import PATIENCE, SETUP, Call, check_mixes, connected, counted, has_more, start
 from operators.packets import has_no_gap, rtp
 from operators.serving import port_of, udp_socket
 from operators.shared import add_program_or_build

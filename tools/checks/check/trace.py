@@ -20,7 +20,8 @@ import socket
 import tempfile
 import time
 
-from checks.traced_call import PATIENCE, Bridge, Call, Desk, check
+from checks.bridges import accepted, check
+from checks.traced_call import PATIENCE, Bridge, Call, Desk
 from checks.traces import Reader, is_control, scripts, sent_by_front, sent_by_lane, stream_in
 from operators.serving import free_port
 from operators.shared import add_program_or_build, found_program
@@ -126,8 +127,7 @@ def held(args, lanes, port):
         bridge = Bridge(args, folder, lanes, port)
         try:
             operator, call = bridge.operator(), Call(random.Random(args.seed), bridge)
-            for line in call.setup():
-                check(operator.ask(line).startswith("ok "), f"`{line}` is refused")
+            accepted(operator, *call.setup())
             yield bridge, operator, call
         finally:
             bridge.process.kill()
@@ -144,8 +144,7 @@ def check_call(args, lanes):
         desk.goes_on = False
         desk.join()
         # Without rows nobody is sent anything, so that the trace ends behind the last datagram.
-        answer = operator.ask("remove-room 1")
-        check(answer.startswith("ok "), f"`remove-room 1` is answered `{answer}`")
+        accepted(operator, "remove-room 1")
         quiet(call)
         check_streams_told(call, operator.shown("stats"))
         bridge.stop(operator)

@@ -26,7 +26,8 @@ import subprocess
 import tempfile
 import time
 
-from checks.refusing import ANY, PATIENCE, Heap, check, library, until
+from checks.bridges import check, until
+from checks.refusing import ANY, PATIENCE, Heap, library
 from checks.steps import Call
 from checks.unready import MOST_TRIES, UNREADY, Sent, Wire
 from operators.serving import settings

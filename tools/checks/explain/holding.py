@@ -5,13 +5,13 @@ import pathlib
 import socket
 import time
 
+from checks.bridges import accepted
 from checks.captures.recorder import Recorder
 from checks.explain.made import OTHER, STRANGER
 from checks.explain.planted import FAULTS, NEW, SAID, TICKS, wanted, whole
 from operators.demo import picture, tone
 from operators.packets import number, rtp
 from operators.serving import Operator, port_of, settings, started, udp_socket
-from operators.shared import fail
 
 EACH = 0.02
 # `show` is asked for at each of so many ticks.
@@ -86,8 +86,7 @@ class Held:
         recorder.begin()
         with socket.create_connection(("127.0.0.1", tcp), timeout=60) as connection:
             self.operator = Operator(connection)
-            for line in self.setup():
-                self.say(line)
+            accepted(self.operator, *self.setup())
             self.rows, self.known = "\n".join(self.operator.shown()), time.time_ns()
             self.hold(("127.0.0.1", udp))
             time.sleep(0.2)
@@ -104,11 +103,6 @@ class Held:
             yield f"add-source {member.ssrc} {member.number} audio"
         yield from ("add-slot 501 11 0 0 0", "give-floor 1 10")
 
-    def say(self, line):
-        said = self.operator.ask(line)
-        if not said.startswith("ok "):
-            fail(f"`{line}` is answered `{said}`")
-
     def hold(self, to):
         begun = time.monotonic() + EACH
         for tick in range(TICKS):
@@ -118,8 +112,7 @@ class Held:
             due += [(0, self.one, octets) for octets in payloads]
             for member in self.members:
                 due += member.packets(tick)
-                for line in member.says(tick):
-                    self.say(line)
+                accepted(self.operator, *member.says(tick))
             if tick % SHOWN == SHOWN // 2:
                 self.operator.shown()
             for after, sender, octets in sorted(due, key=lambda one: one[0]):

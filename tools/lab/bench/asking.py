@@ -8,13 +8,13 @@ The difference is that of the answers. It is told for one answer, and for so man
 
 import pathlib
 import re
-import socket
 import tempfile
-import threading
 import time
 
+from checks.bridges import accepted, held
+from lab.bench.room import Members, lines
 from operators.packets import rtp
-from operators.serving import Operator, port_of, settings, started, udp_socket
+from operators.serving import settings, udp_socket
 from operators.shared import add_program, fail, release_program
 
 NEEDS = "the program, valgrind, two minutes"
@@ -23,7 +23,7 @@ NEEDS = "the program, valgrind, two minutes"
 PATIENCE = 120
 # How often an operator asks, by whom the goal is stated.
 STATED = 10
-VIDEO, AUDIO = 100, 1_000
+VIDEO = 100
 
 
 def options(parser):
@@ -34,31 +34,17 @@ def options(parser):
     add_program(parser)
 
 
-class Members(threading.Thread):
-    """All members, who send a packet of sound every 20 ms; the first one a frame of one packet, too."""
+class Room(Members):
+    """The members, of whom the first one sends a frame of one packet, too."""
 
-    def __init__(self, port, sockets):
-        super().__init__(daemon=True)
-        self.to, self.sockets = ("127.0.0.1", port), sockets
-        self.is_done = threading.Event()
-
-    def run(self):
-        at, due = 0, time.monotonic()
-        while not self.is_done.is_set():
-            for number, one in enumerate(self.sockets):
-                one.sendto(rtp(at, 160 * at, AUDIO + number, bytes([0x90]) * 160, pt=0), self.to)
-            self.sockets[0].sendto(rtp(at, 1800 * at, VIDEO, bytes(1_000), marker=1), self.to)
-            at += 1
-            due += 0.02
-            time.sleep(max(0, due - time.monotonic()))
+    def send(self, at):
+        super().send(at)
+        self.sockets[0].sendto(rtp(at, 1800 * at, VIDEO, bytes(1_000), marker=1), self.to)
 
 
-def lines(sockets):
-    """The calls that make the room."""
-    yield "add-room 1"
-    for number, one in enumerate(sockets):
-        yield f"add-member {number} 1 127.0.0.1:{port_of(one)} pcmu {5_000 + number} 0 0"
-        yield f"add-source {AUDIO + number} {number} audio"
+def desk(sockets):
+    """The calls that make the room, in which all others see the first one."""
+    yield from lines(sockets)
     yield f"add-source {VIDEO} 0 video"
     for number in range(1, len(sockets)):
         yield f"add-slot {7_000 + number} {number} 0 0 0"
@@ -99,20 +85,11 @@ def measured(program, args, rate, more=""):
         tool = ["valgrind", "--tool=callgrind", "--separate-threads=yes", f"--callgrind-out-file={folder}/counted"]
         path = settings(folder, lanes=args.lanes)
         path.write_text(path.read_text() + more)
-        bridge, udp, tcp = started(program, path, under=[*tool, "--quiet"])
-        with socket.create_connection(("127.0.0.1", tcp)) as connection:
-            operator = Operator(connection)
-            for line in lines(sockets):
-                if not operator.ask(line).startswith("ok "):
-                    fail(f"{line} isn't accepted")
-            members = Members(udp, sockets)
-            members.start()
+        with held(program, path, [*tool, "--quiet"], PATIENCE) as (_, udp, operator):
+            accepted(operator, *desk(sockets))
+            members = Room(udp, sockets, lambda number: 0x90)
             asked = ask(operator, args.seconds, rate)
-            members.is_done.set()
-            members.join()
-            operator.tell("stop")
-            if bridge.wait(PATIENCE):
-                fail(f"the bridge ended with status {bridge.returncode}")
+            members.end()
         return counted(folder), asked
 
 

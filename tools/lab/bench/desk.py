@@ -12,14 +12,11 @@ undos, on the desk that isn't short, in one run of one program. For a group it a
 commands one by one, as a difference and as a ratio: with two commands or more it is above all the copy of the rows.
 """
 
-import pathlib
-import re
-import subprocess
 import tempfile
-import threading
 
 from checks.filling import add_member, full_desk, in_groups
-from operators.shared import add_measuring, add_program, fail, instructions, processor_time, release_program
+from lab.bench.calls import Replay
+from operators.shared import add_measuring, add_program, instructions, processor_time, release_program
 
 NEEDS = "the program, minutes; valgrind to count instructions"
 
@@ -131,55 +128,6 @@ def time_rows(args, program):
 # Groups
 
 
-class Counted:
-    """A program under callgrind that counts what comes after its first lines."""
-
-    def __init__(self, program, first):
-        self.folder, self.dumps = tempfile.TemporaryDirectory(), 0
-        counting = [
-            "valgrind",
-            "--tool=callgrind",
-            "--instr-atstart=no",
-            f"--callgrind-out-file={self.folder.name}/out",
-            program,
-            "replay",
-        ]
-        self.run = subprocess.Popen(counting, stdin=subprocess.PIPE, stdout=subprocess.PIPE, stderr=subprocess.DEVNULL)
-        self.answers(first)
-        self.control("-i", "on")
-
-    def control(self, *words):
-        command = ["callgrind_control", *words, str(self.run.pid)]
-        subprocess.run(command, check=True, stdout=subprocess.DEVNULL, stderr=subprocess.DEVNULL)
-
-    def answers(self, lines):
-        """The answers to lines, one each."""
-
-        def give():
-            self.run.stdin.write("".join(f"desk 0 {line}\n" for line in lines).encode())
-            self.run.stdin.flush()
-
-        giving = threading.Thread(target=give)
-        giving.start()
-        answers = [self.run.stdout.readline() for _ in lines]
-        giving.join()
-        return answers
-
-    def instructions(self, lines):
-        """The instructions that the lines take, none of which may be refused."""
-        for line, answer in zip(lines, self.answers(lines)):
-            if not answer.startswith(b"ok "):
-                fail(f"{line}: {answer.decode()}")
-        self.control("-d")
-        self.dumps += 1
-        text = pathlib.Path(f"{self.folder.name}/out.{self.dumps}").read_text()
-        return int(re.search(r"^(?:totals|summary): (\d+)", text, re.M)[1])
-
-    def end(self):
-        self.run.communicate()
-        self.folder.cleanup()
-
-
 def commands_for_groups():
     """Names with commands, each of which is accepted on the full desk as those before it left it."""
     slots, members = range(300000, 300064), range(500, 532)
@@ -198,14 +146,15 @@ def commands_for_groups():
 def count_groups(program, sizes, only):
     """Prints the instructions of commands one by one, and in groups of each size."""
     first = list(full_desk(64))
-    counted, version = Counted(program, first), len(first)
+    meter, version = Replay(program, True), len(first)
+    meter.answers(first)
 
     def costs(calls):
         """The instructions of a call, and of its undo."""
         nonlocal version
-        does = counted.instructions(calls) / len(calls)
+        does, _ = meter.cost(calls, "ok")
         version += len(calls)
-        undoes = counted.instructions([f"undo {version + at}" for at in range(len(calls))]) / len(calls)
+        undoes, _ = meter.cost([f"undo {version + at}" for at in range(len(calls))], "ok")
         version += len(calls)
         return does, undoes
 
@@ -220,7 +169,7 @@ def count_groups(program, sizes, only):
                     for cost, one in zip(took, alone)
                 ]
                 print(f"{name}, in groups of {size}: {told[0]} a group, {told[1]} its undo", flush=True)
-    counted.end()
+    meter.end()
 
 
 def run(args):

@@ -5,13 +5,13 @@ the same for its undo. The status is 0 where the 99th percentile of each is at m
 """
 
 import select
-import socket
 import tempfile
-import threading
 import time
 
-from operators.packets import is_rtp_of, payload_of, rtp
-from operators.serving import Operator, port_of, settings, started, udp_socket
+from checks.bridges import accepted, held
+from lab.bench.room import MIX, SOUND, Members, lines
+from operators.packets import is_rtp_of, payload_of
+from operators.serving import settings, udp_socket
 from operators.shared import add_program, fail, release_program
 
 NEEDS = "the program, a minute"
@@ -26,26 +26,6 @@ def options(parser):
     parser.add_argument("--mutes", type=int, default=300, help="how many mutes and undos are measured (%(default)s)")
     parser.add_argument("--lanes", type=int, default=1, help="how many lanes the bridge has (%(default)s)")
     add_program(parser)
-
-
-class Speakers(threading.Thread):
-    """All members, who send a packet every 20 ms: the first one is loud, the others are silent. What comes to all but
-    the listener is let go."""
-
-    def __init__(self, port, sockets):
-        super().__init__(daemon=True)
-        self.to, self.sockets = ("127.0.0.1", port), sockets
-        self.is_done = threading.Event()
-
-    def run(self):
-        at, due = 0, time.monotonic()
-        while not self.is_done.is_set():
-            for number, one in enumerate(self.sockets):
-                sample = SILENT if number else LOUD
-                one.sendto(rtp(at, 160 * at, 1000 + number, bytes([sample]) * 160, pt=0), self.to)
-            at += 1
-            due += 0.02
-            time.sleep(max(0, due - time.monotonic()))
 
 
 def wait_for(listener, ssrc, is_heard):
@@ -88,31 +68,20 @@ def run(args):
     program = release_program(args.binary)
     sockets = [udp_socket() for _ in range(MEMBERS)]
     with tempfile.TemporaryDirectory() as folder:
-        bridge, udp, tcp = started(program, settings(folder, lanes=args.lanes))
-        with socket.create_connection(("127.0.0.1", tcp)) as connection:
-            operator = Operator(connection)
-            lines = ["add-room 1"]
-            for number, one in enumerate(sockets):
-                lines.append(f"add-member {number} 1 127.0.0.1:{port_of(one)} pcmu {5000 + number} 0 0")
-                lines.append(f"add-source {1000 + number} {number} audio")
-            for line in lines:
-                if not operator.ask(line).startswith("ok "):
-                    fail(f"{line} isn't accepted")
-            speakers = Speakers(udp, sockets)
-            speakers.start()
+        with held(program, settings(folder, lanes=args.lanes)) as (_, udp, operator):
+            accepted(operator, *lines(sockets))
+            # The first one is loud, the others are silent. What comes to all but the listener is let go.
+            members = Members(udp, sockets, lambda number: SILENT if number else LOUD)
             time.sleep(1)
-            listener, ssrc = sockets[1], 5001
+            listener, ssrc = sockets[1], MIX + 1
             mutes, undos = [], []
             for number in range(args.mutes):
-                took, version = measured(operator, listener, ssrc, "mute 1000", False)
+                took, version = measured(operator, listener, ssrc, f"mute {SOUND}", False)
                 mutes.append(took)
                 # The moments of calls have all distances to those of ticks.
                 time.sleep(0.05 + number % 20 / 1000)
                 took, _ = measured(operator, listener, ssrc, f"undo {version}", True)
                 undos.append(took)
                 time.sleep(0.05 + number % 19 / 1000)
-            speakers.is_done.set()
-            operator.tell("stop")
-        if bridge.wait(10):
-            fail(f"the bridge ended with status {bridge.returncode}")
+            members.end()
     return 0 if told("mute", mutes) & told("undo", undos) else 1

@@ -5,11 +5,11 @@ bridge. Their memory is the sum of their proportional set sizes: what the system
 time is that of all their threads, as a share of one core. A count for which the machine has no memory is skipped.
 """
 
-import os
 import pathlib
 import tempfile
 import time
 
+from checks.bridges import seconds_of
 from operators.serving import settings, started
 from operators.shared import add_program, release_program
 
@@ -32,12 +32,6 @@ def kilobytes(path, key):
     """A line such as `Pss: 12 kB` of a file of the system."""
     line = next(one for one in pathlib.Path(path).read_text().splitlines() if one.startswith(f"{key}:"))
     return int(line.split()[1])
-
-
-def seconds_of(bridge):
-    """The processor's time that a bridge has taken."""
-    words = pathlib.Path(f"/proc/{bridge.pid}/stat").read_text().rpartition(")")[2].split()
-    return (int(words[11]) + int(words[12])) / os.sysconf("SC_CLK_TCK")
 
 
 def measure(program, count, lanes, seconds):

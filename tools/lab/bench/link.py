@@ -16,6 +16,7 @@ import subprocess
 import tempfile
 import time
 
+from checks.bridges import accepted
 from operators.packets import payload_of, rtp, ssrc_of
 from operators.serving import Operator, port_of
 from operators.shared import fail
@@ -95,24 +96,20 @@ class Fan:
         addresses = (word.strip(",").partition(":") for word in words if ":" in word[:-1])
         self.udp, tcp = ((host, int(port)) for host, _, port in addresses)
         self.operator, self.seq, self.ts = Operator(socket.create_connection(tcp, timeout=PATIENCE)), 0, 0
-        self.ask(
+        accepted(
+            self.operator,
             "add-room 1",
             f"add-member 100 1 {THERE}:{port_of(self.source)} pcmu 9000 0 0",
             f"add-source {VIDEO} 100 video",
         )
         for at, one in enumerate(self.receivers):
             number = 101 + at
-            self.ask(
+            accepted(
+                self.operator,
                 f"add-member {number} 1 {THERE}:{port_of(one)} pcmu {9001 + at} 0 0",
                 f"add-slot {501 + at} {number} 0 0 0",
+                f"subscribe {501 + at} {VIDEO}",
             )
-            self.ask(f"subscribe {501 + at} {VIDEO}")
-
-    def ask(self, *lines):
-        for line in lines:
-            answer = self.operator.ask(line)
-            if not answer.startswith("ok "):
-                fail(f"`{line}` is answered `{answer}`")
 
     def take(self):
         """How many packets of the video have come to each receiver since the last time, with payloads of a frame's

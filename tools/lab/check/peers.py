@@ -21,10 +21,11 @@ import tempfile
 import threading
 import time
 
+from checks.bridges import operator_at
 from checks.sound import amplitude, strength
 from operators.models.mix import samples_of
 from operators.packets import has_no_gap, is_rtcp, is_rtp_of, nack, number, payload_of, rtp, seq_of, ssrc_of
-from operators.serving import Operator, port_of, settings, started, udp_socket
+from operators.serving import port_of, settings, started, udp_socket
 from operators.shared import add_program, fail, release_program
 
 NEEDS = "the program, GStreamer, ffmpeg, tshark, leave to capture on `lo`"
@@ -331,7 +332,7 @@ class Call:
 
     def __init__(self, check, folder, udp, tcp):
         self.check, self.folder, self.udp, self.running = check, folder, udp, []
-        self.desk = Operator(socket.create_connection(("127.0.0.1", tcp), timeout=10))
+        self.desk = operator_at(tcp, 10)
         self.p, self.q, self.r, *self.players = (Relay(("127.0.0.1", udp)) for _ in range(6))
         self.heard, self.heard_by_ffmpeg, self.seen = folder / "heard.wav", folder / "heard.raw", folder / "seen.raw"
 

@@ -27,8 +27,9 @@ import sys
 import tempfile
 import time
 
+from checks.bridges import seconds_of
 from lab.check.peers import Checks
-from lab.fleet_call.machines import READS, Clock, Joining, Machine, Observer, Way, processor_time, stays, twice
+from lab.fleet_call.machines import READS, Clock, Joining, Machine, Observer, Way, stays, twice
 from lab.fleet_call.parts import FLEET, LEASE, USER, EtcdPart
 
 NEEDS = "etcd; at its full size ten minutes a case on a machine with little other work, an hour on one with much"
@@ -133,16 +134,16 @@ class Size:
 
     def floor_of(self, count):
         """The processor time of a single put, of who asks and of etcd."""
-        before = processor_time(self.etcd.process)
+        before = seconds_of(self.etcd.process)
         words = [sys.executable, "-B", "-c", PUTTING, FLEET.parent, FLEET.parents[1] / "gateway", self.etcd.url, *USER]
         done = subprocess.run([*words, str(count)], capture_output=True, text=True, check=True)
         own = sum(map(float, done.stdout.split()))
-        return (own + processor_time(self.etcd.process) - before) / count
+        return (own + seconds_of(self.etcd.process) - before) / count
 
     def processors(self):
         return {
-            "agents": sum(processor_time(one.agent) for one in self.machines if self.runs(one)),
-            "etcd": processor_time(self.etcd.process),
+            "agents": sum(seconds_of(one.agent) for one in self.machines if self.runs(one)),
+            "etcd": seconds_of(self.etcd.process),
         }
 
     def looks(self):

@@ -27,13 +27,6 @@ from copied import Copy  # noqa: E402
 MODELS = ROOT / "tools/lab/models"
 # How many seconds it may take to know all anew; and how many octets of an answer are read.
 READS, MOST_OCTETS = 300, 10_000_000
-TICKS = os.sysconf("SC_CLK_TCK")
-
-
-def processor_time(process):
-    """The seconds of processor time that a process has taken, in all its threads."""
-    words = pathlib.Path(f"/proc/{process.pid}/stat").read_text().rpartition(")")[2].split()
-    return (int(words[11]) + int(words[12])) / TICKS
 
 
 def asked_for(process):

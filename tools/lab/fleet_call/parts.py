@@ -13,7 +13,8 @@ import time
 import urllib.error
 import urllib.request
 
-from operators.serving import Operator, free_port, started
+from checks.bridges import accepted, operator_at
+from operators.serving import free_port, started
 from operators.shared import ROOT, fail
 
 for one in "fleet", "gateway":
@@ -99,7 +100,7 @@ class BridgePart:
         self.operator.show()
 
     def seated(self):
-        return Operator(socket.create_connection(("127.0.0.1", self.tcp), timeout=300))
+        return operator_at(self.tcp, 300)
 
     def is_up(self):
         return self.process.poll() is None
@@ -114,9 +115,7 @@ class BridgePart:
 
     def do(self, line):
         """A call that has to be accepted."""
-        said = self.operator.ask(line)
-        if not said.startswith("ok "):
-            fail(f"{line}: {said}")
+        accepted(self.operator, line)
 
     def close(self):
         ended(self.process)

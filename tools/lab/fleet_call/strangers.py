@@ -3,11 +3,11 @@
 import base64
 import itertools
 import json
-import pathlib
 import socket
 import time
 import urllib.request
 
+from checks.bridges import status_of
 from lab.fleet_call.parts import ROOMS_OF_SOURCE, SECRET, USER, Store, signature, signed, until
 
 # How many strangers ask, and the first of the rooms that they ask for.
@@ -190,7 +190,6 @@ class Strangers:
     def step_halves(self):
         """Connections that say half a request."""
         agent = self.agents["c"]
-        status = pathlib.Path(f"/proc/{agent.process.pid}/status")
         halves = []
         for _ in range(HALVES):
             one = socket.create_connection(("127.0.0.1", agent.port), 20)
@@ -198,7 +197,7 @@ class Strangers:
             halves.append(one)
         begun = time.monotonic()
         said, took = agent.ask(""), time.monotonic() - begun
-        threads = int(next(line.split()[1] for line in status.read_text().splitlines() if line.startswith("Threads:")))
+        threads = int(status_of(agent.process)["Threads"])
         self.check(said[0] == 200, f"an honest question beside {HALVES} halves of requests, {took:.2f} s", said)
         self.check(threads <= THREADS, f"the agent has {threads} threads", threads)
         ended = until(lambda: all(map(has_ended, halves)), 30)

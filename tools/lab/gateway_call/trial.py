@@ -1,16 +1,16 @@
 """A bridge with an operator, the parts of the gateway, and callers."""
 
 import shutil
-import socket
 import sys
 import time
 
+from checks.bridges import accepted, operator_at
 from lab.gateway_call.callers import BrowserCaller
 from lab.gateway_call.parts import Parts, until
 from lab.sip import kamailio_lacks
 from lab.waits import within
-from operators.serving import Operator, settings, started
-from operators.shared import ROOT, fail, release_program
+from operators.serving import settings, started
+from operators.shared import ROOT, release_program
 
 # The callers that are browsers.
 BROWSERS = "ABCF"
@@ -65,7 +65,7 @@ class Trial:
         self.start_bridge()
 
     def seated(self):
-        return Operator(socket.create_connection(("127.0.0.1", self.tcp), timeout=30))
+        return operator_at(self.tcp, 30)
 
     def rows(self):
         return self.operator.show()[0]
@@ -80,10 +80,7 @@ class Trial:
 
     def do(self, line):
         """The number of a call that has to be accepted."""
-        said = self.operator.ask(line)
-        if not said.startswith("ok "):
-            fail(f"{line}: {said}")
-        return said.split()[1]
+        return accepted(self.operator, line).split()[1]
 
     def undo(self, number):
         return self.do(f"undo {number}")
