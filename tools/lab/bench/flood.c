@@ -321,31 +321,13 @@ static void hear(void)
         flood_hears(strangers[i]);
 }
 
-static long dropped(void)
-{
-    char text[512];
-    long found = -1, drops;
-    unsigned port;
-    FILE *file = fopen("/proc/net/udp", "r");
-    while (file && fgets(text, sizeof text, file))
-        if (sscanf(text, " %*d: %*x:%x %*x:%*x %*x %*x:%*x %*s %*s %*s %*s %*s %*s %*s %ld", &port, &drops) == 2 &&
-            port == ntohs(udp.sin_port))
-            found = drops;
-    if (file)
-        fclose(file);
-    return found;
-}
-
 static void member(int number, const struct sockaddr_in *at)
 {
-    char line[200];
-    snprintf(line, sizeof line, "add-member %d 1 127.0.0.1:%d pcmu %d 0 0", number, ntohs(at->sin_port), 9000 + number);
-    accepted(line);
+    call("add-member %d 1 127.0.0.1:%d pcmu %d 0 0", number, ntohs(at->sin_port), 9000 + number);
 }
 
 static void set_call(int with_open)
 {
-    char line[64];
     desk = connected();
     accepted("add-room 1");
     member(10, &speaker_at);
@@ -360,10 +342,8 @@ static void set_call(int with_open)
     accepted("subscribe 501 101");
     accepted("add-slot 502 12 0 0 0");
     accepted("subscribe 502 101");
-    for (int i = 0; with_open && i < OPEN; i++) {
-        snprintf(line, sizeof line, "add-source %d 12 video", 100000 + i);
-        accepted(line);
-    }
+    for (int i = 0; with_open && i < OPEN; i++)
+        call("add-source %d 12 video", 100000 + i);
 }
 
 static int by_size(const void *a, const void *b)
@@ -404,7 +384,8 @@ static int held(double seconds)
             early = early ? early : now;
             printf("after %.0f s: VmRSS %ld kB, processor %.2f s, the last mix %.1f ms late, %ld datagrams of the "
                    "flood, %ld lost before the bridge\n",
-                   minute - begun, now, processor(server, 0), late_now(), shared->datagrams, dropped());
+                   minute - begun, now, processor(server, 0), late_now(), shared->datagrams,
+                   lost_at(&udp, 1));
             fflush(stdout);
         }
     }

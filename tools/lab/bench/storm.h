@@ -173,14 +173,11 @@ static void storm_lines(long count)
 /* All rooms are removed, and a call is held anew. */
 static void call_after(void)
 {
-    char line[64];
     static char rows[1 << 20];
     strcpy(rows, ask("show"));
     for (char *at = rows; at; at = (at = strchr(at, '\n')) ? at + 1 : 0)
-        if (!strncmp(at, "room ", 5)) {
-            snprintf(line, sizeof line, "remove-room %u", (unsigned)strtoul(at + 5, 0, 10));
-            accepted(line);
-        }
+        if (!strncmp(at, "room ", 5))
+            call("remove-room %u", (unsigned)strtoul(at + 5, 0, 10));
     close(desk);
     members();
     set_desk(1, 1);
