@@ -49,6 +49,7 @@ from operators.explain.findings import KINDS, OTHERS, STRANGERS
 from operators.explain.given import given_by
 from operators.explain.operators import calls_of
 from operators.explain.pieces import Pieces, Source
+from operators.explain.scripted import explain_script
 from operators.explain.telling import MOST_STRANGERS, Telling, telling
 from operators.explain.wire import wire_of
 from operators.packets import number
@@ -216,12 +217,19 @@ def found_in(octets, **named):
     return (Telling(it, None, ALL).found() if it.run else []), it
 
 
+def found_by_script(it):
+    """What stands out of the script of a capture that is explained, without the capture."""
+    return Telling(explain_script("".join(f"{line}\n" for line in it.run.script())), None, ALL).found()
+
+
 def check_planted():
-    """Each planted fault is told, and nothing else but what follows from it."""
+    """Each planted fault is told, and nothing else but what follows from it. By its script alone a capture tells the
+    same, but for what its wire says."""
     for name, (how, fault, words) in (FAULTS | SAID).items():
         call = Call(says=how) if name in SAID else Call(how)
-        found, _ = found_in(written(call.packets))
-        differ = wrong(found, {fault, *FOLLOWS.get(fault, ())}, {fault})
+        found, it = found_in(written(call.packets))
+        may = {fault, *FOLLOWS.get(fault, ())}
+        differ = wrong(found, may, {fault}) + wrong(found_by_script(it), may, {fault} - {("overrun", None)})
         if not any(words in one.text for one in found):
             differ.append(f"no sentence has: {words}")
         check(not differ, f"a call with {name}:\n" + "\n".join(differ + [one.text for one in found]))

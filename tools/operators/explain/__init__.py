@@ -8,6 +8,9 @@ the bridge and the lines of its operators:
 From these it makes a script for `confbridge replay`, and answers it by the models in tools/operators/models, which
 answer as the program does. A capture that begins in mid-call needs the desk: a `show` while it was made, or --desk. The
 status is 1 where a media packet differs from the model's, and 2 where nothing can be read.
+
+CAPTURE may also be such a script, or the text of a bridge's trace. Then no capture is read, and what the models send
+counts as sent, so that nothing is compared.
 """
 
 import argparse
@@ -20,6 +23,7 @@ from operators.captures.notes import BadCapture
 from operators.explain.explaining import explain_wire
 from operators.explain.given import given_by
 from operators.explain.pieces import LONG, MANY, USUAL, Pieces, Source
+from operators.explain.scripted import explain_script, is_script
 from operators.explain.telling import Telling, moment_text, telling
 from operators.printing import printable
 from operators.shared import first_difference, replay
@@ -27,6 +31,8 @@ from operators.shared import first_difference, replay
 NEEDS = "nothing"
 
 COLUMNS = 118
+# By so many octets a script is told from a capture.
+BEGINNING = 16
 
 
 def piece(text):
@@ -149,10 +155,13 @@ def run(args):
     try:
         given = given_by(pathlib.Path(args.desk).read_text(errors="replace")) if args.desk else None
         with opened(args.capture) as stream:
-            source = Source(stream)
-            if is_long(args, source):
-                return tell_pieces(args, source, given)
-            it = explain_wire(source.whole().wire(args.udp, args.tcp), given)
+            if is_script(stream.peek(BEGINNING)):
+                it = explain_script(stream.read().decode("latin-1"))
+            else:
+                source = Source(stream)
+                if is_long(args, source):
+                    return tell_pieces(args, source, given)
+                it = explain_wire(source.whole().wire(args.udp, args.tcp), given)
     except (BadCapture, OSError) as why:
         print(f"tools/bridge explain: {args.capture}: {why}", file=sys.stderr)
         return 2

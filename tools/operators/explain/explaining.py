@@ -22,7 +22,8 @@ LATE, MOST_LATE = 2, 250
 @dataclasses.dataclass
 class Explained:
     """A capture, the calls of its operators, and the run of the model over it, or None where the desk is unknown. From
-    the moment `begin` on the desk is known. `search` looked for the order of what happened."""
+    the moment `begin` on the desk is known. `search` looked for the order of what happened, but of a script, which says
+    it."""
 
     wire: object
     calls: list

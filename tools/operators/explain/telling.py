@@ -70,6 +70,8 @@ class Telling:
         yield from self.of_receivers()
         if self.it.run:
             yield from self.calls()
+        # Of a script the order of what happened is known, and nothing is compared.
+        if self.it.search:
             yield from self.differences()
 
     def head(self, name):
