@@ -1,11 +1,10 @@
 """Two members of a bridge who talk with each other, and what each hears."""
 
-import contextlib
 import threading
 import time
 
 from operators.packets import has_no_gap, is_rtp_of, rtp
-from operators.serving import port_of, udp_socket
+from operators.serving import come_to, port_of, udp_socket
 
 ROOM = 60
 
@@ -41,9 +40,7 @@ class Pair(threading.Thread):
                 at += 1
             for number, one in enumerate(self.sockets):
                 one.setblocking(False)
-                with contextlib.suppress(BlockingIOError):
-                    while True:
-                        self.heard[number].append(one.recv(65536))
+                self.heard[number] += come_to(one)
         self.sent = at
 
     def wait_until_heard(self):

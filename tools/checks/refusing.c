@@ -6,14 +6,12 @@
  */
 #define _GNU_SOURCE
 #include <errno.h>
-#include <fcntl.h>
 #include <stdatomic.h>
 #include <stddef.h>
 #include <stdint.h>
-#include <stdlib.h>
-#include <sys/mman.h>
 #include <sys/syscall.h>
-#include <unistd.h>
+
+#include "control.h"
 
 enum { ANY = 0, NONE = -1, SIZES = 4096 };
 
@@ -34,13 +32,7 @@ static struct control *control;
 
 __attribute__((constructor)) static void map_control(void)
 {
-    const char *path = getenv("CONFBRIDGE_REFUSED");
-    int file = path ? open(path, O_RDWR) : -1;
-    void *mapped = file < 0 ? MAP_FAILED : mmap(0, sizeof *control, PROT_READ | PROT_WRITE, MAP_SHARED, file, 0);
-    if (mapped == MAP_FAILED)
-        _exit(127);
-    close(file);
-    control = mapped;
+    control = mapped_control("CONFBRIDGE_REFUSED", sizeof *control);
 }
 
 /* Counts a request. Whether it is the one that is refused. */

@@ -40,14 +40,19 @@ class Control(ctypes.Structure):
     ]
 
 
+def mapped(kind, folder):
+    """A structure in a file of its own, which a library maps as well, and the file's name."""
+    with tempfile.NamedTemporaryFile(dir=folder, delete=False) as file:
+        file.truncate(ctypes.sizeof(kind))
+        return kind.from_buffer(mmap.mmap(file.fileno(), ctypes.sizeof(kind))), file.name
+
+
 class Heap:
     """The memory of a bridge: its requests are counted, and one of them is refused."""
 
     def __init__(self, folder, library):
-        with tempfile.NamedTemporaryFile(dir=folder, delete=False) as file:
-            file.truncate(ctypes.sizeof(Control))
-            self.control = Control.from_buffer(mmap.mmap(file.fileno(), ctypes.sizeof(Control)))
-        self.environment = os.environ | {"LD_PRELOAD": library, "CONFBRIDGE_REFUSED": file.name}
+        self.control, name = mapped(Control, folder)
+        self.environment = os.environ | {"LD_PRELOAD": library, "CONFBRIDGE_REFUSED": name}
         self.release()
 
     def refuse(self, thread, nth):

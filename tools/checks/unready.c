@@ -7,16 +7,14 @@
 #define _GNU_SOURCE
 #include <dlfcn.h>
 #include <errno.h>
-#include <fcntl.h>
 #include <netinet/in.h>
 #include <stdatomic.h>
 #include <stdint.h>
-#include <stdlib.h>
 #include <string.h>
-#include <sys/mman.h>
 #include <sys/socket.h>
 #include <sys/syscall.h>
-#include <unistd.h>
+
+#include "control.h"
 
 enum { ANY = 0, NONE = -1, TRIES = 65536, HEAD = 12 };
 
@@ -44,14 +42,10 @@ static send_to *real;
 
 __attribute__((constructor)) static void map_control(void)
 {
-    const char *path = getenv("CONFBRIDGE_UNREADY");
-    int file = path ? open(path, O_RDWR) : -1;
-    void *mapped = file < 0 ? MAP_FAILED : mmap(0, sizeof *control, PROT_READ | PROT_WRITE, MAP_SHARED, file, 0);
     real = (send_to *)dlsym(RTLD_NEXT, "sendto");
-    if (mapped == MAP_FAILED || !real)
+    if (!real)
         _exit(127);
-    close(file);
-    control = mapped;
+    control = mapped_control("CONFBRIDGE_UNREADY", sizeof *control);
 }
 
 static int is_rtcp(const uint8_t *octets, size_t count)

@@ -4,11 +4,9 @@ import collections
 import ctypes
 import errno
 import itertools
-import mmap
-import tempfile
 
 from checks.bridges import check
-from checks.refusing import ANY, NONE
+from checks.refusing import ANY, NONE, mapped
 from operators.packets import is_rtcp, seq_of, ssrc_of
 
 # A call after which the socket may be ready, and how often a lane tries a datagram before it gives it up.
@@ -53,10 +51,8 @@ class Wire:
     """The socket of a bridge: what is tried on it is listed, and some of that refused."""
 
     def __init__(self, folder):
-        with tempfile.NamedTemporaryFile(dir=folder, delete=False) as file:
-            file.truncate(ctypes.sizeof(Control))
-            self.control = Control.from_buffer(mmap.mmap(file.fileno(), ctypes.sizeof(Control)))
-        self.environment = {"CONFBRIDGE_UNREADY": file.name}
+        self.control, name = mapped(Control, folder)
+        self.environment = {"CONFBRIDGE_UNREADY": name}
         self.release()
 
     def release(self):

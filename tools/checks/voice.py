@@ -1,10 +1,9 @@
 """A member whose sound tells how old it is, and another member who hears it."""
 
-import socket
 import time
 
 from operators.packets import is_rtcp, number, payload_of, rtp, ssrc_of
-from operators.serving import port_of, udp_socket
+from operators.serving import come_to, port_of, udp_socket, with_room
 
 VOICE, MIX = 1000, 100001
 # A packet of sound has one of so many samples, by its number.
@@ -16,11 +15,7 @@ EACH, SAMPLES = 0.02, 160
 def sized(octets):
     """A UDP socket with a receive buffer of this size."""
     one = udp_socket()
-    # SO_RCVBUFFORCE, which is root's; Python has no name for it.
-    try:
-        one.setsockopt(socket.SOL_SOCKET, 33, octets)
-    except PermissionError:
-        one.setsockopt(socket.SOL_SOCKET, socket.SO_RCVBUF, octets)
+    with_room(one, octets)
     one.setblocking(False)
     return one
 
@@ -50,13 +45,9 @@ class Voice:
             self.sent.append(now)
             self.speaker.sendto(rtp(at, SAMPLES * at, VOICE, bytes([0x80 + at % TONES]) * SAMPLES, pt=0), self.to)
         for one, keep in (self.listener, True), (self.speaker, False):
-            try:
-                while True:
-                    octets = one.recv(65536)
-                    if keep and not is_rtcp(octets) and ssrc_of(octets) in self.got:
-                        self.got[ssrc_of(octets)].append((time.monotonic(), octets))
-            except BlockingIOError:
-                pass
+            for octets in come_to(one):
+                if keep and not is_rtcp(octets) and ssrc_of(octets) in self.got:
+                    self.got[ssrc_of(octets)].append((time.monotonic(), octets))
 
     def talk(self, seconds, until=lambda: False):
         """Goes on for so long, or until something is so. The moments at which it began and ended."""

@@ -15,8 +15,9 @@ import socket
 import subprocess
 import time
 
+from operators.models.mix import compressed
 from operators.packets import rtp
-from operators.serving import udp_socket
+from operators.serving import come_to, udp_socket
 from operators.shared import CRATES, ROOT, add_program_or_build, fail, found_program, try_command
 
 NEEDS = "a program, ports 5004, 6000, 6002, 7000 and 7080"
@@ -48,17 +49,10 @@ def options(parser):
     parser.add_argument("--hear", action="store_true", help="play what member 10 hears, by pacat, aplay or ffplay")
 
 
-def mu_law(sample):
-    """A 16-bit sample in mu-law (ITU-T G.711)."""
-    size = min(abs(sample), 32635) + 132
-    exponent = size.bit_length() - 8
-    return ~((0x80 if sample < 0 else 0) | exponent << 4 | size >> exponent + 3 & 15) & 0xFF
-
-
 def tone(hertz, tick):
     """20 ms of a tone, from a tick on."""
     times = range(tick * 160, tick * 160 + 160)
-    return bytes(mu_law(round(8000 * math.sin(2 * math.pi * hertz * at / 8000))) for at in times)
+    return bytes(compressed(round(8000 * math.sin(2 * math.pi * hertz * at / 8000))) for at in times)
 
 
 def picture(tick):
@@ -148,13 +142,9 @@ def talk(player=None):
         for one, (_, ssrc, hertz) in zip(sockets, MEMBERS):
             one.sendto(rtp(tick, tick * 160, ssrc, tone(hertz, tick), pt=0), UDP)
             one.setblocking(False)
-            try:
-                while True:
-                    datagram = one.recv(65536)
-                    if player and one is sockets[0]:
-                        play(player, datagram)
-            except BlockingIOError:
-                pass
+            for datagram in come_to(one):
+                if player and one is sockets[0]:
+                    play(player, datagram)
         if tick % 2 == 0:
             for part, payload in enumerate(picture(tick)):
                 sockets[0].sendto(rtp(seq, tick * 1800, 101, payload, marker=part), UDP)

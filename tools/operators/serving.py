@@ -1,6 +1,7 @@
 """A bridge on sockets, and an operator's connection to it."""
 
 import atexit
+import contextlib
 import pathlib
 import re
 import socket
@@ -19,6 +20,22 @@ def udp_socket(port=0):
     one = socket.socket(socket.AF_INET, socket.SOCK_DGRAM)
     one.bind(("127.0.0.1", port))
     return one
+
+
+def with_room(one, octets):
+    """Gives a socket a receive buffer of this size, where the system lets it have one."""
+    # SO_RCVBUFFORCE, which is root's; Python has no name for it.
+    try:
+        one.setsockopt(socket.SOL_SOCKET, 33, octets)
+    except OSError:
+        one.setsockopt(socket.SOL_SOCKET, socket.SO_RCVBUF, octets)
+
+
+def come_to(one):
+    """The datagrams that have come to a socket that doesn't wait."""
+    with contextlib.suppress(BlockingIOError):
+        while True:
+            yield one.recv(65536)
 
 
 def port_of(one):

@@ -43,10 +43,6 @@ INDEXED = re.compile(r"\b([A-Za-z_]\w*(?:\.\w+)*)\[[^\]]*\]\.(\w+)\(")
 CHAIN = re.compile(r"\b(\w+(?:\.\w+)*)\.(\w+)\([^()]*\)\.(\w+)\(")
 
 
-def options(parser):
-    pass
-
-
 # Reading
 
 

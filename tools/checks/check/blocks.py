@@ -102,10 +102,6 @@ TAKES = {
 ASK_A_BRIDGE = ("127.0.0.1 7000", "127.0.0.1:7000", "127.0.0.1:8095/", "tools/bridge member")
 
 
-def options(_parser):
-    pass
-
-
 def documents():
     return [
         ROOT / "README.md",

@@ -18,7 +18,7 @@ import time
 
 from checks.bridges import check, seconds_of
 from operators.packets import has_no_gap, is_rtp_of, nack, pli, rtp, seq_of
-from operators.serving import Operator, free_port, port_of, settings, udp_socket
+from operators.serving import Operator, come_to, free_port, port_of, settings, udp_socket
 from operators.shared import CRATES, add_program_or_build, fail, found_program, try_command
 
 NEEDS = "a program, twelve seconds"
@@ -92,15 +92,6 @@ def member():
     return one
 
 
-def drain(one, got):
-    """Takes all datagrams that have come."""
-    while True:
-        try:
-            got.append(one.recv(65536))
-        except BlockingIOError:
-            return
-
-
 class Call:
     """The members, the operator, and what has come."""
 
@@ -130,7 +121,7 @@ class Call:
                 self.send(201, rtp(self.seq, self.seq * 3000, 101, b"picture", marker=1))
             self.seq += 1
         for ssrc, one in self.members.items():
-            drain(one, self.got[ssrc])
+            self.got[ssrc] += come_to(one)
         time.sleep(0.005)
 
     def talk(self, seconds):
@@ -311,7 +302,7 @@ def check_counts(call):
         check(time.monotonic() < end, other)
         time.sleep(0.2)
         for ssrc, one in call.members.items():
-            drain(one, call.got[ssrc])
+            call.got[ssrc] += come_to(one)
         streams = counted(call, "stream")
         other = other_counts(call, streams, (time.time() - sent) * 1000)
     check(set(streams) == {"501", "9001", "9002"}, f"`stats` has the streams {sorted(streams)}")

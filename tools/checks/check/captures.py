@@ -65,10 +65,6 @@ BRIDGES = ROOT / "tools/bridge"
 FEW = 64
 
 
-def options(_parser):
-    pass
-
-
 def packets_in(octets):
     """What is read of a capture, without moments, and the first moment to the microsecond."""
     found = list(Packets(Notes()).of(frames_of(io.BytesIO(octets), Notes())))

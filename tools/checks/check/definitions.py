@@ -19,10 +19,6 @@ LINKED = re.compile(r"\[`([A-Za-z]\w*(?:::\w+)?)`\]\((?:\.\./)+crates/(\S+?\.rt)
 QUOTED = re.compile(r"`([\w:]+)`")
 
 
-def options(parser):
-    pass
-
-
 def made():
     """The documents that tools make, in whole or in part: by which tool, where each stands, and its text."""
     yield "make crates", crates.DOCUMENT, crates.document()

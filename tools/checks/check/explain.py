@@ -38,7 +38,7 @@ from operators.explain.explaining import explained
 from operators.explain.given import given_by
 from operators.explain.telling import Telling, telling
 from operators.packets import nack, number, pli, rtp, seq_of
-from operators.serving import Operator, port_of, settings, started, udp_socket
+from operators.serving import Operator, come_to, port_of, settings, started, udp_socket
 from operators.shared import add_program, fail, release_program
 
 NEEDS = "the program, leave to capture on `lo`"
@@ -100,13 +100,9 @@ class Member:
         for due in [one for one in self.later if one[0] <= now]:
             self.later.remove(due)
             self.socket.sendto(due[1], self.to)
-        new = []
-        try:
-            while True:
-                new.append(self.socket.recv(65536))
-        except BlockingIOError:
-            self.got += new
-            return new
+        new = list(come_to(self.socket))
+        self.got += new
+        return new
 
 
 class Call:

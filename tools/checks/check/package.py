@@ -35,7 +35,7 @@ from checks.explain.planted import FAULTS, Call
 from checks.make import package
 from checks.package.proved import lack_of_proof
 from operators.packets import is_rtp_of, rtp
-from operators.serving import Operator, said_at_the_end
+from operators.serving import Operator, come_to, said_at_the_end
 from operators.shared import CRATES, add_program
 
 NEEDS = "the programs, git, dpkg-deb; root for a root of its own"
@@ -313,11 +313,7 @@ class Program:
     def turn(self, tick):
         octets = rtp(tick, tick * 160, self.ssrc, bytes([self.tone]) * 160, pt=0)
         self.socket.sendto(octets, ("127.0.0.1", self.speaks))
-        try:
-            while True:
-                self.heard.append(self.socket.recv(65536))
-        except BlockingIOError:
-            pass
+        self.heard += come_to(self.socket)
 
     def hears(self, tone):
         """Whether it heard this tone, and no other one."""

@@ -14,10 +14,6 @@ NEEDS = "nothing"
 PROVER_MB = 5000
 
 
-def options(_parser):
-    pass
-
-
 def free_mb():
     """The memory in MB that the system and this process's control group leave."""
     text = pathlib.Path("/proc/meminfo").read_text()

@@ -15,10 +15,6 @@ DOCUMENT = ROOT / "docs" / "ARCHITECTURE.md"
 LINK = re.compile(r"\[`([^`]+)`\](?:\([^)]*\))?")
 
 
-def options(parser):
-    pass
-
-
 def source_of(crate):
     """The file with which a crate begins."""
     return next(path for name in ("lib.rt", "main.rt") if (path := CRATES / crate / "src" / name).is_file())

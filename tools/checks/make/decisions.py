@@ -13,10 +13,6 @@ NEEDS = "nothing"
 DOCUMENT = ROOT / "docs" / "DECISIONS.md"
 
 
-def options(parser):
-    pass
-
-
 def anchor_of(heading):
     """What a link to a heading names."""
     return re.sub(r"[^\w\- ]", "", heading.lower()).replace(" ", "-")

@@ -30,10 +30,6 @@ NAMED = re.compile(r"RFC \d+ (?:sections? \d(?:[\d.]*\d)?|[A-Z]\.\d)|ITU-T G\.\d
 WORD = re.compile(r"(?:(?:abbrev|unfoldable) )?pub (?:data |record )?([^\s:{(]+)")
 
 
-def options(parser):
-    pass
-
-
 def first_comment(lines):
     """The comment lines with which a file begins, as one."""
     said = []

@@ -23,10 +23,6 @@ NUMBER = re.compile(r"\d[\d,]*(?:\.\d+)?")
 FIGURES = ["Time", "Figure", "Instructions"]
 
 
-def options(parser):
-    pass
-
-
 def numbers_in(text):
     return [float(found.replace(",", "")) for found in NUMBER.findall(text)]
 

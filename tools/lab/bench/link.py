@@ -6,7 +6,6 @@ socket's send buffer and in the link's queue, which is longer than that buffer: 
 Where a socket isn't ready, a lane waits.
 """
 
-import contextlib
 import ctypes
 import os
 import pathlib
@@ -18,14 +17,14 @@ import time
 
 from checks.bridges import accepted
 from operators.packets import payload_of, rtp, ssrc_of
-from operators.serving import Operator, port_of
+from operators.serving import Operator, come_to, port_of, with_room
 from operators.shared import fail
 
 RECEIVERS, FRAME, OCTETS, VIDEO = 30, 100, 1100, 101
 HERE, THERE = "10.213.77.1", "10.213.77.2"
 # The link's rate, how many octets may pass at once, and its queue, longer than a send buffer of net.core.wmem_default.
 SHAPE = "tbf rate 1gbit burst 64kb limit 4mb".split()
-NEW_NETWORK, FORCED_BUFFER = 0x40000000, 33
+NEW_NETWORK = 0x40000000
 PATIENCE = 20
 
 
@@ -68,7 +67,7 @@ class Link:
             finally:
                 enter(own.fileno(), NEW_NETWORK)
         for one in found:
-            one.setsockopt(socket.SOL_SOCKET, FORCED_BUFFER, 4 << 20)
+            with_room(one, 4 << 20)
             one.setblocking(False)
         return found
 
@@ -116,12 +115,8 @@ class Fan:
         size."""
         counts = []
         for at, one in enumerate(self.receivers):
-            count = 0
-            with contextlib.suppress(BlockingIOError):
-                while True:
-                    octets = one.recv(65536)
-                    count += ssrc_of(octets) == 501 + at and len(payload_of(octets)) == OCTETS
-            counts.append(count)
+            sizes = [len(payload_of(octets)) for octets in come_to(one) if ssrc_of(octets) == 501 + at]
+            counts.append(sizes.count(OCTETS))
         return counts
 
     def frame(self, count, octets):

@@ -14,6 +14,7 @@ import urllib.error
 import urllib.request
 
 from checks.bridges import accepted, operator_at
+from lab import waits
 from operators.serving import free_port, started
 from operators.shared import ROOT, fail
 
@@ -65,11 +66,7 @@ def ended(process, by=signal.SIGKILL):
     """Ends a process that this test has started. Its status."""
     if process.poll() is None:
         process.send_signal(by)
-    try:
-        return process.wait(20)
-    except subprocess.TimeoutExpired:
-        process.kill()
-        return process.wait()
+    return waits.ended(process, 20)
 
 
 def begun(command, log, environment=None):

@@ -6,6 +6,7 @@ import time
 from lab.gateway_call.parts import until
 from lab.gateway_call.refusals import offer_of, port_in, sends
 from operators.packets import is_rtcp
+from operators.serving import come_to
 from operators.shared import fail
 
 
@@ -23,12 +24,7 @@ def media_at(ip):
 
 def packets(one):
     """How many packets of sound have come to a socket since this was last asked."""
-    count = 0
-    try:
-        while True:
-            count += not is_rtcp(one.recv(65536))
-    except BlockingIOError:
-        return count
+    return sum(not is_rtcp(octets) for octets in come_to(one))
 
 
 class Sipping:

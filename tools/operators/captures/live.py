@@ -7,11 +7,11 @@ import time
 
 from operators.captures.files import Frame
 from operators.captures.links import RAW
+from operators.serving import with_room
 
 ALL, OUTGOING = 0x0003, 4
-# Names that Python lacks: the kernel's stamp of a datagram in nanoseconds, a receive buffer beyond the limit, and
-# counts of losses.
-SO_TIMESTAMPNS, SO_RCVBUFFORCE, SOL_PACKET, PACKET_STATISTICS = 35, 33, 263, 6
+# Names that Python lacks: the kernel's stamp of a datagram in nanoseconds, and counts of losses.
+SO_TIMESTAMPNS, SOL_PACKET, PACKET_STATISTICS = 35, 263, 6
 BUFFER = 1 << 24
 
 
@@ -30,10 +30,7 @@ class Live:
     def __init__(self, interface=None):
         self.socket = socket.socket(socket.AF_PACKET, socket.SOCK_DGRAM, socket.htons(ALL))
         self.socket.setsockopt(socket.SOL_SOCKET, SO_TIMESTAMPNS, 1)
-        try:
-            self.socket.setsockopt(socket.SOL_SOCKET, SO_RCVBUFFORCE, BUFFER)
-        except OSError:
-            self.socket.setsockopt(socket.SOL_SOCKET, socket.SO_RCVBUF, BUFFER)
+        with_room(self.socket, BUFFER)
         if interface:
             self.socket.bind((interface, ALL))
         self.is_open = True
