@@ -21,8 +21,6 @@ LONG, MANY, PARTS = 1_500_000_000, 30, 6
 JUMP = 200
 # So much has a clock to have gone astray to be told, and what may lie beside a line, in milliseconds.
 ASTRAY, BESIDE = 15, 2
-# A clock that is further astray, as a share, is none: packets come too seldom or too often.
-MOST_ASTRAY = 0.1
 
 
 @dataclasses.dataclass(frozen=True)

@@ -12,7 +12,7 @@ from operators.captures.notes import BadCapture, Notes
 from operators.explain.desks import streams_of
 from operators.explain.operators import is_good
 
-USUAL_UDP, USUAL_TCP = "5004", "7000"
+USUAL_UDP = "5004"
 # A line that a bridge alone says.
 ANSWER = re.compile(
     r"ok [0-9]+|no [0-9]+ [0-9]+ \w+.*|end( [0-9]+)?|fault [0-9]+ [0-9] \w+|busy|call [0-9]+ [0-9]+ .*", re.ASCII
