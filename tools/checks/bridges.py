@@ -47,6 +47,14 @@ def held(program, path, under=(), seconds=20):
     check(bridge.wait(seconds) == 0, f"the bridge ended with status {bridge.returncode}")
 
 
+def together(threads):
+    """Starts threads, and waits until all have ended."""
+    for one in threads:
+        one.start()
+    for one in threads:
+        one.join()
+
+
 def seconds_of(process):
     """The seconds of processor time that a process and its threads have taken."""
     words = pathlib.Path(f"/proc/{process.pid}/stat").read_text().rpartition(")")[2].split()

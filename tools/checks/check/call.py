@@ -7,6 +7,7 @@ reports come. `stats` counts of each stream what its member got, and has what it
 trip. The bridge's socket of the operator waits for no acknowledgement before it sends an answer's end.
 """
 
+import contextlib
 import ctypes
 import os
 import pathlib
@@ -324,18 +325,24 @@ def hold(call):
     print(f"a call of {call.seq * 0.02:.1f} s: {mixes} mixes, {shown} video packets, no fault")
 
 
-def run(args):
+@contextlib.contextmanager
+def connected_bridge(args):
+    """A bridge, the port of its datagrams, and an operator's connection. It is stopped at the end."""
     with tempfile.TemporaryDirectory() as folder:
         bridge, udp, tcp = start(args, folder)
         try:
             connection = connected(bridge, tcp, folder)
-            call = Call(connection, udp)
-            check_idle(bridge)
-            hold(call)
-            check_delay(bridge, connection)
-            call.desk.tell("stop")
+            yield bridge, udp, connection
+            connection.sendall(b"stop\n")
             status = bridge.wait(timeout=PATIENCE)
             check(status == 0, f"the bridge ended with status {status}")
         finally:
             bridge.kill()
+
+
+def run(args):
+    with connected_bridge(args) as (bridge, udp, connection):
+        check_idle(bridge)
+        hold(Call(connection, udp))
+        check_delay(bridge, connection)
     return 0

@@ -24,7 +24,7 @@ import tempfile
 import threading
 import time
 
-from checks.bridges import status_of
+from checks.bridges import status_of, together
 from checks.filling import fill, full_desk
 from checks.pair import Pair
 from operators.serving import Operator, said_at_the_end, settings, started
@@ -82,11 +82,7 @@ class Crowd:
             with contextlib.suppress(OSError):
                 work(number)
 
-        threads = [threading.Thread(target=one, args=(number,)) for number in range(count)]
-        for it in threads:
-            it.start()
-        for it in threads:
-            it.join()
+        together([threading.Thread(target=one, args=(number,)) for number in range(count)])
 
     def silent(self):
         with contextlib.ExitStack() as stack:

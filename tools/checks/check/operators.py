@@ -21,7 +21,7 @@ import tempfile
 import threading
 import time
 
-from checks.bridges import operator_at
+from checks.bridges import operator_at, together
 from checks.filling import fill, full_desk
 from checks.pair import Pair
 from operators.serving import said_at_the_end, settings, started
@@ -140,10 +140,7 @@ def check(program, count, args):
         bridge = started(program, settings(folder, operators=count, lanes=args.lanes))
         callers = begun(bridge, pair, args, count)
         begin = time.monotonic()
-        for caller in callers:
-            caller.start()
-        for caller in callers:
-            caller.join()
+        together(callers)
         took = time.monotonic() - begin
         pair.wait_until_heard()
         rows, version = callers[0].operator.show()

@@ -7,11 +7,10 @@ The streams that the members get have no gap, and each hears the other's tone. N
 """
 
 import random
-import tempfile
 import time
 
 from checks.bridges import check
-from checks.check.call import PATIENCE, SETUP, Call, check_mixes, connected, counted, has_more, start
+from checks.check.call import SETUP, Call, check_mixes, connected_bridge, counted, has_more
 from operators.packets import has_no_gap, rtp
 from operators.serving import port_of, udp_socket
 from operators.shared import add_program_or_build
@@ -124,14 +123,6 @@ def hold(call):
 
 
 def run(args):
-    with tempfile.TemporaryDirectory() as folder:
-        bridge, udp, tcp = start(args, folder)
-        try:
-            call = Flooded(connected(bridge, tcp, folder), udp)
-            hold(call)
-            call.desk.tell("stop")
-            status = bridge.wait(timeout=PATIENCE)
-            check(status == 0, f"the bridge ended with status {status}")
-        finally:
-            bridge.kill()
+    with connected_bridge(args) as (_, udp, connection):
+        hold(Flooded(connection, udp))
     return 0

@@ -4,6 +4,7 @@ import signal
 import threading
 import time
 
+from checks.bridges import together
 from lab.fleet_call.dispatcher import Dispatched, Sink
 from lab.fleet_call.failing import Failing
 from lab.fleet_call.gateways import Gatewayed
@@ -114,10 +115,7 @@ class Fleet(Dispatched, Failing, Gatewayed, Strangers):
 
         threads = [threading.Thread(target=opens, args=(agent, at * 10)) for at, agent in enumerate("abc")]
         begun = time.monotonic()
-        for one in threads:
-            one.start()
-        for one in threads:
-            one.join()
+        together(threads)
         took = time.monotonic() - begun
         statuses = [status for status, _ in said]
         self.check(statuses == [200] * 90, f"90 joins of {COUNT} rooms by three agents, {took:.1f} s", said)

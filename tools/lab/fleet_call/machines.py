@@ -18,6 +18,7 @@ import time
 import urllib.error
 import urllib.request
 
+from checks.bridges import together
 from lab.fleet_call.parts import FLEET, LEASE, SECRET, USER, begun, ended, secret_file, signed
 from operators.serving import free_port
 from operators.shared import ROOT
@@ -225,10 +226,7 @@ class Joining(threading.Thread):
 
     def run(self):
         workers = [threading.Thread(target=self.work, daemon=True) for _ in range(self.WORKERS)]
-        for one in workers:
-            one.start()
-        for one in workers:
-            one.join()
+        together(workers)
 
     def work(self):
         while True:

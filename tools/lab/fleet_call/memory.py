@@ -4,6 +4,7 @@ import itertools
 import random
 import threading
 
+from checks.bridges import together
 from lab.fleet_call.parts import EtcdPart, commands_of, groups_of, until
 
 from agent import MOST_KEPT, MOST_OCTETS as MOST_AT_ONCE, Agent, portions  # noqa: E402
@@ -123,11 +124,7 @@ class Memory:
                 wrong.append(repr(why))
             after[room] = groups_of(commands_of(one.bridge.rooms[room]))
 
-        writers = [threading.Thread(target=writes, args=(100 + at,)) for at in range(WRITERS)]
-        for one in writers:
-            one.start()
-        for one in writers:
-            one.join()
+        together([threading.Thread(target=writes, args=(100 + at,)) for at in range(WRITERS)])
         self.check(not wrong, f"{CHANGES} changes of {WRITERS} rooms of 16 are put", wrong[:3])
         kept = self.store.groups(after)
         self.check(kept == after, "each room is kept as it is", [room for room in after if kept[room] != after[room]])
