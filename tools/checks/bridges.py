@@ -6,8 +6,12 @@ import pathlib
 import socket
 import time
 
-from operators.serving import Operator, started
+from operators.serving import Operator, port_of, started
 from operators.shared import fail
+
+
+# The first source of sound of a room, and the first stream of a mix.
+SOUND, MIX = 1000, 5000
 
 
 def check(holds, text):
@@ -35,6 +39,14 @@ def accepted(operator, *lines):
 def operator_at(tcp, seconds=20):
     """An operator who is connected to this port, and waits for an answer for so many seconds at most."""
     return Operator(socket.create_connection(("127.0.0.1", tcp), timeout=seconds))
+
+
+def room_lines(sockets):
+    """The calls that make a room: each member has a socket, a source of sound and a mix."""
+    yield "add-room 1"
+    for number, one in enumerate(sockets):
+        yield f"add-member {number} 1 127.0.0.1:{port_of(one)} pcmu {MIX + number} 0 0"
+        yield f"add-source {SOUND + number} {number} audio"
 
 
 @contextlib.contextmanager

@@ -19,10 +19,10 @@ import tempfile
 import threading
 import time
 
-from checks.bridges import operator_at
+from checks.bridges import operator_at, room_lines
 from checks.filling import in_groups
 from operators.packets import rtp
-from operators.serving import LISTENS, Operator, port_of, settings, udp_socket
+from operators.serving import LISTENS, Operator, settings, udp_socket
 from operators.shared import add_program, fail, release_program
 
 NEEDS = "the program, four minutes"
@@ -170,12 +170,16 @@ class Bridge:
             return shown and shown[0]
         return None
 
-    def is_answered(self, fillers):
-        """Whether an operator is answered at all, who is still there or comes anew."""
+    def operators(self, fillers):
+        """The operators who are still there, and one who comes anew, if one can."""
         came = [filler.operator for filler in fillers if not filler.is_closed]
         with contextlib.suppress(OSError):
-            came.append(operator_at(self.tcp, 20))
-        for one in came:
+            came.append(operator_at(self.tcp))
+        return came
+
+    def is_answered(self, fillers):
+        """Whether an operator is answered at all, who is still there or comes anew."""
+        for one in self.operators(fillers):
             with contextlib.suppress(OSError):
                 if one.ask("add-room 1").startswith(("ok ", "no ")):
                     return True
@@ -183,21 +187,10 @@ class Bridge:
 
     def stop(self, fillers):
         """Has it stopped by whoever is there. Its status."""
-        came = [filler.operator for filler in fillers if not filler.is_closed]
-        with contextlib.suppress(OSError):
-            came.append(operator_at(self.tcp, 20))
-        for one in came:
+        for one in self.operators(fillers):
             with contextlib.suppress(OSError):
                 one.tell("stop")
         return self.ended()
-
-
-def lines_of(sockets):
-    """The commands that make the room, with its members and what they send."""
-    yield "add-room 1"
-    for at, one in enumerate(sockets):
-        yield f"add-member {at} 1 127.0.0.1:{port_of(one)} pcmu {5000 + at} 0 0"
-        yield f"add-source {1000 + at} {at} audio"
 
 
 def talk(bridge, sockets, fillers):
@@ -222,7 +215,7 @@ def shut_out(bridge):
 def filled(bridge, sockets, sends):
     """Has operators fill the desk of a bridge that runs. How it ended, and the counts of calls."""
     fillers = [Filler(bridge.tcp, number) for number in range(SEATS)]
-    if not all(fillers[0].call(line) for line in lines_of(sockets)):
+    if not all(fillers[0].call(line) for line in room_lines(sockets)):
         return shut_out(bridge), ""
     for filler in fillers:
         filler.start()

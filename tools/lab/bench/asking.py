@@ -11,8 +11,8 @@ import re
 import tempfile
 import time
 
-from checks.bridges import accepted, held
-from lab.bench.room import Members, lines
+from checks.bridges import accepted, held, room_lines
+from lab.bench.room import Members
 from operators.packets import rtp
 from operators.serving import settings, udp_socket
 from operators.shared import add_program, fail, release_program
@@ -26,10 +26,15 @@ STATED = 10
 VIDEO = 100
 
 
-def options(parser):
+def add_call(parser):
+    """Adds the options of a call."""
     parser.add_argument("--members", type=int, default=16, help="how many members the room has (%(default)s)")
     parser.add_argument("--lanes", type=int, default=1, help="how many lanes the bridge has (%(default)s)")
     parser.add_argument("--seconds", type=int, default=20, help="how long the call lasts (%(default)s)")
+
+
+def options(parser):
+    add_call(parser)
     parser.add_argument("--rate", type=int, default=200, help="how often a second `stats` is asked (%(default)s)")
     add_program(parser)
 
@@ -44,7 +49,7 @@ class Room(Members):
 
 def desk(sockets):
     """The calls that make the room, in which all others see the first one."""
-    yield from lines(sockets)
+    yield from room_lines(sockets)
     yield f"add-source {VIDEO} 0 video"
     for number in range(1, len(sockets)):
         yield f"add-slot {7_000 + number} {number} 0 0 0"

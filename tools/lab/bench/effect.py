@@ -8,8 +8,8 @@ import select
 import tempfile
 import time
 
-from checks.bridges import accepted, held
-from lab.bench.room import MIX, SOUND, Members, lines
+from checks.bridges import MIX, SOUND, accepted, held, room_lines
+from lab.bench.room import Members
 from operators.packets import is_rtp_of, payload_of
 from operators.serving import settings, udp_socket
 from operators.shared import add_program, fail, release_program
@@ -69,7 +69,7 @@ def run(args):
     sockets = [udp_socket() for _ in range(MEMBERS)]
     with tempfile.TemporaryDirectory() as folder:
         with held(program, settings(folder, lanes=args.lanes)) as (_, udp, operator):
-            accepted(operator, *lines(sockets))
+            accepted(operator, *room_lines(sockets))
             # The first one is loud, the others are silent. What comes to all but the listener is let go.
             members = Members(udp, sockets, lambda number: SILENT if number else LOUD)
             time.sleep(1)

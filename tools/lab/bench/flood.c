@@ -63,6 +63,15 @@ static size_t unknown_sources(uint8_t *at, int *from)
     return 112;
 }
 
+/* The head of a packet that is about the flood's stream (RFC 4585 section 6.1). How long it is. */
+static size_t feedback(uint8_t *at, uint32_t begin)
+{
+    put32(at, begin);
+    put32(at + 4, 9);
+    put32(at + 8, 502);
+    return 12;
+}
+
 /* A receiver report with 31 blocks, then lost pictures and lost numbers as many as fit. Half of the numbers are in the
  * window. */
 static size_t asks(uint8_t *at, int *from)
@@ -76,16 +85,10 @@ static size_t asks(uint8_t *at, int *from)
         put32(at + 8 + 24 * i, 502);
         put32(at + 8 + 24 * i + 8, drawn(2) ? shared->number - drawn(RING) : drawn(65536));
     }
-    for (int i = 0; i < 100; i++, size += 12) {
-        put32(at + size, 0x81ce0002);
-        put32(at + size + 4, 9);
-        put32(at + size + 8, 502);
-    }
+    for (int i = 0; i < 100; i++)
+        size += feedback(at + size, 0x81ce0002);
     unsigned words = (8192 - size) / 4 - 3;
-    put32(at + size, 0x81cd0000 | (words + 2));
-    put32(at + size + 4, 9);
-    put32(at + size + 8, 502);
-    for (size += 12; size < 8192; size += 4) {
+    for (size += feedback(at + size, 0x81cd0000 | (words + 2)); size < 8192; size += 4) {
         put16(at + size, drawn(2) ? shared->number - drawn(RING) : drawn(65536));
         put16(at + size + 2, drawn(65536));
     }
@@ -100,9 +103,7 @@ static size_t nacks(uint8_t *at, int *from)
     put32(at, 0x80c90001);
     put32(at + 4, 9);
     for (; size + 16 <= 8192; size += 16) {
-        put32(at + size, 0x81cd0003);
-        put32(at + size + 4, 9);
-        put32(at + size + 8, 502);
+        feedback(at + size, 0x81cd0003);
         put16(at + size + 12, drawn(2) ? shared->number - drawn(RING) : drawn(65536));
         put16(at + size + 14, 0);
     }
@@ -136,11 +137,8 @@ static size_t pictures(uint8_t *at, int *from)
     *from = floods[0];
     put32(at, 0x80c90001);
     put32(at + 4, 9);
-    for (int i = 0; i < 64; i++, size += 12) {
-        put32(at + size, 0x81ce0002);
-        put32(at + size + 4, 9);
-        put32(at + size + 8, 502);
-    }
+    for (int i = 0; i < 64; i++)
+        size += feedback(at + size, 0x81ce0002);
     return size;
 }
 

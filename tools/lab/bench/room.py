@@ -3,19 +3,8 @@
 import threading
 import time
 
+from checks.bridges import SOUND
 from operators.packets import rtp
-from operators.serving import port_of
-
-# The first source of sound, and the first stream of a mix.
-SOUND, MIX = 1000, 5000
-
-
-def lines(sockets):
-    """The calls that make the room: each member has a socket, a source of sound and a mix."""
-    yield "add-room 1"
-    for number, one in enumerate(sockets):
-        yield f"add-member {number} 1 127.0.0.1:{port_of(one)} pcmu {MIX + number} 0 0"
-        yield f"add-source {SOUND + number} {number} audio"
 
 
 class Members(threading.Thread):

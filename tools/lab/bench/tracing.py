@@ -6,7 +6,7 @@ items on. What the trace's own thread takes is told as well.
 """
 
 from checks.traces import Reader
-from lab.bench.asking import measured
+from lab.bench.asking import add_call, measured
 from operators.shared import add_program, fail, release_program
 
 NEEDS = "the program, valgrind, two minutes"
@@ -16,9 +16,7 @@ OWN = "trace_scripts::speaking::"
 
 
 def options(parser):
-    parser.add_argument("--members", type=int, default=16, help="how many members the room has (%(default)s)")
-    parser.add_argument("--lanes", type=int, default=1, help="how many lanes the bridge has (%(default)s)")
-    parser.add_argument("--seconds", type=int, default=20, help="how long the call lasts (%(default)s)")
+    add_call(parser)
     add_program(parser)
 
 

@@ -47,18 +47,22 @@ class QuickGate(Gate):
         return answer
 
 
-class QuickBridge(ReportBridge):
+class QuickGates:
+    """A model's way to quick gates."""
+
+    def video(self, moment, address, p, source, verdict, ext):
+        if verdict in ("begun", "restarted"):
+            source.gate = QuickGate()
+        return super().video(moment, address, p, source, verdict, ext)
+
+
+class QuickBridge(QuickGates, ReportBridge):
     """The model with quick gates. It tells how far ahead of the next sample the sound of a datagram is."""
 
     def __init__(self):
         super().__init__()
         # In units of the clock rate; None where the datagram began its jitter buffer, or had no sound.
         self.far = None
-
-    def video(self, moment, address, p, source, verdict, ext):
-        if verdict in ("begun", "restarted"):
-            source.gate = QuickGate()
-        return super().video(moment, address, p, source, verdict, ext)
 
     def sound(self, address, packet, rate):
         playout = self.playouts.get((packet["ssrc"], address))

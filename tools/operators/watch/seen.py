@@ -6,7 +6,7 @@ from operators.captures.lines import Connections
 from operators.captures.links import UDP
 from operators.explain.desks import calls_for, rows_of
 from operators.explain.operators import MOST_WAITING, Answers, Call, Told
-from operators.explain.quick import QuickGate
+from operators.explain.quick import QuickGates
 from operators.explain.senders import Senders, is_rtp, outcome_of, source_key
 from operators.explain.wire import is_port_of
 from operators.models.bridge import Bridge
@@ -30,13 +30,8 @@ def keep(found, key, value, most=MOST):
         del found[next(iter(found))]
 
 
-class Judge(Bridge):
+class Judge(QuickGates, Bridge):
     """The model of the receive side, for as long as one likes."""
-
-    def video(self, moment, address, p, source, verdict, ext):
-        if verdict in ("begun", "restarted"):
-            source.gate = QuickGate()
-        return super().video(moment, address, p, source, verdict, ext)
 
 
 class Said:
