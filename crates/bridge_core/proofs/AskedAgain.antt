@@ -10,7 +10,7 @@ use Rattle.retransmit.specs.SentPacket.{SentPacket}
 use Rattle.retransmit.specs.Window.{window_size, latest, resend_of}
 use Rattle.topology.specs.Looking.{member_from}
 use Rattle.forward_rewrite.specs.Streams.{StreamOf}
-use Rattle.feedback.specs.Resends.{firsts, resends_to, resends}
+use Rattle.receiver_feedback.specs.Resends.{firsts, resends_to, resends}
 use Rattle.media_items.specs.OwnStreams.{is_mine}
 use Rattle.media_items.specs.Inputs.{Input, Request}
 use Rattle.bridge_core.specs.Sent.{Sent}

@@ -17,7 +17,7 @@ use Rattle.forward_rewrite.specs.RoutedList.{part_of, numbered}
 use Rattle.frame_gate.specs.Frame.{SourcePacket}
 use Rattle.media_items.specs.OwnStreams.{is_mine}
 use Rattle.media_items.specs.Inputs.{Input}
-use Rattle.upward.specs.Upstream.{Asker}
+use Rattle.sender_feedback.specs.Upstream.{Asker}
 use Rattle.bridge_core.specs.Lanes.{Visit, routed_to, packets_at, goes, is_lanes, sends_at}
 use Rattle.bridge_core.specs.LaneState.{visit_of}
 use Rattle.bridge_core.specs.Headline.{IsChosenOf, GoesWhole}

@@ -7,7 +7,7 @@ use Rattle.desk_edit.specs.Calls.{CallHistory, refusal_of, after_call}
 use Rattle.desk_calls.specs.Desk.{DeskOf, call_refused, Does, IsReason, IsReady}
 use Rattle.desk_calls.specs.Following.{HasCalled as DeskHasCalled, IsTold}
 use Rattle.desk_calls.specs.declared.prepared.Prepared.{Prepared}
-use Rattle.intake.specs.inner.Holding.{IntakeOf}
+use Rattle.ingress.specs.inner.Holding.{IngressOf}
 use Rattle.desk_calls.specs.declared.reply.Reply.TheVariants.{Accepted, Refused}
 use Rattle.bridge_core.specs.LaneState.{LaneOf}
 use Rattle.bridge_core.specs.Steps.{CoreOf}
@@ -15,9 +15,9 @@ use Rattle.bridge_core.specs.Calls.{Answers}
 use Rattle.bridge_core.specs.Following.{HasCalled, IsAnswered}
 
 -- a core with this desk
-abbrev pub core_with : DeskOf → List LaneOf → IntakeOf → CoreOf
-core_with d lanes intake =
-    record { version = d.version; desk = d.desk; done = d.done; undone = d.undone; lanes = lanes; intake = intake }
+abbrev pub core_with : DeskOf → List LaneOf → IngressOf → CoreOf
+core_with d lanes ingress =
+    record { version = d.version; desk = d.desk; done = d.done; undone = d.undone; lanes = lanes; ingress = ingress }
 
 -- ---- how much memory a desk has makes no difference
 
@@ -35,24 +35,24 @@ reason_same d (Group commands) why reason = reason
 reason_same d (Undo last) why reason = reason
 reason_same d (Redo last) why reason = reason
 
-called_core : (d : DeskOf) (lanes : List LaneOf) (intake : IntakeOf) (h : CallHistory) → DeskHasCalled d h
-    → HasCalled (core_with d lanes intake) h
-called_core d lanes intake h called =
+called_core : (d : DeskOf) (lanes : List LaneOf) (ingress : IngressOf) (h : CallHistory) → DeskHasCalled d h
+    → HasCalled (core_with d lanes ingress) h
+called_core d lanes ingress h called =
     record { version = called.version; desk = called.desk; follows = called.follows; ahead = called.ahead }
 
-called_desk : (d : DeskOf) (lanes : List LaneOf) (intake : IntakeOf) (h : CallHistory)
-    → HasCalled (core_with d lanes intake) h → DeskHasCalled d h
-called_desk d lanes intake h called =
+called_desk : (d : DeskOf) (lanes : List LaneOf) (ingress : IngressOf) (h : CallHistory)
+    → HasCalled (core_with d lanes ingress) h → DeskHasCalled d h
+called_desk d lanes ingress h called =
     record { version = called.version; desk = called.desk; follows = called.follows; ahead = called.ahead }
 
 -- ---- an accepted call
 
-pub accepted_answer : {A : Type 0} (was ready is : DeskOf) (lanes : List LaneOf) (intake : IntakeOf) (call : Call)
+pub accepted_answer : {A : Type 0} (was ready is : DeskOf) (lanes : List LaneOf) (ingress : IngressOf) (call : Call)
     (prepared : Prepared A) (number : ℕ)
     → ready ≡ record was { spare = ready.spare } → IsReady ready call prepared → Does ready is call
     → (number ≡ ready.version + 1) × (is.version ≡ number)
-    → Answers (core_with was lanes intake) (core_with is lanes intake) call (Accepted number)
-accepted_answer was ready is lanes intake call prepared number same free does version = (
+    → Answers (core_with was lanes ingress) (core_with is lanes ingress) call (Accepted number)
+accepted_answer was ready is lanes ingress call prepared number same free does version = (
   version.0 ∙ ap (λ (d : DeskOf). d.version + 1) same,
   version.1,
   refl,
@@ -61,39 +61,39 @@ accepted_answer was ready is lanes intake call prepared number same free does ve
       (does_same ready is call does),
 )
 
-pub accepted_history : (was ready is : DeskOf) (lanes : List LaneOf) (intake : IntakeOf) (call : Call) (number : ℕ)
+pub accepted_history : (was ready is : DeskOf) (lanes : List LaneOf) (ingress : IngressOf) (call : Call) (number : ℕ)
     → ((h : CallHistory) → DeskHasCalled was h → refusal_of h call ≡ None)
     → ((h : CallHistory) → DeskHasCalled was h → DeskHasCalled ready h)
     → ((h : CallHistory) → DeskHasCalled ready h → DeskHasCalled is (after_call h call)) → number ≡ ready.version + 1
-    → (h : CallHistory) → HasCalled (core_with was lanes intake) h
-    → IsAnswered h (core_with is lanes intake) call (Accepted number)
-accepted_history was ready is lanes intake call number free prepares commits next h called =
-    let before = called_desk was lanes intake h called in
+    → (h : CallHistory) → HasCalled (core_with was lanes ingress) h
+    → IsAnswered h (core_with is lanes ingress) call (Accepted number)
+accepted_history was ready is lanes ingress call number free prepares commits next h called =
+    let before = called_desk was lanes ingress h called in
     let between = prepares h before in (
       free h before,
       next ∙ ap (λ n. n + 1) between.version,
-      called_core is lanes intake (after_call h call) (commits h between),
+      called_core is lanes ingress (after_call h call) (commits h between),
     )
 
 -- ---- a refused call
 
-pub refused_answer : (was ready : DeskOf) (lanes : List LaneOf) (intake : IntakeOf) (call : Call) (at : ℕ)
+pub refused_answer : (was ready : DeskOf) (lanes : List LaneOf) (ingress : IngressOf) (call : Call) (at : ℕ)
     (why : Refusal)
     → ready ≡ record was { spare = ready.spare } → at ≡ ready.version → IsReason was call why
-    → Answers (core_with was lanes intake) (core_with ready lanes intake) call (Refused at why)
-refused_answer was ready lanes intake call at why same now reason = (
+    → Answers (core_with was lanes ingress) (core_with ready lanes ingress) call (Refused at why)
+refused_answer was ready lanes ingress call at why same now reason = (
   now ∙ ap (λ (d : DeskOf). d.version) same,
-  ap (λ (d : DeskOf). core_with d lanes intake) same,
+  ap (λ (d : DeskOf). core_with d lanes ingress) same,
   reason_same was call why reason,
 )
 
-pub refused_history : (was ready : DeskOf) (lanes : List LaneOf) (intake : IntakeOf) (call : Call) (at : ℕ)
+pub refused_history : (was ready : DeskOf) (lanes : List LaneOf) (ingress : IngressOf) (call : Call) (at : ℕ)
     (why : Refusal)
     → ((h : CallHistory) → DeskHasCalled was h → IsTold h call why)
     → ((h : CallHistory) → DeskHasCalled was h → DeskHasCalled ready h)
-    → at ≡ ready.version → (h : CallHistory) → HasCalled (core_with was lanes intake) h
-    → IsAnswered h (core_with ready lanes intake) call (Refused at why)
-refused_history was ready lanes intake call at why told prepares now h called =
-    let before = called_desk was lanes intake h called in
+    → at ≡ ready.version → (h : CallHistory) → HasCalled (core_with was lanes ingress) h
+    → IsAnswered h (core_with ready lanes ingress) call (Refused at why)
+refused_history was ready lanes ingress call at why told prepares now h called =
+    let before = called_desk was lanes ingress h called in
     let after = prepares h before in
-    (now ∙ after.version, told h before, called_core ready lanes intake h after)
+    (now ∙ after.version, told h before, called_core ready lanes ingress h after)

@@ -17,7 +17,7 @@ use Rattle.forward_rewrite.specs.RoutedList.{packets_of}
 use Rattle.forward_rewrite.specs.Streams.{PreparedOf, state_of, committed, SendsNext}
 use Rattle.media_items.specs.OwnStreams.{is_mine}
 use Rattle.media_items.specs.Inputs.{Input}
-use Rattle.upward.specs.Upstream.{Asker}
+use Rattle.sender_feedback.specs.Upstream.{Asker}
 use Rattle.bridge_core.specs.Sent.{Sent}
 use Rattle.bridge_core.specs.Lanes.{Visit, Routed, routed_to, routed_at, routed, sendings, packets_sent, stream_of}
 use Rattle.bridge_core.specs.Lanes.{packets, packets_at, owner_of, goes, is_lanes, sends_at}

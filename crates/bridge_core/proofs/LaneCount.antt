@@ -7,7 +7,7 @@ use Rattle.std.proofs.lemmas.Bool.Decides.{nat_tests}
 use Rattle.std.proofs.lemmas.List.Elements.{filter-append}
 use Rattle.desk_rows.specs.Desk.{Desk}
 use Rattle.media_items.specs.OwnStreams.{is_mine}
-use Rattle.upward.specs.Upstream.{Asker}
+use Rattle.sender_feedback.specs.Upstream.{Asker}
 use Rattle.bridge_core.specs.Sent.{Sent}
 use Rattle.bridge_core.specs.Lanes.{Visit, sent_of_input, sends_at}
 use Rattle.bridge_core.specs.Steps.{Step, along, visit_at, visits, visit_after, sent_at, sends}

@@ -18,10 +18,10 @@ use Rattle.forward_rewrite.specs.Sending.{Sending}
 use Rattle.forward_rewrite.specs.RoutedList.{packets_of}
 use Rattle.forward_rewrite.specs.laws.Laws.{IsFound, FindsEach}
 use Rattle.topology.specs.Looking.{member_from}
-use Rattle.feedback.specs.Resends.{resends_to, resends, firsts as each_once}
+use Rattle.receiver_feedback.specs.Resends.{resends_to, resends, firsts as each_once}
 use Rattle.media_items.specs.OwnStreams.{is_mine}
 use Rattle.media_items.specs.Inputs.{Input, Request}
-use Rattle.upward.specs.Upstream.{Asker}
+use Rattle.sender_feedback.specs.Upstream.{Asker}
 use Rattle.bridge_core.specs.Sent.{Sent}
 use Rattle.bridge_core.specs.Lanes.{Visit, Routed, routed, sendings, packets_sent, packets, goes, is_lanes}
 use Rattle.bridge_core.specs.Steps.{Step, visits, visit_after}

@@ -15,7 +15,7 @@ use Rattle.mixer.specs.Hearing.{voices_of, sound_for}
 use Rattle.mixer.specs.Mixes.{Hears, hears, to_member, mixes_at, sent_by}
 use Rattle.mixer.specs.MixLists.{Carries, to_its_member}
 use Rattle.media_items.specs.Inputs.{Input}
-use Rattle.upward.specs.Upstream.{Asker}
+use Rattle.sender_feedback.specs.Upstream.{Asker}
 use Rattle.bridge_core.specs.Lanes.{Visit, given_of, mix_goes, is_lanes, sends_at}
 use Rattle.bridge_core.specs.LaneState.{visit_of}
 use Rattle.bridge_core.specs.Headline.{IsMixOf, GoesOnce}

@@ -16,7 +16,7 @@ use Rattle.mixer.specs.Hearing.{Given}
 use Rattle.mixer.specs.Mixes.{Hears, MixSent, hears, turn_of, to_member, mixes, mixes_at, sent_by}
 use Rattle.mixer.specs.MixLists.{GoOn, AreInARow, Carries, on_stream, to_its_member}
 use Rattle.media_items.specs.Inputs.{Input}
-use Rattle.upward.specs.Upstream.{Asker}
+use Rattle.sender_feedback.specs.Upstream.{Asker}
 use Rattle.bridge_core.specs.Sent.{Sent}
 use Rattle.bridge_core.specs.Sent.Sent.{media, control, note}
 use Rattle.bridge_core.specs.Lanes.{Visit, given_of, mix_goes, sent_of_input, sends_at}

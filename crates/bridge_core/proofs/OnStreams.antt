@@ -14,7 +14,7 @@ use Rattle.topology.specs.Receivers.{receivers, receiver_on, receiver_at, AreDis
 use Rattle.media_items.specs.Frame.{SourceFrame}
 use Rattle.media_items.specs.OwnStreams.{is_mine}
 use Rattle.media_items.specs.Inputs.{Input}
-use Rattle.upward.specs.Upstream.{Asker}
+use Rattle.sender_feedback.specs.Upstream.{Asker}
 use Rattle.bridge_core.specs.Sent.{Sent, about}
 use Rattle.bridge_core.specs.Lanes.{Visit, routed_at, routed_to, packets, packets_at, packets_sent, goes, is_lanes}
 use Rattle.bridge_core.specs.Lanes.{sent_of_input, sends_at}

@@ -12,7 +12,7 @@ use Rattle.mixer.specs.Mixers.{MixerOf, WasGiven, IsGiven}
 use Rattle.std.specs.List.{flat_map}
 use Rattle.topology.specs.Looking.{member_from}
 use Rattle.forward_rewrite.specs.Streams.{StreamOf}
-use Rattle.feedback.specs.PassedUp.{pli_up}
+use Rattle.receiver_feedback.specs.PassedUp.{pli_up}
 use Rattle.media_items.specs.Inputs.{Input, Sound, Told, Loss}
 use Rattle.bridge_core.specs.Sent.{Sent}
 use Rattle.bridge_core.specs.Lanes.{Visit, routed, routed_at, stream_of, given_at, given_of, mix_goes, notes, passed_up}

@@ -8,7 +8,7 @@ use Rattle.bridge_core.specs.Runs.{Runs}
 -- from a core that has taken some steps
 pub sent_along : (start : Desk) (before steps : List Step) (sent : List (List Sent)) (first last : CoreOf)
     → HasTaken first start before → Runs first steps sent last
-    → (sent ≡ along (sent_at first.intake.asker (length first.lanes) start) before steps)
+    → (sent ≡ along (sent_at first.ingress.asker (length first.lanes) start) before steps)
     × HasTaken last start (before ++ steps)
 sent_along start before [] sent first last taken run = (
   run.0,
@@ -21,9 +21,9 @@ sent_along start before (step ∷ steps) sent first last taken run =
     let rest = sent_along start after steps run.2 run.0 last here.1 run.7 in (
       run.3
           ∙ ap (λ s. s ++ run.2) here.0
-          ∙ ap (λ s. sent_at first.intake.asker (length first.lanes) start before step ++ s)
+          ∙ ap (λ s. sent_at first.ingress.asker (length first.lanes) start before step ++ s)
           (rest.0
-          ∙ ap (λ n. along (sent_at (run.0).intake.asker n start) after steps) run.5
+          ∙ ap (λ n. along (sent_at (run.0).ingress.asker n start) after steps) run.5
           ∙ ap (λ who. along (sent_at who (length first.lanes) start) after steps) run.6),
       subst (HasTaken last start) (append_assoc before (step ∷ []) steps) rest.1,
     )

@@ -13,8 +13,8 @@ use Rattle.forward_rewrite.specs.declared.counts.Counts.{Counts}
 use Rattle.forward_rewrite.specs.Streams.{StreamOf}
 use Rattle.media_items.specs.OwnStreams.{is_mine}
 use Rattle.mixer.specs.Mixes.{turns, counts_of as mix_counts_of}
-use Rattle.upward.specs.Upstream.{Asker}
-use Rattle.feedback.specs.PassedUp.{pli_up}
+use Rattle.sender_feedback.specs.Upstream.{Asker}
+use Rattle.receiver_feedback.specs.PassedUp.{pli_up}
 use Rattle.media_items.specs.Inputs.{Input, Told, Loss}
 use Rattle.bridge_core.specs.Sent.{Sent, about}
 use Rattle.bridge_core.specs.Lanes.{Visit, given_of, routed, stream_of, video_counts, notes, passed_up, tells}

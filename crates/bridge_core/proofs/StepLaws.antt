@@ -8,13 +8,13 @@ use Rattle.std.proofs.lemmas.List.{length_push}
 use Rattle.desk_rows.specs.Desk.{Desk}
 use Rattle.mixer.specs.Mixers.{WasGiven}
 use Rattle.media_items.specs.Inputs.{Input}
-use Rattle.upward.specs.Upstream.{Asker}
+use Rattle.sender_feedback.specs.Upstream.{Asker}
 use Rattle.bridge_core.specs.Sent.{Sent}
 use Rattle.bridge_core.specs.Lanes.{Visit, given_of, sends_at}
 use Rattle.bridge_core.specs.LaneState.{LaneOf, visit_of, AreLeft, HasHandled, Handles}
 use Rattle.bridge_core.specs.Sound.{HavePlaces, AreFresh}
 use Rattle.bridge_core.specs.Calls.{core_fault, most_lanes}
-use Rattle.intake.specs.Names.{is_name}
+use Rattle.ingress.specs.Names.{is_name}
 use Rattle.bridge_core.specs.Steps.{Step, version_of, desk_of, items_given, along, visit_at, visits, visit_after}
 use Rattle.bridge_core.specs.Steps.{CoreOf, Takes}
 
@@ -139,7 +139,7 @@ handles old new version desk input sent does lane lanes handled before stands =
 
 -- an item that a lane handles
 pub handled : (old new : CoreOf) (lane : ℕ) (state after : LaneOf) (input : Input) (sent : List Sent)
-    → HavePlaces old.lanes old.intake.asker → slice_get old.lanes lane ≡ Some state
+    → HavePlaces old.lanes old.ingress.asker → slice_get old.lanes lane ≡ Some state
     → Handles state after old.version old.desk input sent
     → new.version ≡ old.version → new.desk ≡ old.desk → new.lanes ≡ set old.lanes lane after
     → Takes old new (Step.item lane input) (sent ∷ [])
@@ -157,7 +157,7 @@ handled old new lane state after input sent sound at does version desk lanes sta
           ∙ ap (λ l. sends_at state.who lane l vs (visit_of old.version (length vs + 1) old.desk input)) place.1
           ∙ ap (λ who. sends_at who lane (length old.lanes) vs (visit_of old.version (length vs + 1) old.desk input))
           place.2
-          ∙ ap (sends_at old.intake.asker lane (length old.lanes) vs) same),
+          ∙ ap (sends_at old.ingress.asker lane (length old.lanes) vs) same),
       record {
         version = version ∙ taken.version ∙ sym (version_of-item before lane input);
         desk = desk ∙ taken.desk ∙ sym (desk_of-item start before lane input);

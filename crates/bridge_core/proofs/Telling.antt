@@ -25,8 +25,8 @@ use Rattle.forward_rewrite.specs.laws.Laws.{IsFound, FindsEach, FindsOnlyWhatWas
 use Rattle.media_items.specs.OwnStreams.{is_mine}
 use Rattle.mixer.specs.Mixes.{Hears, Turn, ticks_of, turns, packets_of as mixes_of, counts_of as mix_counts_of, mixes}
 use Rattle.rtcp_codec.specs.Compound.{written}
-use Rattle.upward.specs.Upstream.{Asker, upstream_packets}
-use Rattle.feedback.specs.PassedUp.{is_of_member_at, with_address, pli_up}
+use Rattle.sender_feedback.specs.Upstream.{Asker, upstream_packets}
+use Rattle.receiver_feedback.specs.PassedUp.{is_of_member_at, with_address, pli_up}
 use Rattle.media_items.specs.Inputs.{Input, Told, Loss}
 use Rattle.bridge_core.specs.Sent.{Sent}
 use Rattle.bridge_core.specs.Lanes.{Visit, Routed, given_of, routed, sendings, packets_sent, packets, stream_of, goes}

@@ -4,7 +4,7 @@ use Rattle.std.specs.Prelude.{slice_get}
 use Rattle.desk_rows.specs.Desk.{Desk, good}
 use Rattle.desk_rows.specs.Edit.{EditOf}
 use Rattle.desk_edit.specs.Calls.{CallHistory, desk_now, after_call}
-use Rattle.upward.specs.Upstream.{Asker}
+use Rattle.sender_feedback.specs.Upstream.{Asker}
 use Rattle.bridge_core.specs.Sent.{Sent}
 use Rattle.bridge_core.specs.LaneState.{LaneOf}
 use Rattle.bridge_core.specs.Steps.{Step, along, sent_at, desk_of, CoreOf, HasTaken}
@@ -26,7 +26,7 @@ called_still old new h version desk done undone called = record {
       called.ahead;
 }
 
--- what the intake does leaves the calls
+-- what the receive side does leaves the calls
 still_called : (old new : CoreOf) (h : CallHistory) → Listens old new → HasCalled old h → HasCalled new h
 still_called old new h listens called =
     called_still old new h listens.version listens.desk listens.done listens.undone called
@@ -43,17 +43,17 @@ still_taken old new start steps listens taken = record {
 
 -- and what is sent from here on
 sent_still : (old new : CoreOf) (start : Desk) (before steps : List Step) → Listens old new
-    → along (sent_at new.intake.asker (length new.lanes) start) before steps
-    ≡ along (sent_at old.intake.asker (length old.lanes) start) before steps
+    → along (sent_at new.ingress.asker (length new.lanes) start) before steps
+    ≡ along (sent_at old.ingress.asker (length old.lanes) start) before steps
 sent_still old new start before steps listens =
-    ap (λ (lanes : ℕ). along (sent_at new.intake.asker lanes start) before steps) (ap length listens.lanes)
+    ap (λ (lanes : ℕ). along (sent_at new.ingress.asker lanes start) before steps) (ap length listens.lanes)
     ∙ ap (λ (who : Asker). along (sent_at who (length old.lanes) start) before steps) listens.who
 
 -- what is sent, and that all desks are good
 pub played : (start : Desk) (before : List Step) (h : CallHistory) (events : List Event) (sent : List (List Sent))
     (first last : CoreOf)
     → HasTaken first start before → HasCalled first h → Plays first events sent last
-    → (sent ≡ along (sent_at first.intake.asker (length first.lanes) start) before (steps_of h events))
+    → (sent ≡ along (sent_at first.ingress.asker (length first.lanes) start) before (steps_of h events))
     × AreGood (steps_of h events)
 played start before h [] sent first last taken called plays = (plays.0, tt)
 played start before h (Event.called call ∷ events) sent first last taken called (ready, next, listens, accepts, plays) =
@@ -66,7 +66,7 @@ played start before h (Event.called call ∷ events) sent first last taken calle
       rest.0
           ∙ ap
           (λ (lanes : ℕ).
-          along (sent_at next.intake.asker lanes start) (before ++ Step.publish next.desk ∷ [])
+          along (sent_at next.ingress.asker lanes start) (before ++ Step.publish next.desk ∷ [])
           (steps_of (after_call h call) events))
           (ap length accepts.lanes)
           ∙ ap
@@ -76,7 +76,7 @@ played start before h (Event.called call ∷ events) sent first last taken calle
           accepts.who
           ∙ ap
           (λ (d : Desk).
-          along (sent_at ready.intake.asker (length ready.lanes) start) (before ++ Step.publish d ∷ [])
+          along (sent_at ready.ingress.asker (length ready.lanes) start) (before ++ Step.publish d ∷ [])
           (steps_of (after_call h call) events))
           desk
           ∙ sent_still first ready start before (steps_of h (Event.called call ∷ events)) listens,
@@ -92,11 +92,11 @@ played start before h (Event.item lane input ∷ events) sent first last taken c
     plays in (
       is ∙ ap (λ (es : List (List Sent)). es ++ later) step.0
           ∙ ap (λ (es : List (List Sent)).
-          sent_at ready.intake.asker (length ready.lanes) start before (Step.item lane input) ++ es)
+          sent_at ready.ingress.asker (length ready.lanes) start before (Step.item lane input) ++ es)
           (rest.0
           ∙ ap
           (λ (lanes : ℕ).
-          along (sent_at next.intake.asker lanes start) (before ++ Step.item lane input ∷ []) (steps_of h events))
+          along (sent_at next.ingress.asker lanes start) (before ++ Step.item lane input ∷ []) (steps_of h events))
           sends.lanes
           ∙ ap
           (λ (who : Asker).

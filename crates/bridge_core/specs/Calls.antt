@@ -2,7 +2,7 @@
 use Rattle.std.specs.Prelude.{◌≡◌, ℕ, ◌+◌, not, ◌||◌, nat_lt, nat_eq, if◌then◌else◌, List, Option, None, Some}
 use Rattle.desk_edit.specs.Asked.{CallOf as Call}
 use Rattle.desk_calls.specs.Desk.{call_refused, Does, IsReason}
-use Rattle.intake.specs.Names.{is_name}
+use Rattle.ingress.specs.Names.{is_name}
 use Rattle.bridge_core.specs.declared.fault.CoreFault.{CoreFault}
 use Rattle.bridge_core.specs.declared.fault.CoreFault.TheVariants.{BadLanes, BadSettings}
 use Rattle.desk_calls.specs.declared.reply.Reply.{Reply}

@@ -36,7 +36,7 @@ pub record Accepts (old new : CoreOf) (call : Call) : Type 0 where
   pub takes : Takes old new (Step.publish new.desk) []
   pub good : good new.desk ≡ true
   pub lanes : new.lanes ≡ old.lanes
-  pub who : new.intake.asker ≡ old.intake.asker
+  pub who : new.ingress.asker ≡ old.ingress.asker
 
 -- This is what a core answers to an item: whatever steps have led to it, what is sent, and its desk and its edits stay.
 pub record Sends (old new : CoreOf) (lane : ℕ) (input : Input) (sent : List Sent) : Type 0 where
@@ -46,19 +46,19 @@ pub record Sends (old new : CoreOf) (lane : ℕ) (input : Input) (sent : List Se
   pub done : new.done ≡ old.done
   pub undone : new.undone ≡ old.undone
   pub lanes : length new.lanes ≡ length old.lanes
-  pub who : new.intake.asker ≡ old.intake.asker
+  pub who : new.ingress.asker ≡ old.ingress.asker
 
--- At most the intake changed: datagrams were taken in, or receiver reports were asked for.
+-- At most the receive side changed: datagrams were taken in, or receiver reports were asked for.
 pub record Listens (old new : CoreOf) : Type 0 where
   pub version : new.version ≡ old.version
   pub desk : new.desk ≡ old.desk
   pub done : new.done ≡ old.done
   pub undone : new.undone ≡ old.undone
   pub lanes : new.lanes ≡ old.lanes
-  pub who : new.intake.asker ≡ old.intake.asker
+  pub who : new.ingress.asker ≡ old.ingress.asker
 
 -- From the first core to the last, each takes one of the events; this is what is sent for the items, in order. Before
--- each event, and after the last one, the intake may take in datagrams and report.
+-- each event, and after the last one, the receive side may take in datagrams and report.
 abbrev pub Plays : CoreOf → List Event → List (List Sent) → CoreOf → Type 0
 Plays first [] sent last = (sent ≡ []) × Listens first last
 Plays first (Event.called call ∷ events) sent last =

@@ -22,7 +22,7 @@ use Rattle.media_items.specs.Inputs.{Request}
 use Rattle.media_items.specs.Inputs.Input.{frame}
 use Rattle.bridge_core.specs.Sent.{Sent, MediaPacket}
 use Rattle.bridge_core.specs.Sent.Sent.{media, control, note}
-use Rattle.upward.specs.Upstream.{Asker}
+use Rattle.sender_feedback.specs.Upstream.{Asker}
 use Rattle.bridge_core.specs.Lanes.{Visit, packets, goes, mix_goes}
 use Rattle.bridge_core.specs.Steps.{Step, visits}
 use Rattle.bridge_core.specs.Named.{StreamKind, firsts}

@@ -5,7 +5,7 @@ use Rattle.desk_rows.specs.Desk.{Desk}
 use Rattle.forward_rewrite.specs.Streams.{StreamOf}
 use Rattle.media_items.specs.OwnStreams.{is_mine}
 use Rattle.mixer.specs.Mixers.{MixerOf, WasGiven}
-use Rattle.upward.specs.Upstream.{Asker}
+use Rattle.sender_feedback.specs.Upstream.{Asker}
 use Rattle.media_items.specs.Inputs.{Input}
 use Rattle.bridge_core.specs.Sent.{Sent}
 use Rattle.bridge_core.specs.Lanes.{Visit, routed, stream_of, given_of, sends_at}

@@ -14,7 +14,7 @@ use Rattle.media_items.specs.Frame.{SourceFrame}
 use Rattle.forward_rewrite.specs.Sending.{Sending}
 use Rattle.forward_rewrite.specs.RoutedList.{packets_of}
 use Rattle.forward_rewrite.specs.Streams.{StreamOf, state_of}
-use Rattle.feedback.specs.Resends.{resends}
+use Rattle.receiver_feedback.specs.Resends.{resends}
 use Rattle.media_items.specs.OwnStreams.{is_mine}
 use Rattle.mixer.specs.Hearing.{Given}
 use Rattle.mixer.specs.Mixes.{MixSent, sent_by}
@@ -27,10 +27,10 @@ use Rattle.topology.specs.Receivers.{slots_to}
 use Rattle.forward_rewrite.specs.declared.counts.Counts.{Counts}
 use Rattle.forward_rewrite.specs.Streams.{counts_of}
 use Rattle.mixer.specs.Mixes.{turns, counts_of as mix_counts_of}
-use Rattle.upward.specs.Upstream.{Asker, upstream_packets}
-use Rattle.feedback.specs.PassedUp.{pli_up}
-use Rattle.feedback.specs.SenderReports.{sender_packets}
-use Rattle.feedback.specs.LossNotes.{note_of}
+use Rattle.sender_feedback.specs.Upstream.{Asker, upstream_packets}
+use Rattle.receiver_feedback.specs.PassedUp.{pli_up}
+use Rattle.receiver_feedback.specs.SenderReports.{sender_packets}
+use Rattle.receiver_feedback.specs.LossNotes.{note_of}
 use Rattle.media_items.specs.Inputs.{Told, Loss}
 use Rattle.media_items.specs.Inputs.Input.{frame, audio, tick, nack, block, pli, report, renew}
 use Rattle.bridge_core.specs.Sent.{Sent, about}

@@ -5,7 +5,7 @@ use Rattle.std.specs.List.{flat_map}
 use Rattle.desk_rows.specs.Desk.{Desk}
 use Rattle.media_items.specs.Inputs.{Input}
 use Rattle.bridge_core.specs.Sent.{Sent, about}
-use Rattle.upward.specs.Upstream.{Asker}
+use Rattle.sender_feedback.specs.Upstream.{Asker}
 use Rattle.media_items.specs.Inputs.Input.{frame, audio, tick, nack, block, pli, report, renew}
 use Rattle.bridge_core.specs.Lanes.{sends_at}
 use Rattle.bridge_core.specs.Steps.{Step, along, visits, visit_after}

@@ -10,4 +10,4 @@ Runs first [] sent last = (sent ≡ []) × (last ≡ first)
 Runs first (step ∷ steps) sent last =
     (next : CoreOf) × (now : List (List Sent)) × (later : List (List Sent)) ×
     (sent ≡ now ++ later) × Takes first next step now × (length next.lanes ≡ length first.lanes)
-    × (next.intake.asker ≡ first.intake.asker) × Runs next steps later last
+    × (next.ingress.asker ≡ first.ingress.asker) × Runs next steps later last

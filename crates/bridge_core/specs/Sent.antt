@@ -1,7 +1,7 @@
 -- What lanes send, wherever its octets lie in memory (own).
 use Rattle.std.specs.Prelude.{ℕ, List, Option}
 use Rattle.rtp_codec.specs.declared.address.Address.{Address}
-use Rattle.feedback.specs.declared.noting.LossNote.{LossNote}
+use Rattle.receiver_feedback.specs.declared.noting.LossNote.{LossNote}
 use Rattle.bridge_core.specs.declared.egress.Egress.{Egress}
 use Rattle.bridge_core.specs.declared.egress.Egress.TheVariants.{Media, Control, Note}
 

@@ -1,6 +1,6 @@
 -- What is true of the lanes of every core (own).
 use Rattle.std.specs.Prelude.{◌≡◌, ℕ, List, [], length, Some, slice_get}
-use Rattle.upward.specs.Upstream.{Asker}
+use Rattle.sender_feedback.specs.Upstream.{Asker}
 use Rattle.bridge_core.specs.LaneState.{LaneOf, HasHandled}
 
 -- each lane has its number and the name of the bridge

@@ -4,9 +4,9 @@ use Rattle.std.specs.Prelude.{List, [], ◌∷◌, ◌++◌, length, Some, slice
 use Rattle.desk_rows.specs.Edit.{EditOf}
 use Rattle.desk_rows.specs.Desk.{Desk}
 use Rattle.desk_calls.specs.Desk.{DeskOf}
-use Rattle.upward.specs.Upstream.{Asker}
+use Rattle.sender_feedback.specs.Upstream.{Asker}
 use Rattle.media_items.specs.Inputs.{Input}
-use Rattle.intake.specs.inner.Holding.{IntakeOf}
+use Rattle.ingress.specs.inner.Holding.{IngressOf}
 use Rattle.bridge_core.specs.Sent.{Sent}
 use Rattle.bridge_core.specs.Lanes.{Visit, sends_at}
 use Rattle.bridge_core.specs.LaneState.{LaneOf, visit_of, HasHandled}
@@ -66,14 +66,15 @@ sent_at who lanes start before (Step.item lane input) =
 abbrev pub sends : Asker → ℕ → Desk → List Step → List (List Sent)
 sends who lanes start steps = along (sent_at who lanes start) [] steps
 
--- the core: how many calls were accepted, the desk with the edits done and those undone, the lanes, and the intake
+-- the core: how many calls were accepted, the desk with the edits done and those undone, the lanes, and the receive
+-- side
 pub record CoreOf : Type 0 where
   pub version : ℕ
   pub desk : Desk
   pub done : List (List EditOf)
   pub undone : List (List EditOf)
   pub lanes : List LaneOf
-  pub intake : IntakeOf
+  pub ingress : IngressOf
 
 -- the desk of a core, with its calls; how much memory it has is not told
 abbrev pub core_desk : CoreOf → DeskOf
@@ -90,7 +91,7 @@ pub record HasTaken (core : CoreOf) (start : Desk) (steps : List Step) : Type 0 
 abbrev pub Takes : CoreOf → CoreOf → Step → List (List Sent) → Type 0
 Takes old new step sent =
     (start : Desk) (before : List Step) → HasTaken old start before →
-    (sent ≡ sent_at old.intake.asker (length old.lanes) start before step) × HasTaken new start (before ++ step ∷ [])
+    (sent ≡ sent_at old.ingress.asker (length old.lanes) start before step) × HasTaken new start (before ++ step ∷ [])
 
 -- the lane has handled as many items as have numbers
 abbrev pub IsSpent : CoreOf → ℕ → Type 0

@@ -16,8 +16,8 @@ use Rattle.topology.specs.Looking.{member_at, member_from, sender_of, slot_at}
 use Rattle.topology.specs.Choice.{choice}
 use Rattle.topology.specs.Receivers.{slots_to}
 use Rattle.forward_rewrite.specs.declared.counts.Counts.{Counts}
-use Rattle.upward.specs.Upstream.{Asker, upstream_packets}
-use Rattle.feedback.specs.SenderReports.{sender_packets}
+use Rattle.sender_feedback.specs.Upstream.{Asker, upstream_packets}
+use Rattle.receiver_feedback.specs.SenderReports.{sender_packets}
 use Rattle.media_items.specs.Inputs.{Told, Loss}
 use Rattle.bridge_core.specs.Sent.{Sent, ControlPacket, Notice}
 use Rattle.bridge_core.specs.Sent.Sent.{media, control, note}

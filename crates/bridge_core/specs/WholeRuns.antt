@@ -13,13 +13,13 @@ use Rattle.forward_rewrite.specs.Mixes.{Sound}
 use Rattle.media_items.specs.OwnStreams.{is_mine}
 use Rattle.mixer.specs.Hearing.{voices_of, sound_for}
 use Rattle.mixer.specs.Mixes.{mixes}
-use Rattle.upward.specs.Upstream.{Asker}
+use Rattle.sender_feedback.specs.Upstream.{Asker}
 use Rattle.media_items.specs.Inputs.{Input, Request, Told, Loss}
 use Rattle.bridge_core.specs.Sent.{Sent}
 use Rattle.media_items.specs.Inputs.Input.{frame, audio, tick, nack, block, pli, report, renew}
 use Rattle.topology.specs.Looking.{member_from}
-use Rattle.feedback.specs.PassedUp.{pli_up}
-use Rattle.feedback.specs.Resends.{resends}
+use Rattle.receiver_feedback.specs.PassedUp.{pli_up}
+use Rattle.receiver_feedback.specs.Resends.{resends}
 use Rattle.bridge_core.specs.Lanes.{packets, goes, routed, routed_to, stream_of, given_of}
 use Rattle.bridge_core.specs.Lanes.{passed_up, notes, reports_to, is_lanes, sends_at}
 use Rattle.bridge_core.specs.Steps.{Step, visits, visit_after, sends}

@@ -6,10 +6,10 @@ ghost use Rattle.desk_rows.specs.Desk.{blank, good};
 ghost use Rattle.desk_edit.specs.Asked.{asked_by};
 ghost use Rattle.desk_edit.specs.Calls.{CallHistory, no_calls};
 ghost use Rattle.media_items.specs.Inputs.{input_of, is_sized};
-ghost use Rattle.intake.specs.Sources.{no_sources};
-ghost use Rattle.intake.specs.Ingested.{ingested_of, answered_of, datagram_of};
-ghost use Rattle.intake.specs.Names.{is_name};
-ghost use Rattle.intake.specs.Intakes.{Knows, TakesIn, WaitsFor, TellsSenders};
+ghost use Rattle.ingress.specs.Sources.{no_sources};
+ghost use Rattle.ingress.specs.Ingested.{ingested_of, answered_of, datagram_of};
+ghost use Rattle.ingress.specs.Names.{is_name};
+ghost use Rattle.ingress.specs.Ingresses.{Knows, TakesIn, WaitsFor, TellsSenders};
 ghost use Rattle.bridge_core.specs.Sent.{sent_of};
 ghost use Rattle.bridge_core.specs.Sound.{AreFresh};
 ghost use Rattle.bridge_core.specs.Steps.{CoreOf, HasTaken, Takes, Step, IsSpent};
@@ -22,25 +22,25 @@ use crate::lane::{LANES, LaneState};
 use desk_calls::{Desk, Reply};
 use desk_edit::Call;
 use desk_rows::Rows;
-use intake::{Ingest, Intake, Settings, WaitAnswer};
+use ingress::{Ingest, Ingress, Settings, WaitAnswer};
 use media_items::Item;
 use rtp_codec::Address;
 use std::alloc::{AllocError, Allocator, Global};
 use std::marker::Model;
 
-/// The desk with its history, the intake, and the lanes that send by the desk.
+/// The desk with its history, the receive side, and the lanes that send by the desk.
 ///
 /// There are three kinds of calls, and they may come in any order.
 ///
 /// - [`desk`](Self::desk) changes the desk: version n is the desk after n accepted calls.
-/// - [`datagram`](Self::datagram), [`wait`](Self::wait) and [`reports`](Self::reports) ask the intake. They change
-///   neither desk nor lanes. Give each item of a datagram or a wait to every lane, in order.
+/// - [`datagram`](Self::datagram), [`wait`](Self::wait) and [`reports`](Self::reports) ask the receive side. They
+///   change neither desk nor lanes. Give each item of a datagram or a wait to every lane, in order.
 /// - [`item`](Self::item) lets a lane handle an item, and returns what it sends.
 #[derive(Drop)]
 pub struct Core<A: Allocator + Copy = Global> {
     desk: Desk<A>,
     lanes: Vec<LaneState<A>, A>,
-    intake: Intake<A>,
+    ingress: Ingress<A>,
 }
 
 impl<A: Allocator + Copy> Model for Core<A> {
@@ -55,10 +55,10 @@ impl<A: Allocator + Copy> Model for Core<A> {
       done = c.desk.done;
       undone = c.desk.undone;
       lanes = c.lanes.items;
-      intake = c.intake;
+      ingress = c.ingress;
     } };
 
-    ghost invariant = { λ c. HavePlaces c.lanes.items c.intake.asker };
+    ghost invariant = { λ c. HavePlaces c.lanes.items c.ingress.asker };
 }
 
 impl<A: Allocator + Copy> Core<A> {
@@ -69,9 +69,9 @@ impl<A: Allocator + Copy> Core<A> {
         ensures history { IfOk result (λ core. HasCalled core (no_calls (blank settings.bridge_ssrc))) }
         ensures lists { IfOk result (λ core. (core.done ≡ []) × (core.undone ≡ [])) }
         ensures lanes { IfOk result (λ core. length core.lanes ≡ lanes) }
-        ensures sources { IfOk result (λ core. Knows core.intake no_sources) }
+        ensures sources { IfOk result (λ core. Knows core.ingress no_sources) }
         ensures asker { IfOk result
-            (λ core. core.intake.asker ≡ record { ssrc = settings.bridge_ssrc; cname = settings.cname }) }
+            (λ core. core.ingress.asker ≡ record { ssrc = settings.bridge_ssrc; cname = settings.cname }) }
         ensures good { OnOk result (core_fault lanes settings.cname ≡ None) }
         ensures fault { IfErr result
             (λ fault. fault ≢ CoreFault.OutOfMemory → core_fault lanes settings.cname ≡ Some fault) }
@@ -89,13 +89,13 @@ impl<A: Allocator + Copy> Core<A> {
         let Ok(states) = lane_states(alloc, lanes, &settings) else {
             return Err(CoreFault::OutOfMemory);
         };
-        let Ok(intake) = Intake::new(alloc, settings) else {
+        let Ok(ingress) = Ingress::new(alloc, settings) else {
             return Err(CoreFault::OutOfMemory);
         };
         Ok(Self {
             desk: Desk::new(alloc, rows),
             lanes: states,
-            intake,
+            ingress,
         })
     }
 
@@ -127,7 +127,7 @@ impl<A: Allocator + Copy> Core<A> {
         ensures takes { OnAccepted result (Takes self.old self.new (Step.publish self.new.desk) []) }
         ensures good { good self.new.desk ≡ true }
         ensures history { (h : CallHistory) → HasCalled self.old h → IsAnswered h self.new (asked_by call) result }
-        ensures intake { self.new.intake ≡ self.old.intake }
+        ensures ingress { self.new.ingress ≡ self.old.ingress }
     {
         match self.desk.prepare(alloc, &call) {
             Ok(prepared) => Reply::Accepted {
@@ -142,7 +142,7 @@ impl<A: Allocator + Copy> Core<A> {
 
     /// Lets a lane handle an item by the present version of the desk. On an `Err` nothing changes.
     ///
-    /// Audio has 1 sample to 200 ms, at 8000 or 44100 Hz, as the intake's items have.
+    /// Audio has 1 sample to 200 ms, at 8000 or 44100 Hz, as the receive side's items have.
     pub fn item(
         &mut self,
         alloc: A,
@@ -158,7 +158,7 @@ impl<A: Allocator + Copy> Core<A> {
         ensures lanes { length self.new.lanes ≡ length self.old.lanes }
         ensures desk { (self.new.version ≡ self.old.version) × (self.new.desk ≡ self.old.desk) }
         ensures history { (self.new.done ≡ self.old.done) × (self.new.undone ≡ self.old.undone) }
-        ensures intake { self.new.intake ≡ self.old.intake }
+        ensures ingress { self.new.ingress ≡ self.old.ingress }
     {
         let rows = self.desk.rows();
         self.lanes[lane as usize].step(alloc, self.desk.version(), rows, item)
@@ -176,19 +176,19 @@ impl<A: Allocator + Copy> Core<A> {
         octets: &[u8],
     ) -> Result<Ingest<A>, AllocError>
         ensures takes { IfOk result (λ ingest.
-            TakesIn self.old.intake self.new.intake (ingested_of ingest) octets.now
+            TakesIn self.old.ingress self.new.ingress (ingested_of ingest) octets.now
             (λ r. record { desk = self.old.desk; from = from.now; moment = moment; reading = r })) }
         ensures others { (self.new.version ≡ self.old.version) × (self.new.desk ≡ self.old.desk)
             × (self.new.done ≡ self.old.done) × (self.new.undone ≡ self.old.undone)
             × (self.new.lanes ≡ self.old.lanes) }
-        ensures asker { self.new.intake.asker ≡ self.old.intake.asker }
+        ensures asker { self.new.ingress.asker ≡ self.old.ingress.asker }
         ensures err { OnErr result (self.new ≡ self.old) }
     {
         let rows = self.desk.rows();
-        self.intake.datagram(alloc, rows, from, moment, octets)
+        self.ingress.datagram(alloc, rows, from, moment, octets)
     }
 
-    /// Tells the gate of a video source that time has passed, as [`Intake::wait`] says. Call it every 20 ms for each
+    /// Tells the gate of a video source that time has passed, as [`Ingress::wait`] says. Call it every 20 ms for each
     /// video source of the desk.
     ///
     /// Returns the datagrams to send back, and the frames to give to every lane, in order. `moment` is in nanoseconds
@@ -200,16 +200,16 @@ impl<A: Allocator + Copy> Core<A> {
         ssrc: u32,
         moment: u64,
     ) -> Result<WaitAnswer<A>, AllocError>
-        ensures waits { IfOk result (λ answer. WaitsFor self.old.intake self.new.intake (answered_of answer)
+        ensures waits { IfOk result (λ answer. WaitsFor self.old.ingress self.new.ingress (answered_of answer)
             self.old.desk (record { address = from.now; ssrc = ssrc }) moment) }
         ensures others { (self.new.version ≡ self.old.version) × (self.new.desk ≡ self.old.desk)
             × (self.new.done ≡ self.old.done) × (self.new.undone ≡ self.old.undone)
             × (self.new.lanes ≡ self.old.lanes) }
-        ensures asker { self.new.intake.asker ≡ self.old.intake.asker }
+        ensures asker { self.new.ingress.asker ≡ self.old.ingress.asker }
         ensures err { OnErr result (self.new ≡ self.old) }
     {
         let rows = self.desk.rows();
-        self.intake.wait(alloc, rows, from, ssrc, moment)
+        self.ingress.wait(alloc, rows, from, ssrc, moment)
     }
 
     /// The bridge's receiver reports (RFC 3550 section 6.4.2) at a moment, in nanoseconds since 1970.
@@ -222,15 +222,15 @@ impl<A: Allocator + Copy> Core<A> {
         moment: u64,
     ) -> Result<Vec<(Address, Vec<u8, A>), A>, AllocError>
         ensures tells { IfOk result
-            (λ up. TellsSenders self.old.intake self.new.intake (map datagram_of up.items) self.old.desk moment) }
+            (λ up. TellsSenders self.old.ingress self.new.ingress (map datagram_of up.items) self.old.desk moment) }
         ensures others { (self.new.version ≡ self.old.version) × (self.new.desk ≡ self.old.desk)
             × (self.new.done ≡ self.old.done) × (self.new.undone ≡ self.old.undone)
             × (self.new.lanes ≡ self.old.lanes) }
-        ensures asker { self.new.intake.asker ≡ self.old.intake.asker }
+        ensures asker { self.new.ingress.asker ≡ self.old.ingress.asker }
         ensures err { OnErr result (self.new ≡ self.old) }
     {
         let rows = self.desk.rows();
-        self.intake.reports(alloc, rows, moment)
+        self.ingress.reports(alloc, rows, moment)
     }
 }
 

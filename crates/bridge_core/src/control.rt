@@ -1,9 +1,9 @@
 //! What receivers report and ask for by RTCP, on the streams of a lane.
 
 ghost use Rattle.std.specs.Prelude.{◌≡◌, true, if◌then◌else◌, [], ◌∷◌, map, IfOk};
-ghost use Rattle.intake.specs.Names.{is_name};
+ghost use Rattle.ingress.specs.Names.{is_name};
 ghost use Rattle.topology.specs.Looking.{member_from};
-ghost use Rattle.feedback.specs.PassedUp.{pli_up};
+ghost use Rattle.receiver_feedback.specs.PassedUp.{pli_up};
 ghost use Rattle.media_items.specs.OwnStreams.{is_mine};
 ghost use Rattle.bridge_core.specs.Sent.{sent_of};
 ghost use Rattle.media_items.specs.Inputs.Input.{block as block_input, pli as pli_input};
@@ -14,13 +14,13 @@ ghost use Rattle.bridge_core.specs.inner.Visits.{visit_on, asker_of};
 use crate::egress::Egress;
 use crate::video::VideoStreams;
 use crate::visit::LaneVisit;
-use feedback::{note, pli_up};
+use receiver_feedback::{note, pli_up};
 use retransmit::Owner;
 use rtcp_codec::ReportBlock;
 use rtp_codec::Address;
+use sender_feedback::upstream;
 use std::alloc::{AllocError, Allocator};
 use topology::member_from;
-use upward::upstream;
 
 /// A list of this egress alone.
 fn only<A: Allocator + Copy>(alloc: A, egress: Egress<A>) -> Result<Vec<Egress<A>, A>, AllocError>

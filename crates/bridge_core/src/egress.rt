@@ -1,6 +1,6 @@
 //! What a lane sends.
 
-use feedback::LossNote;
+use receiver_feedback::LossNote;
 use retransmit::PacketBytes;
 use rtp_codec::Address;
 use std::alloc::{Allocator, Global};

@@ -3,7 +3,7 @@
 ghost use Rattle.std.specs.Prelude.{◌≡◌, ◌+◌, ◌-◌, ◌<◌, ◌≤◌, ◌^◌, ◌↔◌, true, map, [], IfOk, OnOk, OnErr};
 ghost use Rattle.bridge_core.specs.Calls.{most_lanes};
 ghost use Rattle.media_items.specs.Inputs.{input_of, is_sized};
-ghost use Rattle.intake.specs.Names.{is_name};
+ghost use Rattle.ingress.specs.Names.{is_name};
 ghost use Rattle.bridge_core.specs.Sent.{sent_of};
 ghost use Rattle.bridge_core.specs.LaneState.{HasHandled, Handles};
 
@@ -12,7 +12,7 @@ use crate::fault::LaneFault;
 use crate::parts::LaneParts;
 use crate::visit::LaneVisit;
 use desk_rows::Rows;
-use intake::Settings;
+use ingress::Settings;
 use media_items::{Item, LanePlace, Stamp};
 use std::alloc::{AllocError, Allocator, Global};
 use std::marker::Model;
@@ -34,7 +34,7 @@ pub struct LaneState<A: Allocator + Copy = Global> {
 
 impl<A: Allocator + Copy> Model for LaneState<A> {
     ghost use Rattle.std.specs.Prelude.{◌≡◌, true};
-    ghost use Rattle.intake.specs.Names.{is_name};
+    ghost use Rattle.ingress.specs.Names.{is_name};
     ghost use Rattle.bridge_core.specs.LaneState.{LaneOf};
 
     ghost Value = { LaneOf };

@@ -18,7 +18,7 @@ ghost use Rattle.forward_rewrite.specs.Mixes.{Sound};
 ghost use Rattle.media_items.specs.OwnStreams.{is_mine};
 ghost use Rattle.mixer.specs.Hearing.{voices_of, sound_for};
 ghost use Rattle.mixer.specs.Mixes.{mixes};
-ghost use Rattle.upward.specs.Upstream.{Asker};
+ghost use Rattle.sender_feedback.specs.Upstream.{Asker};
 ghost use Rattle.media_items.specs.Inputs.{Input, Request, Told, Loss};
 ghost use Rattle.bridge_core.specs.Sent.{Sent};
 ghost use Rattle.bridge_core.specs.Lanes.{packets, goes, routed_to, given_of, sends_at};
@@ -46,7 +46,7 @@ use topology::{all_who_chose_receive, mixes_are_apart, receivers_are_distinct};
 pub fn all_that_is_sent()
     ensures { (start : Desk) (steps : List Step) (sent : List (List Sent)) (first last : CoreOf)
         → HasTaken first start [] → Runs first steps sent last
-        → (sent ≡ sends first.intake.asker (length first.lanes) start steps) × HasTaken last start steps }
+        → (sent ≡ sends first.ingress.asker (length first.lanes) start steps) × HasTaken last start steps }
 {}
 
 /// What is sent on a video stream for the first time, over all versions of the desk and however many
@@ -276,7 +276,7 @@ pub fn the_headline()
         × (last.done ≡ first.done) }
     ensures holds { (start : Desk) (events : List Event) (sent : List (List Sent)) (first last : CoreOf)
         → good start ≡ true → HasTaken first start [] → HasCalled first (no_calls start) → Plays first events sent last
-        → Holds first.intake.asker (length first.lanes) start (steps_of (no_calls start) events) sent }
+        → Holds first.ingress.asker (length first.lanes) start (steps_of (no_calls start) events) sent }
     ensures lanes { (who : Asker) (few many : ℕ) (start : Desk) (events : List Event) (ssrc : ℕ) → 0 < few → 0 < many
         → (let steps = steps_of (no_calls start) events in
         sent_on ssrc (sends who few start (to_every few steps))

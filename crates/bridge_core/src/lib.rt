@@ -1,7 +1,7 @@
 //! The core of the bridge: the desk, the receive side, and the lanes that send by the desk's versions.
 //!
 //! Begin with [`Core::new`]. [`Core::desk`] takes calls, [`Core::datagram`] takes datagrams, and [`Core::item`] takes
-//! an item for a lane. A contract sees a core as its desk, its version, its lists of edits, its intake and its lanes.
+//! an item for a lane. A contract sees a core as its desk, its version, its lists of edits, its ingress and its lanes.
 //! The core has no socket, clock or thread: moments and octets come in, and lists go out. A bridge whose lanes run on
 //! threads uses [`LaneState`] alone.
 //!
@@ -43,8 +43,8 @@ pub use self::laws::{
     reports_count_first_sendings, resends_lead_back, streams_are_routed_lists, streams_have_no_gap,
     the_headline, undos_and_redos_are_accepted, undos_are_redone,
 };
-pub use feedback::LossNote;
 pub use frame_gate::{Frame, FrameFault, FramePacket};
-pub use intake::{Ingest, Intake, Outcome, Received, Settings, WaitAnswer};
+pub use ingress::{Ingest, Ingress, Outcome, Received, Settings, WaitAnswer};
 pub use media_items::{Item, MediaFrame};
+pub use receiver_feedback::LossNote;
 pub use retransmit::PacketBytes;

@@ -2,7 +2,7 @@
 
 ghost use Rattle.std.specs.Prelude.{◌≡◌, ◌++◌, true, List, map, IfOk, OnOk};
 ghost use Rattle.std.specs.List.{flat_map};
-ghost use Rattle.intake.specs.Names.{is_name};
+ghost use Rattle.ingress.specs.Names.{is_name};
 ghost use Rattle.media_items.specs.OwnStreams.{is_mine};
 ghost use Rattle.bridge_core.specs.Sent.{sent_of};
 ghost use Rattle.bridge_core.specs.Lanes.{Visit, routed, video_counts, tells};
@@ -15,8 +15,8 @@ use crate::egress::Egress;
 use crate::parts::LaneParts;
 use crate::visit::LaneVisit;
 use desk_rows::{Member, Slot};
-use feedback::sender_report;
 use forward_rewrite::Counts;
+use receiver_feedback::sender_report;
 use std::alloc::{AllocError, Allocator, Global};
 use topology::slots_to;
 

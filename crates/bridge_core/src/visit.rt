@@ -1,7 +1,7 @@
 //! What a lane reads when it handles an item.
 
 use desk_rows::Rows;
-use intake::Settings;
+use ingress::Settings;
 use media_items::{LanePlace, Stamp};
 use std::alloc::{Allocator, Global};
 

@@ -2,7 +2,7 @@
 use Rattle.std.specs.Prelude.{◌≡◌, ℕ, List}
 use Rattle.std.specs.Map.{lookup}
 use Rattle.std.specs.Option.{option_map}
-use Rattle.intake.specs.inner.Holding.{IntakeOf}
+use Rattle.ingress.specs.inner.Holding.{IngressOf}
 use Rattle.lane_wire.specs.declared.counts.SendCounts.{SendCounts}
 use Rattle.lane_wire.specs.declared.stream_numbers.Reported.{Reported}
 use Rattle.lane_wire.specs.declared.stream_numbers.StreamNumbers.{StreamNumbers}
@@ -18,9 +18,9 @@ use Rattle.bridge_stats.specs.Stats.{StatsOf}
 use Rattle.bridge_stats.specs.Paths.{stream_at}
 use Rattle.bridge_stats.specs.Shown.{IsShown, stats_text}
 
--- These rows show what was counted at a moment, and how an intake received the sources.
+-- These rows show what was counted at a moment, and how a receive side received the sources.
 abbrev pub ShowsCounts : StatsShown → Type 0
-ShowsCounts shown = (now : ℕ) × (intake : IntakeOf) × (stats : StatsOf) × IsShown now intake stats shown
+ShowsCounts shown = (now : ℕ) × (ingress : IngressOf) × (stats : StatsOf) × IsShown now ingress stats shown
 
 -- The octets are the lines of rows that show what was counted at a moment, of what others counted, of the socket's
 -- buffers, and of these seats.

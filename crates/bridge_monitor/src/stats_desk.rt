@@ -111,7 +111,7 @@ impl StatsDesk {
         let counts = FrontCounts {
             moment,
             stats,
-            intake: media.intake(),
+            ingress: media.ingress(),
             limited: media.limited(),
             lanes: &lanes.shown,
         };

@@ -1,14 +1,14 @@
 //! Rows of what a bridge counts, between the front and operators' threads.
 
 ghost use Rattle.std.specs.Prelude.{◌≡◌, ◌++◌, ℕ, List, false, OnOk, OnErr, IfOk};
-ghost use Rattle.intake.specs.inner.Holding.{IntakeOf};
+ghost use Rattle.ingress.specs.inner.Holding.{IngressOf};
 ghost use Rattle.bridge_stats.specs.Stats.{StatsOf};
 ghost use Rattle.bridge_stats.specs.Shown.{IsShown};
 ghost use Rattle.bridge_monitor.specs.Told.{TellsCounts};
 
 use crate::lane_counts::LanesShown;
 use bridge_stats::{BridgeStats, Limited, OthersShown, Seats, SocketRow, StatsShown, print_stats};
-use intake::Intake;
+use ingress::Ingress;
 use std::alloc::{AllocError, Global};
 use std::marker::Model;
 
@@ -20,7 +20,7 @@ pub(crate) struct FrontCounts<'a> {
     /// The datagrams that it took in.
     pub(crate) stats: &'a BridgeStats,
     /// The receive side, which knows how sources are received.
-    pub(crate) intake: &'a Intake,
+    pub(crate) ingress: &'a Ingress,
     /// What the rate limiter left out.
     pub(crate) limited: Limited,
     /// The lanes with their streams.
@@ -52,19 +52,19 @@ impl RowsKept {
     /// Writes what the front counted.
     fn write(&mut self, counts: &FrontCounts<'_>) -> Result<(), AllocError>
         ensures { OnOk result
-            (IsShown counts.now.moment counts.now.intake.now counts.now.stats.now self.new.counted) }
+            (IsShown counts.now.moment counts.now.ingress.now counts.now.stats.now self.new.counted) }
     {
         self.limited = counts.limited;
         self.lanes.copy(counts.lanes)?;
         counts
             .stats
-            .show(counts.moment, counts.intake, &mut self.counted)
+            .show(counts.moment, counts.ingress, &mut self.counted)
     }
 
     /// Writes what others show.
     fn copy(&mut self, others: &RowsKept) -> Result<(), AllocError>
-        ensures { OnOk result ((now : ℕ) (intake : IntakeOf) (stats : StatsOf)
-            → IsShown now intake stats others.now.counted → IsShown now intake stats self.new.counted) }
+        ensures { OnOk result ((now : ℕ) (ingress : IngressOf) (stats : StatsOf)
+            → IsShown now ingress stats others.now.counted → IsShown now ingress stats self.new.counted) }
     {
         self.limited = others.limited;
         self.lanes.copy(&others.lanes)?;
@@ -89,7 +89,7 @@ impl RowsKept {
     /// Appends their lines, with these buffers of the socket, and these seats. An `Err`, out of memory, appends
     /// nothing.
     fn print(&self, socket: SocketRow, seats: Seats, out: &mut Vec<u8>) -> Result<(), AllocError>
-        ensures ok { (now : ℕ) (intake : IntakeOf) (stats : StatsOf) → IsShown now intake stats self.now.counted
+        ensures ok { (now : ℕ) (ingress : IngressOf) (stats : StatsOf) → IsShown now ingress stats self.now.counted
             → OnOk result ((text : List ℕ)
             × (out.new.items ≡ out.old.items ++ text) × TellsCounts socket seats text) }
         ensures err { OnErr result (out.new.items ≡ out.old.items) }

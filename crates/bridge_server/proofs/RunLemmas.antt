@@ -4,9 +4,9 @@ use Rattle.std.proofs.Common.{refl, ap, sym, subst, arith}
 use Rattle.std.proofs.lemmas.List.{get_or-map, length-map}
 use Rattle.logbook.specs.Pages.{Book}
 use Rattle.desk_rows.specs.Desk.{Desk, good}
-use Rattle.versions.specs.Published.{ReaderOf, NoticeOf, new_reader}
+use Rattle.published_desk.specs.Published.{ReaderOf, NoticeOf, new_reader}
 use Rattle.bridge_core.specs.Sent.{Sent, sent_of}
-use Rattle.upward.specs.Upstream.{Asker}
+use Rattle.sender_feedback.specs.Upstream.{Asker}
 use Rattle.operator_desk.specs.Answers.{Tells}
 use Rattle.operator_desk.specs.Entry.{EntryOf}
 use Rattle.operator_desk.specs.LegalLogs.{IsLegal, calls_of}

@@ -3,8 +3,8 @@ use Rattle.std.specs.Prelude.{◌≡◌, ℕ, List, length, map, Some, slice_get
 use Rattle.logbook.specs.Pages.{Book}
 use Rattle.desk_rows.specs.Desk.{Desk}
 use Rattle.desk_edit.specs.Asked.{CallOf as Call}
-use Rattle.upward.specs.Upstream.{Asker}
-use Rattle.intake.specs.declared.settings.Settings.{Settings}
+use Rattle.sender_feedback.specs.Upstream.{Asker}
+use Rattle.ingress.specs.declared.settings.Settings.{Settings}
 use Rattle.bridge_core.specs.Sent.{Sent, sent_of}
 use Rattle.bridge_core.specs.Events.{Event}
 use Rattle.media_workers.specs.LaneRuns.{LaneNow}
@@ -28,11 +28,11 @@ pub record HaveBegun (who : Asker) (many : ℕ) (start : Desk) (publisher : Book
   pub begin : AllBegin start lanes
   pub read : AllRead publisher lanes
 
--- The lanes of a front began so, and its intake signs by the same name.
+-- The lanes of a front began so, and its ingress signs by the same name.
 pub record IsSetUp {P S : Type 0} (who : Asker) (many : ℕ) (start : Desk) (publisher : Book) (front : FrontOf P S)
     : Type 0 where
   pub begun : HaveBegun who many start publisher (lanes_in front.feed)
-  pub asker : front.intake.asker ≡ who
+  pub asker : front.ingress.asker ≡ who
 
 -- what each lane sent: what its sink took
 abbrev pub sent_into : List LaneSent → List (List Sent)

@@ -17,19 +17,19 @@ use crate::setup::Setup;
 use crate::sinks::LaneSocket;
 use crate::stopped::{DeskEnd, MediaEnd};
 use bridge_monitor::Teller;
-use front_rounds::FrontState;
+use event_loop::FrontState;
 use lane_laws::{lanes_saw_what_they_know, none_knew_more, the_running_headline};
 use lane_wire::{LaneSent, LaneWire, WireSink};
 use media_front::{PublisherOf, fault_of};
 use media_workers::{LaneEnd, Pace, PublisherName, Sink, SleepPace};
 use operator_desk::{DeskBrand, GatherFault};
 use operator_threads::Operators;
+use published_desk::Notice;
 use std::alloc::{AllocError, Global};
 use std::sync::Wait;
 use std::thread::Threads;
 use std::time::Clock;
 use udp_wire::FrontFault;
-use versions::Notice;
 
 /// The bridge's fault, if the log can't be gathered.
 fn gather_fault(fault: GatherFault) -> FrontFault

@@ -4,7 +4,7 @@
 //! Begin with [`Front::bind`], then [`Front::run`]. It returns once an operator stops the bridge, with the log, how
 //! many calls of each operator were accepted, how many items were dropped for each lane, and how much each lane sent
 //! and could not send. What lines and datagrams lead to is decided in operator_threads and media_front, and the loop
-//! that joins them is that of front_rounds. What it counts and tells is shown by bridge_monitor. Here are the sockets,
+//! that joins them is that of event_loop. What it counts and tells is shown by bridge_monitor. Here are the sockets,
 //! the clock and the threads that it runs over.
 //!
 //! Contracts say that there are as many lanes as the settings have, and that what these sent is what one list of the

@@ -1,9 +1,9 @@
 //! How a bridge begins, and the way to its end.
 
 ghost use Rattle.std.specs.Prelude.{◌≡◌, ◌≤◌, ◌+◌, true, [], vec_len, All, IfOk};
-ghost use Rattle.intake.specs.Names.{is_name};
+ghost use Rattle.ingress.specs.Names.{is_name};
 ghost use Rattle.desk_rows.specs.Desk.{blank as no_rows, good};
-ghost use Rattle.versions.specs.Published.{ReaderOf, new_reader};
+ghost use Rattle.published_desk.specs.Published.{ReaderOf, new_reader};
 ghost use Rattle.bridge_core.specs.Calls.{most_lanes};
 ghost use Rattle.operator_desk.specs.LegalLogs.{IsLegal, calls_of as calls_in};
 ghost use Rattle.operator_desk.specs.Opening.{most_operators};
@@ -24,13 +24,14 @@ use crate::stopped::Stopped;
 use crate::tracing::Tracer;
 use crate::waking::FrontWaker;
 use crate::watching::SystemWatch;
-use bridge_core::{Intake, Settings};
+use bridge_core::{Ingress, Settings};
 use bridge_monitor::Teller;
-use front_rounds::{FrontState, FrontTrace, Rounds};
+use event_loop::{FrontState, FrontTrace, Rounds};
 use lane_wire::WireSink;
 use media_front::{LaneFeed, MediaFront, pli_octets};
 use operator_desk::{DeskBrand, DeskNames, Log, MAX_OPERATORS, Seat, SharedDesk};
 use operator_threads::Operators;
+use published_desk::LaneReader;
 use rate_limiter::RateLimiter;
 use std::alloc::Global;
 use std::marker::Brand;
@@ -39,7 +40,6 @@ use std::sync::Wait;
 use std::thread::Threads;
 use std::time::Clock;
 use udp_wire::{FrontFault, ReportTimer};
-use versions::LaneReader;
 
 /// Runs a bridge until an operator stops it.
 // The log has all its cells from the start: a cell's place is its call's number, and no call may be refused because its
@@ -182,11 +182,11 @@ where
         // Settings that were read always are.
         return Err(FrontFault::Io);
     }
-    let intake = Intake::new(alloc, settings.try_clone()?)?;
+    let ingress = Ingress::new(alloc, settings.try_clone()?)?;
     let limiter = RateLimiter::new(alloc)?;
     let cost = pli_octets(alloc, settings)?;
     match LaneFeed::start(rt, alloc, readers, settings, sinks) {
-        Ok(feed) => Ok(MediaFront::new(intake, feed, limiter, cost, reports)),
+        Ok(feed) => Ok(MediaFront::new(ingress, feed, limiter, cost, reports)),
         Err(fault) => {
             note_start(rt, teller, fault);
             Err(start_fault(fault))

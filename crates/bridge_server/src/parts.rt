@@ -14,7 +14,7 @@ use crate::waking::{FrontWaker, front_waker};
 use bridge_core::Settings;
 use bridge_monitor::{LaneCounts, Teller, TraceStream, fresh_counts};
 use bridge_stats::BridgeStats;
-use front_rounds::FrontTold;
+use event_loop::FrontTold;
 use front_settings::FrontSettings;
 use lane_wire::{SharedCounts, WireSink};
 use mio::net::UdpSocket;

@@ -8,16 +8,16 @@ use crate::sockets::{FrontSocket, UdpInlet};
 use crate::watching::SystemWatch;
 use bridge_monitor::{LaneCounts, StatsDesk, Teller};
 use event_lines::{Cause, Event, LaneDrops};
-use front_rounds::{BegunRound, Rounds};
+use event_loop::{BegunRound, Rounds};
 use lane_wire::WireSink;
 use media_front::{MediaFront, PublisherOf};
 use media_workers::SleepPace;
 use operator_desk::DeskBrand;
+use published_desk::Notice;
 use std::marker::Model;
 use std::sync::Wait;
 use std::time::Clock;
 use udp_wire::FrontFault;
-use versions::Notice;
 
 /// The media of a bridge whose desk has brand H, on a runtime R.
 pub(crate) type ServerMedia<H, R> = MediaFront<

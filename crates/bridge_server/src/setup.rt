@@ -6,7 +6,7 @@ use std::marker::Brand;
 /// over it, and its own caller picks it by calling it with `Brand`.
 pub(crate) trait Setup {
     ghost use Rattle.std.specs.Prelude.{ℕ};
-    ghost use Rattle.upward.specs.Upstream.{Asker};
+    ghost use Rattle.sender_feedback.specs.Upstream.{Asker};
 
     ghost who: { Asker };
 

@@ -1,12 +1,12 @@
 //! The sockets of a bridge that runs: what has come, what is read, and what the front sends.
 
 ghost use Rattle.std.specs.Prelude.{◌≡◌, ◌<◌, ◌≤◌, length, IfOk};
-ghost use Rattle.intake.specs.Readings.{most_octets};
-ghost use Rattle.front_rounds.specs.Came.{octets_read};
+ghost use Rattle.ingress.specs.Readings.{most_octets};
+ghost use Rattle.event_loop.specs.Came.{octets_read};
 
 use crate::front::{TCP, UDP};
 use event_lines::{Cause, ServerPart, WhyFailed};
-use front_rounds::{Inlet, Read, ReadLog, TryLog};
+use event_loop::{Inlet, Read, ReadLog, TryLog};
 use mio::net::UdpSocket;
 use mio::{Events, Poll};
 use rtp_codec::Address;
@@ -112,7 +112,7 @@ impl UdpInlet {
 }
 
 impl Inlet for UdpInlet {
-    ghost use Rattle.front_rounds.specs.Logs.{read_list};
+    ghost use Rattle.event_loop.specs.Logs.{read_list};
 
     ghost came = { λ inlet. read_list inlet.log };
 
@@ -182,7 +182,7 @@ impl FrontSocket {
 
 impl Wire for FrontSocket {
     ghost use Rattle.std.specs.Prelude.{Some};
-    ghost use Rattle.front_rounds.specs.Logs.{tried_list};
+    ghost use Rattle.event_loop.specs.Logs.{tried_list};
 
     ghost attempts = { λ wire. Some (tried_list wire.log) };
 

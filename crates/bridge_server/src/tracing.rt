@@ -6,7 +6,7 @@ ghost use Rattle.lane_wire.specs.Handlings.{handed_on, HasAll};
 use bridge_core::Settings;
 use bridge_monitor::{Teller, TraceStream};
 use event_lines::Event;
-use front_rounds::FrontTold;
+use event_loop::FrontTold;
 use lane_wire::{Handled, LaneTrace};
 use operator_desk::DeskBrand;
 use operator_threads::{Follower, Operators};

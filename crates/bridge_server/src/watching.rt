@@ -1,7 +1,7 @@
 //! The clock of a bridge that runs.
 
 use event_lines::{Cause, ServerPart, WhyFailed};
-use front_rounds::{Watch, WatchLog};
+use event_loop::{Watch, WatchLog};
 use std::time::Clock;
 use udp_wire::{FrontFault, Moments};
 
@@ -39,7 +39,7 @@ impl<R: Clock + Copy + Drop> SystemWatch<R> {
 }
 
 impl<R: Clock + Drop> Watch for SystemWatch<R> {
-    ghost use Rattle.front_rounds.specs.Logs.{told_list};
+    ghost use Rattle.event_loop.specs.Logs.{told_list};
 
     ghost told = { λ watch. told_list watch.log };
 

@@ -2,8 +2,8 @@
 use Rattle.std.specs.Prelude.{ℕ, List, [], ◌∷◌, codes}
 use Rattle.rtp_codec.specs.declared.fault.RtpFault.TheVariants as rtp
 use Rattle.rtcp_codec.specs.declared.fault.RtcpFault.TheVariants as rtcp
-use Rattle.intake.specs.declared.outcome.Outcome.{Outcome}
-use Rattle.intake.specs.declared.outcome.Outcome.TheVariants as outcomes
+use Rattle.ingress.specs.declared.outcome.Outcome.{Outcome}
+use Rattle.ingress.specs.declared.outcome.Outcome.TheVariants as outcomes
 use Rattle.bridge_stats.specs.declared.kind.OutcomeKind.{OutcomeKind}
 use Rattle.bridge_stats.specs.declared.kind.OutcomeKind.TheVariants.{TooLong, Neither, RtpShort, RtpVersion, RtpCsrc}
 use Rattle.bridge_stats.specs.declared.kind.OutcomeKind.TheVariants.{RtpExtension, RtpPadding, RtcpShort, RtcpVersion}

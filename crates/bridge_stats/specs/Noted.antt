@@ -2,8 +2,8 @@
 use Rattle.std.specs.Prelude.{◌≡◌, ℕ, List}
 use Rattle.rtcp_codec.specs.Compound.{IsCompound}
 use Rattle.rtcp_codec.specs.View.{packets_of}
-use Rattle.intake.specs.declared.outcome.Outcome.TheVariants.{Rtcp}
-use Rattle.intake.specs.declared.received.Received.{Received}
+use Rattle.ingress.specs.declared.outcome.Outcome.TheVariants.{Rtcp}
+use Rattle.ingress.specs.declared.received.Received.{Received}
 use Rattle.bridge_stats.specs.declared.taken.TakenIn.{TakenIn}
 
 -- what is counted of it

@@ -13,11 +13,11 @@ use Rattle.rtp_codec.specs.declared.address.Address.{Address}
 use Rattle.rtcp_codec.specs.declared.report.ReportBlock.{ReportBlock}
 use Rattle.rtcp_codec.specs.Packet.{Packet, Sender as SenderReport, Receiver, Sdes, Bye, App, Nack, Pli, Other}
 use Rattle.rtcp_codec.specs.Compound.{IsCompound}
-use Rattle.feedback.specs.Times.{ntp_of}
-use Rattle.intake.specs.declared.outcome.Outcome.{Outcome}
-use Rattle.intake.specs.declared.outcome.Outcome.TheVariants.{TooLong, Neither, BadRtp, BadRtcp, Unknown}
-use Rattle.intake.specs.declared.outcome.Outcome.TheVariants.{BadPayload, Spent, Probation, Accepted, Late}
-use Rattle.intake.specs.declared.outcome.Outcome.TheVariants.{Duplicate, Jump, Restarted, Rtcp}
+use Rattle.receiver_feedback.specs.Times.{ntp_of}
+use Rattle.ingress.specs.declared.outcome.Outcome.{Outcome}
+use Rattle.ingress.specs.declared.outcome.Outcome.TheVariants.{TooLong, Neither, BadRtp, BadRtcp, Unknown}
+use Rattle.ingress.specs.declared.outcome.Outcome.TheVariants.{BadPayload, Spent, Probation, Accepted, Late}
+use Rattle.ingress.specs.declared.outcome.Outcome.TheVariants.{Duplicate, Jump, Restarted, Rtcp}
 use Rattle.bridge_stats.specs.declared.sender.Sender.{Sender}
 use Rattle.bridge_stats.specs.declared.path.PathReport.{PathReport}
 use Rattle.bridge_stats.specs.Received.{video_rate}

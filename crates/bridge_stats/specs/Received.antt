@@ -1,22 +1,22 @@
 -- How a source is received, as its line tells it (own; jitter: RFC 3550 A.8).
 use Rattle.std.specs.Prelude.{◌≡◌, ℕ, ◌*◌, ◌/◌, max, nat_eq, if◌then◌else◌, List, [], ◌∷◌, codes, Option, None, Some}
-use Rattle.intake.specs.Sources.{Origin, Sources}
-use Rattle.intake.specs.Intakes.{Knows}
-use Rattle.intake.specs.Reception.{reception_at}
-use Rattle.intake.specs.inner.Holding.{IntakeOf}
-use Rattle.intake.specs.declared.reception.Reception.{Reception}
+use Rattle.ingress.specs.Sources.{Origin, Sources}
+use Rattle.ingress.specs.Ingresses.{Knows}
+use Rattle.ingress.specs.Reception.{reception_at}
+use Rattle.ingress.specs.inner.Holding.{IngressOf}
+use Rattle.ingress.specs.declared.reception.Reception.{Reception}
 use Rattle.bridge_stats.specs.declared.sender.Sender.{Sender}
 use Rattle.bridge_stats.specs.Counts.{so_many}
 use Rattle.bridge_stats.specs.Text.{LinePart, words, number, no_word}
 
--- the address and SSRC of a sender, as the intake has them
+-- the address and SSRC of a sender, as the receive side has them
 abbrev pub origin_of : Sender → Origin
 origin_of sender = record { address = record { ip = sender.ip; port = sender.port }; ssrc = sender.ssrc }
 
--- The source of a sender is received so: whatever sources the intake knows, this is how it receives that one.
-abbrev pub IsReceived : IntakeOf → Sender → Option Reception → Type 0
-IsReceived intake sender reception =
-    (s : Sources) → Knows intake s → reception ≡ reception_at (origin_of sender) s.known
+-- The source of a sender is received so: whatever sources the receive side knows, this is how it receives that one.
+abbrev pub IsReceived : IngressOf → Sender → Option Reception → Type 0
+IsReceived ingress sender reception =
+    (s : Sources) → Knows ingress s → reception ≡ reception_at (origin_of sender) s.known
 
 -- the clock rate of video, in Hz
 abbrev pub video_rate : ℕ

@@ -3,10 +3,10 @@ use Rattle.std.specs.Prelude.{Bool, ◌&&◌, nat_eq}
 use Rattle.std.specs.Str.{bytes_eq}
 use Rattle.rtp_codec.specs.declared.address.Address.{Address}
 use Rattle.rtp_codec.specs.declared.writing.Header.{Header}
-use Rattle.intake.specs.declared.outcome.Outcome.{Outcome}
-use Rattle.intake.specs.declared.outcome.Outcome.TheVariants.{TooLong, Neither, BadRtp, BadRtcp, Unknown}
-use Rattle.intake.specs.declared.outcome.Outcome.TheVariants.{BadPayload, Spent, Probation, Accepted, Late}
-use Rattle.intake.specs.declared.outcome.Outcome.TheVariants.{Duplicate, Jump, Restarted, Rtcp}
+use Rattle.ingress.specs.declared.outcome.Outcome.{Outcome}
+use Rattle.ingress.specs.declared.outcome.Outcome.TheVariants.{TooLong, Neither, BadRtp, BadRtcp, Unknown}
+use Rattle.ingress.specs.declared.outcome.Outcome.TheVariants.{BadPayload, Spent, Probation, Accepted, Late}
+use Rattle.ingress.specs.declared.outcome.Outcome.TheVariants.{Duplicate, Jump, Restarted, Rtcp}
 use Rattle.bridge_stats.specs.declared.sender.Sender.{Sender}
 use Rattle.bridge_stats.specs.declared.sender.Whom.{Whom}
 use Rattle.bridge_stats.specs.declared.sender.Whom.TheVariants.{Nobody, Source, Stranger}

@@ -2,7 +2,7 @@
 use Rattle.std.specs.Prelude.{◌≡◌, ℕ, ◌-◌, ◌/◌, List, [], ◌∷◌, ◌++◌, map, codes, Option, None, Some, ℤ, All}
 use Rattle.std.specs.List.{flat_map}
 use Rattle.rtp_codec.specs.declared.address.Address.{Address}
-use Rattle.intake.specs.inner.Holding.{IntakeOf}
+use Rattle.ingress.specs.inner.Holding.{IngressOf}
 use Rattle.bridge_stats.specs.declared.taken.TakenIn.{TakenIn}
 use Rattle.bridge_stats.specs.declared.sender.Sender.{Sender}
 use Rattle.bridge_stats.specs.declared.kind.OutcomeKind.{OutcomeKind}
@@ -44,9 +44,9 @@ source_row now entry = record {
 abbrev pub counts_in : SourceRow → SourceRow
 counts_in row = record { sender = row.sender; numbers = row.numbers; ago = row.ago; reception = None }
 
--- The row tells how the intake receives its source.
-abbrev pub TellsReception : IntakeOf → SourceRow → Type 0
-TellsReception intake row = IsReceived intake row.sender row.reception
+-- The row tells how the receive side receives its source.
+abbrev pub TellsReception : IngressOf → SourceRow → Type 0
+TellsReception ingress row = IsReceived ingress row.sender row.reception
 
 abbrev pub stranger_row : Sender × StrangerNumbers → StrangerRow
 stranger_row entry = record { sender = entry.0; numbers = entry.1 }
@@ -174,11 +174,11 @@ stats_text shown others =
     ++ (flat_map stranger_line shown.strangers.items
     ++ (left_out_text shown others ++ others_text others)))
 
--- This is shown at a moment of what was counted, and of how an intake receives the sources.
-pub record IsShown (now : ℕ) (intake : IntakeOf) (stats : StatsOf) (shown : StatsShown) : Type 0 where
+-- This is shown at a moment of what was counted, and of how a receive side receives the sources.
+pub record IsShown (now : ℕ) (ingress : IngressOf) (stats : StatsOf) (shown : StatsShown) : Type 0 where
   pub kinds : shown.kinds.items ≡ map (kind_row stats.taken) all_kinds
   pub sources : map counts_in shown.sources.items ≡ map (source_row now) stats.sources.entries
-  pub receptions : All (TellsReception intake) shown.sources.items
+  pub receptions : All (TellsReception ingress) shown.sources.items
   pub strangers : shown.strangers.items ≡ map stranger_row stats.strangers.entries
   pub left_out_sources : shown.left_out_sources ≡ stats.sources.left_out
   pub left_out_strangers : shown.left_out_strangers ≡ stats.strangers.left_out

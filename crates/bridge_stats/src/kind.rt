@@ -3,7 +3,7 @@
 ghost use Rattle.std.specs.Prelude.{◌≡◌, ◌<◌};
 ghost use Rattle.bridge_stats.specs.Kinds.{outcome_kind, line_place, kind_name, all_kinds, kinds};
 
-use intake::Outcome;
+use ingress::Outcome;
 use rtcp_codec::RtcpFault;
 use rtp_codec::RtpFault;
 

@@ -1,7 +1,7 @@
 //! What a bridge counts of the datagrams that it takes in, and the lines that tell it.
 //!
 //! Begin with [`BridgeStats::new`]. [`BridgeStats::note`] notes a datagram that was received. Where somebody asks,
-//! [`BridgeStats::show`] writes rows into a [`StatsShown`], with how the intake receives the sources, and
+//! [`BridgeStats::show`] writes rows into a [`StatsShown`], with how the receive side receives the sources, and
 //! [`print_stats`] appends their lines, and those of what others count. A contract sees the list of all datagrams that
 //! were noted, the datagrams of each source that is kept, what was reported of the way of each stream that is kept, and
 //! a text as its octets.
@@ -10,7 +10,7 @@
 //! let mut stats = BridgeStats::new(alloc)?;
 //! stats.note(&rows, &ingest.received, passed); // for each datagram, by the rows of the desk
 //! let mut shown = StatsShown::new(alloc)?;
-//! stats.show(now, &intake, &mut shown)?; // now: nanoseconds since 1970
+//! stats.show(now, &ingress, &mut shown)?; // now: nanoseconds since 1970
 //! print_stats(&shown, &others, &mut out)?; // datagrams 0 octets 0 dropped TooLong, and so on
 //! ```
 #![tactic(auto)]

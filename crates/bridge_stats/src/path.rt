@@ -1,7 +1,7 @@
 //! What receivers report of the way of a stream to them.
 
 ghost use Rattle.std.specs.Prelude.{◌≡◌};
-ghost use Rattle.feedback.specs.Times.{ntp_of};
+ghost use Rattle.receiver_feedback.specs.Times.{ntp_of};
 ghost use Rattle.bridge_stats.specs.Paths.{middle_of, trip_of, round_trip, path_of, stream_at};
 
 use crate::sender::Sender;

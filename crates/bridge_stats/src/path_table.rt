@@ -13,7 +13,7 @@ ghost use Rattle.bridge_stats.specs.Noted.{HasReports};
 use crate::path::{PathReport, stream_at};
 use crate::sender::Sender;
 use desk_rows::{Member, Rows};
-use intake::{Outcome, Received};
+use ingress::{Outcome, Received};
 use lru::LruCache;
 use rtcp_codec::{ReportBlock, Rtcp};
 use rtp_codec::Address;

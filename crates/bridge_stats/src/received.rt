@@ -6,7 +6,7 @@ ghost use Rattle.bridge_stats.specs.Received.{jitter_part, frames_part, given_up
 ghost use Rattle.bridge_stats.specs.inner.Said.{said};
 
 use crate::appending::{LineField, NO_WORD};
-use intake::Reception;
+use ingress::Reception;
 
 /// The clock rate of video, in Hz.
 const VIDEO_RATE: u32 = 90_000;

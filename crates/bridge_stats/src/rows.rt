@@ -11,7 +11,7 @@ use crate::numbers::SourceNumbers;
 use crate::received::reception_fields;
 use crate::sender::Sender;
 use crate::stranger::StrangerNumbers;
-use intake::Reception;
+use ingress::Reception;
 use rtp_codec::Address;
 use std::alloc::{AllocError, Allocator};
 
@@ -35,7 +35,7 @@ pub struct SourceRow {
     pub numbers: SourceNumbers,
     /// How many whole milliseconds ago its last datagram came.
     pub ago: u64,
-    /// How the intake receives it. `None` if the intake doesn't know it.
+    /// How the receive side receives it. `None` if the receive side doesn't know it.
     pub reception: Option<Reception>,
 }
 

@@ -3,7 +3,7 @@
 ghost use Rattle.std.specs.Prelude.{◌≡◌};
 ghost use Rattle.bridge_stats.specs.Senders.{sender_of, whose};
 
-use intake::Outcome;
+use ingress::Outcome;
 use rtp_codec::{Address, Header};
 
 /// Who sends RTP packets: an address and an SSRC.

@@ -1,7 +1,7 @@
 //! What is counted, as it is shown at a moment.
 
 ghost use Rattle.std.specs.Prelude.{◌≡◌, ℕ, map, OnOk, All};
-ghost use Rattle.intake.specs.inner.Holding.{IntakeOf};
+ghost use Rattle.ingress.specs.inner.Holding.{IngressOf};
 ghost use Rattle.bridge_stats.specs.Kinds.{all_kinds};
 ghost use Rattle.bridge_stats.specs.Shown.{kind_row, source_row, counts_in, TellsReception, stranger_row, IsShown};
 ghost use Rattle.bridge_stats.specs.Stats.{StatsOf};
@@ -15,7 +15,7 @@ use crate::source_table::SourceCache;
 use crate::stats::BridgeStats;
 use crate::stranger::StrangerCache;
 use crate::tally::OutcomeTally;
-use intake::Intake;
+use ingress::Ingress;
 use std::alloc::{AllocError, Allocator};
 
 /// How many nanoseconds a millisecond has.
@@ -35,19 +35,19 @@ fn kind_row(tally: &OutcomeTally, kind: OutcomeKind) -> KindRow
 /// The row of a source at a moment.
 fn source_row<A: Allocator + Copy>(
     now: u64,
-    intake: &Intake<A>,
+    ingress: &Ingress<A>,
     sender: &Sender,
     count: &SourceCount,
 ) -> SourceRow
     ensures counts { counts_in result ≡ source_row now (sender.now, count.now) }
-    ensures reception { TellsReception intake.now result }
+    ensures reception { TellsReception ingress.now result }
 {
     let numbers = count.numbers();
     SourceRow {
         sender: *sender,
         numbers,
         ago: now.saturating_sub(numbers.last) / MILLISECOND,
-        reception: intake.reception(&sender_address(sender), sender.ssrc),
+        reception: ingress.reception(&sender_address(sender), sender.ssrc),
     }
 }
 
@@ -67,15 +67,15 @@ fn show_kinds(tally: &OutcomeTally, out: &mut Vec<KindRow>) -> Result<(), AllocE
 fn show_sources<A: Allocator + Copy>(
     cache: &SourceCache<A>,
     now: u64,
-    intake: &Intake<A>,
+    ingress: &Ingress<A>,
     out: &mut Vec<SourceRow>,
 ) -> Result<(), AllocError>
     ensures counts { OnOk result (map counts_in out.new.items ≡ map (source_row now) cache.now.entries) }
-    ensures receptions { OnOk result (All (TellsReception intake.now) out.new.items) }
+    ensures receptions { OnOk result (All (TellsReception ingress.now) out.new.items) }
 {
     out.clear();
     for (sender, count) in cache.iter() {
-        out.push(source_row(now, intake, sender, count))?;
+        out.push(source_row(now, ingress, sender, count))?;
     }
     Ok(())
 }
@@ -98,21 +98,21 @@ fn show_strangers<A: Allocator + Copy>(
 }
 
 impl<A: Allocator + Copy> BridgeStats<A> {
-    /// Shows what is counted at a moment, and how the intake receives the sources, in place of what was shown before.
-    /// It takes memory only for more rows than there ever were. On out of memory, the only error, what is shown is of
-    /// no use.
+    /// Shows what is counted at a moment, and how the receive side receives the sources, in place of what was shown
+    /// before. It takes memory only for more rows than there ever were. On out of memory, the only error, what is shown
+    /// is of no use.
     pub fn show(
         &self,
         now: u64,
-        intake: &Intake<A>,
+        ingress: &Ingress<A>,
         shown: &mut StatsShown,
     ) -> Result<(), AllocError>
-        ensures { OnOk result (IsShown now intake.now self.now shown.new) }
+        ensures { OnOk result (IsShown now ingress.now self.now shown.new) }
     {
         let sources = &self.sources;
         let strangers = &self.strangers;
         show_kinds(&self.tally, &mut shown.kinds)?;
-        show_sources(&sources.cache, now, intake, &mut shown.sources)?;
+        show_sources(&sources.cache, now, ingress, &mut shown.sources)?;
         show_strangers(&strangers.cache, &mut shown.strangers)?;
         shown.left_out_sources = sources.left_out;
         shown.left_out_strangers = strangers.left_out;
@@ -133,8 +133,8 @@ impl StatsShown {
     /// Shows what others show, in place of what was shown before. It takes memory only for more rows than there ever
     /// were. On out of memory, the only error, what is shown is of no use.
     pub fn show_again(&mut self, others: &StatsShown) -> Result<(), AllocError>
-        ensures { OnOk result ((now : ℕ) (intake : IntakeOf) (stats : StatsOf)
-            → IsShown now intake stats others.now → IsShown now intake stats self.new) }
+        ensures { OnOk result ((now : ℕ) (ingress : IngressOf) (stats : StatsOf)
+            → IsShown now ingress stats others.now → IsShown now ingress stats self.new) }
     {
         show_rows(&others.kinds, &mut self.kinds)?;
         show_rows(&others.sources, &mut self.sources)?;

@@ -8,7 +8,7 @@ use crate::numbers::SourceNumbers;
 use crate::stretch::Stretch;
 use crate::taken::TakenIn;
 use crate::taken_log::TakenLog;
-use intake::Outcome;
+use ingress::Outcome;
 use std::marker::Model;
 
 /// Whether a packet with this outcome counts for its source.

@@ -16,7 +16,7 @@ use crate::stranger::Strangers;
 use crate::taken::TakenIn;
 use crate::tally::OutcomeTally;
 use desk_rows::Rows;
-use intake::Received;
+use ingress::Received;
 use rtp_codec::Address;
 use std::alloc::{AllocError, Allocator, Global};
 use std::marker::Model;

@@ -5,7 +5,7 @@ ghost use Rattle.bridge_stats.specs.Counts.{so_many};
 ghost use Rattle.bridge_stats.specs.Sources.{expected_of, numbers_after};
 ghost use Rattle.bridge_stats.specs.inner.Kept.{IsStretch};
 
-use intake::Outcome;
+use ingress::Outcome;
 
 /// What is kept of the extended numbers of a source since it was initialised.
 #[derive(Clone, Copy)]

@@ -3,7 +3,7 @@
 ghost use Rattle.std.specs.Prelude.{◌≡◌};
 ghost use Rattle.bridge_stats.specs.Noted.{taken_of};
 
-use intake::{Outcome, Received};
+use ingress::{Outcome, Received};
 use rtp_codec::{Address, Header};
 use std::alloc::Allocator;
 

@@ -5,7 +5,7 @@ use Rattle.std.specs.List.{list_all}
 use Rattle.std.specs.Option.{option_and_then, option_map}
 use Rattle.toml.specs.Data.{Data, integer, as_str}
 use Rattle.rtp_codec.specs.declared.address.Address.{Address}
-use Rattle.intake.specs.Names.{is_name}
+use Rattle.ingress.specs.Names.{is_name}
 use Rattle.desk_text.specs.Addresses.{address_of}
 use Rattle.desk_text.specs.Lines.{is_printable}
 

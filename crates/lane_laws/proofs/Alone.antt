@@ -9,7 +9,7 @@ use Rattle.std.proofs.lemmas.List.Elements.{filter-append}
 use Rattle.desk_rows.specs.Desk.{Desk}
 use Rattle.desk_edit.specs.Asked.{CallOf as Call}
 use Rattle.desk_edit.specs.Calls.{CallHistory, no_calls, after_call}
-use Rattle.upward.specs.Upstream.{Asker}
+use Rattle.sender_feedback.specs.Upstream.{Asker}
 use Rattle.bridge_core.specs.Sent.{Sent, about}
 use Rattle.bridge_core.specs.Lanes.{Visit, is_lanes, sent_of_input, sends_at}
 use Rattle.bridge_core.specs.Steps.{Step, along, visits, visit_after, sent_at, sends}

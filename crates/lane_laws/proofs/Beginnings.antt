@@ -12,9 +12,9 @@ use Rattle.desk_rows.specs.Edit.{EditOf}
 use Rattle.desk_edit.specs.Asked.{CallOf as Call}
 use Rattle.desk_edit.specs.Calls.{no_calls, desk_now}
 use Rattle.desk_calls.specs.Accepted.{after_calls}
-use Rattle.versions.specs.Published.{after_lists}
-use Rattle.versions.proofs.Prefixes.{prefix_trans, prefix_whole, prefix_length}
-use Rattle.upward.specs.Upstream.{Asker}
+use Rattle.published_desk.specs.Published.{after_lists}
+use Rattle.published_desk.proofs.Prefixes.{prefix_trans, prefix_whole, prefix_length}
+use Rattle.sender_feedback.specs.Upstream.{Asker}
 use Rattle.bridge_core.specs.Sent.{Sent, sent_of}
 use Rattle.bridge_core.specs.Lanes.{Visit}
 use Rattle.bridge_core.specs.LaneState.{visit_of}

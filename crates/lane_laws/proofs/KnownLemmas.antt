@@ -4,7 +4,7 @@ use Rattle.std.specs.Prelude.{slice_index_or}
 use mathlib.Core.List.{IsPrefix}
 use Rattle.logbook.specs.Pages.{Book}
 use Rattle.desk_rows.specs.Edit.{EditOf}
-use Rattle.versions.proofs.Prefixes.{prefix_length}
+use Rattle.published_desk.proofs.Prefixes.{prefix_length}
 use Rattle.media_workers.specs.declared.lane_end.LaneEnd.{LaneEnd}
 use Rattle.media_workers.specs.Ports.{PortOf}
 use Rattle.media_workers.specs.Bridges.{Taking, AllEnded}

@@ -7,7 +7,7 @@ ghost use Rattle.std.specs.Prelude.{◌≡◌};
 ghost use Rattle.lane_laws.specs.Learnt.{HaveKnown, HaveEnded};
 
 use media_workers::{LaneEnd, Pace, PublisherName, Sink};
-use versions::Notice;
+use published_desk::Notice;
 
 /// Whether no lane knew of a later version than this notice when it ended. If so, what each lane knew is a beginning of
 /// the notice's lists.

@@ -5,7 +5,7 @@ ghost use Rattle.desk_rows.specs.Desk.{Desk};
 ghost use Rattle.desk_rows.specs.Edit.{EditOf};
 ghost use Rattle.desk_edit.specs.Asked.{CallOf};
 ghost use Rattle.desk_edit.specs.Calls.{no_calls};
-ghost use Rattle.versions.specs.Published.{after_lists};
+ghost use Rattle.published_desk.specs.Published.{after_lists};
 ghost use Rattle.bridge_core.specs.Steps.{sends};
 ghost use Rattle.bridge_core.specs.Events.{steps_of};
 ghost use Rattle.bridge_core.specs.Named.{sent_on};

@@ -5,7 +5,7 @@ use Rattle.std.proofs.Common.{inr, length-set}
 use Rattle.std.specs.Prelude.{slice_get, slice_set, is_ok, ◌||◌, if◌then◌else◌, nat_le}
 use Rattle.std.proofs.lemmas.List.Elements.{All-set}
 use Rattle.logbook.specs.Pages.{Book}
-use Rattle.versions.specs.Published.{NoticeOf}
+use Rattle.published_desk.specs.Published.{NoticeOf}
 use Rattle.media_items.specs.Inputs.{input_of}
 use Rattle.media_workers.specs.declared.lane_item.LaneItem.{LaneItem}
 use Rattle.media_workers.specs.declared.parcel.Parcel.{Parcel}

@@ -3,10 +3,10 @@ use Rattle.std.proofs.Common.{◌≡◌, ◌∙◌, ◌&&◌, ℕ, Bool, if◌th
 use Rattle.std.specs.Option.{option_and_then}
 use Rattle.rtp_codec.specs.declared.address.Address.{Address}
 use Rattle.desk_rows.specs.Desk.{Desk}
-use Rattle.intake.specs.declared.received.Received.{Received}
-use Rattle.intake.specs.Readings.{Reading, too_long, neither, no_packet, packet, no_compound, compound}
-use Rattle.intake.specs.Received.{row_in, IsReceived}
-use Rattle.intake.specs.inner.Holding.{IntakeOf}
+use Rattle.ingress.specs.declared.received.Received.{Received}
+use Rattle.ingress.specs.Readings.{Reading, too_long, neither, no_packet, packet, no_compound, compound}
+use Rattle.ingress.specs.Received.{row_in, IsReceived}
+use Rattle.ingress.specs.inner.Holding.{IngressOf}
 use Rattle.media_front.specs.Fronts.{Arrival}
 use Rattle.media_front.specs.Probations.{video_ssrc, video_in, is_accepted, ends_probation, EndsProbation}
 
@@ -23,7 +23,7 @@ same_video desk from (compound packets) = refl
 abbrev pub ended_of : {A : Type 0} → Received A → Bool → Option ℕ
 ended_of r ends = if ends then option_and_then video_ssrc r.source else None
 
-pub ended : {A : Type 0} (arrival : Arrival) (old new : IntakeOf) (r : Received A) (ssrc : Option ℕ)
+pub ended : {A : Type 0} (arrival : Arrival) (old new : IngressOf) (r : Received A) (ssrc : Option ℕ)
     → ssrc ≡ ended_of r (is_accepted r.outcome && r.begins)
     → IsReceived arrival.desk arrival.from arrival.moment arrival.octets old.epochs new.epochs r
     → EndsProbation arrival r.outcome old new ssrc

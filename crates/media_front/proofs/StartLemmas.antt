@@ -3,8 +3,8 @@ use Rattle.std.proofs.Common.{◌≡◌, ℕ, zero, suc, List, [], ◌∷◌, �
 use Rattle.std.proofs.Common.{refl, ap, sym, subst, ◌∙◌, arith}
 use Rattle.std.specs.List.{AllByRecursion}
 use Rattle.logbook.specs.Pages.{Book}
-use Rattle.versions.specs.Published.{NoticeOf}
-use Rattle.upward.specs.Upstream.{Asker}
+use Rattle.published_desk.specs.Published.{NoticeOf}
+use Rattle.sender_feedback.specs.Upstream.{Asker}
 use Rattle.media_workers.specs.LaneRuns.{LaneNow}
 use Rattle.media_workers.specs.Ports.{port_of}
 use Rattle.media_front.specs.declared.lane_status.LaneStatus.{LaneStatus}

@@ -1,4 +1,4 @@
--- What is done with the intake's answers, and waits of many sources.
+-- What is done with the receive side's answers, and waits of many sources.
 use Rattle.std.proofs.Common.{◌≡◌, ◌<◌, ◌+◌, ℕ, List, ◌++◌, length, map, take, drop, filter, get_or, Option, ap, sym}
 use Rattle.std.proofs.Common.{subst}
 use Rattle.std.proofs.Common.{◌∙◌, Result, Ok, Err, OnErr}
@@ -10,11 +10,11 @@ use Rattle.desk_rows.specs.Desk.{Desk}
 use Rattle.topology.specs.Looking.{source_in}
 use Rattle.topology.proofs.KindRows.{source_rows}
 use Rattle.media_items.specs.Inputs.{input_of}
-use Rattle.intake.specs.declared.received.Received.{Received}
-use Rattle.intake.specs.declared.ingest.WaitAnswer.{WaitAnswer}
-use Rattle.intake.specs.Ingested.{Ingested, datagram_of}
-use Rattle.intake.specs.Sources.{Origin}
-use Rattle.upward.specs.Upstream.{Asker}
+use Rattle.ingress.specs.declared.received.Received.{Received}
+use Rattle.ingress.specs.declared.ingest.WaitAnswer.{WaitAnswer}
+use Rattle.ingress.specs.Ingested.{Ingested, datagram_of}
+use Rattle.ingress.specs.Sources.{Origin}
+use Rattle.sender_feedback.specs.Upstream.{Asker}
 use Rattle.rate_limiter.specs.declared.bucket.Bucket.{Bucket}
 use Rattle.udp_wire.specs.Attempts.{Attempt}
 use Rattle.media_front.specs.FedLanes.{FedLane, AllAreGiven}
@@ -41,7 +41,7 @@ with_answer r a = record { outcome = r.outcome; up = map datagram_of a.up.items;
 pub handled_at : {P S : Type 0} (arrival : Arrival) (ingested : Ingested) (mid old new : FrontOf P S)
     (before after : Option (List Attempt))
     → mid.limiter ≡ old.limiter → mid.feed ≡ old.feed → mid.limited ≡ old.limited
-    → mid.intake.asker ≡ old.intake.asker
+    → mid.ingress.asker ≡ old.ingress.asker
     → HasHandled arrival ingested mid new before after → HasHandled arrival ingested old new before after
 handled_at {P} {S} arrival ingested mid old new before after limiter feed limited asker h = record {
   up =
@@ -52,14 +52,14 @@ handled_at {P} {S} arrival ingested mid old new before after limiter feed limite
       subst
       (λ (f : List (FedLane P S)).
       AllAreGiven
-      (granted_of (pli_octets old.intake.asker) arrival.moment ingested.items (once_paid arrival ingested old.limiter))
+      (granted_of (pli_octets old.ingress.asker) arrival.moment ingested.items (once_paid arrival ingested old.limiter))
       f
       new.feed)
       feed
       (subst
       (λ (a : List Bucket).
       AllAreGiven
-      (granted_of (pli_octets old.intake.asker) arrival.moment ingested.items (once_paid arrival ingested a)) mid.feed
+      (granted_of (pli_octets old.ingress.asker) arrival.moment ingested.items (once_paid arrival ingested a)) mid.feed
       new.feed)
       limiter
       (subst
@@ -69,7 +69,7 @@ handled_at {P} {S} arrival ingested mid old new before after limiter feed limite
       asker h.items));
   limiter = h.limiter
       ∙ (ap (λ (who : Asker). once_asked (pli_octets who) arrival ingested mid.limiter) asker
-      ∙ ap (once_asked (pli_octets old.intake.asker) arrival ingested) limiter);
+      ∙ ap (once_asked (pli_octets old.ingress.asker) arrival ingested) limiter);
   limited = h.limited
       ∙ (ap
       (λ (who : Asker).
@@ -78,11 +78,11 @@ handled_at {P} {S} arrival ingested mid old new before after limiter feed limite
       asker
       ∙ (ap
       (λ (a : List Bucket).
-      after_limiting (pli_octets old.intake.asker) arrival.moment ingested.items (once_paid arrival ingested a)
+      after_limiting (pli_octets old.ingress.asker) arrival.moment ingested.items (once_paid arrival ingested a)
       mid.limited)
       limiter
       ∙ ap
-      (after_limiting (pli_octets old.intake.asker) arrival.moment ingested.items
+      (after_limiting (pli_octets old.ingress.asker) arrival.moment ingested.items
       (once_paid arrival ingested old.limiter))
       limited));
 }
@@ -124,5 +124,5 @@ waits_in_part desk now f rows i d a b c wa wb wc low far part =
       behind = part.behind;
       waited = folds_both (HasWaitedOnce desk now) (a, wa) front (b, wb) part.first (part.behind, wc) far part.waited;
       unfed = part.unfed;
-      intake = part.intake;
+      ingress = part.ingress;
     }

@@ -2,7 +2,7 @@
 use Rattle.std.specs.Prelude.{◌≡◌, ◌⊎◌, ℕ, ◌+◌, ◌-◌, ◌^◌, min, Bool, false, ◌||◌, if◌then◌else◌, nat_le, List, map}
 use Rattle.std.specs.Prelude.{Option, Some, None}
 use Rattle.std.specs.List.{AllZip, FoldsTo}
-use Rattle.versions.specs.Published.{NoticeOf}
+use Rattle.published_desk.specs.Published.{NoticeOf}
 use Rattle.media_items.specs.Inputs.{Input, input_of}
 use Rattle.media_workers.specs.declared.lane_item.LaneItem.{LaneItem}
 use Rattle.media_workers.specs.declared.parcel.Parcel.TheVariants.{Work}

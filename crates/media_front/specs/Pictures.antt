@@ -2,11 +2,11 @@
 -- done is own).
 use Rattle.std.specs.Prelude.{◌≡◌, ℕ, Bool, List, [], ◌∷◌, Option}
 use Rattle.desk_rows.specs.Desk.{Desk}
-use Rattle.upward.specs.Upstream.{Asker}
-use Rattle.intake.specs.Sources.{Origin}
-use Rattle.intake.specs.Ingested.{Ingested}
-use Rattle.intake.specs.Taking.{picture_request}
-use Rattle.intake.specs.declared.outcome.Outcome.TheVariants.{Unknown}
+use Rattle.sender_feedback.specs.Upstream.{Asker}
+use Rattle.ingress.specs.Sources.{Origin}
+use Rattle.ingress.specs.Ingested.{Ingested}
+use Rattle.ingress.specs.Taking.{picture_request}
+use Rattle.ingress.specs.declared.outcome.Outcome.TheVariants.{Unknown}
 use Rattle.udp_wire.specs.Attempts.{Attempt}
 use Rattle.media_front.specs.Paid.{is_paid_for}
 use Rattle.media_front.specs.Fronts.{FrontOf, HasHandled}
@@ -22,6 +22,6 @@ request_for who o = record { outcome = Unknown; up = picture_request who o ∷ [
 pub record HasAsked {P S : Type 0} (o : Origin) (sent : Bool) (old new : FrontOf P S)
     (before after : Option (List Attempt)) : Type 0 where
   pub handled : (desk : Desk) (moment : ℕ)
-      → HasHandled (silence desk o.address moment) (request_for old.intake.asker o) old new before after
-  pub answer : sent ≡ is_paid_for (picture_request old.intake.asker o) old.limiter
+      → HasHandled (silence desk o.address moment) (request_for old.ingress.asker o) old new before after
+  pub answer : sent ≡ is_paid_for (picture_request old.ingress.asker o) old.limiter
   pub same : new ≡ record old { limiter = new.limiter }

@@ -8,12 +8,12 @@ use Rattle.desk_rows.specs.declared.row.Media.TheVariants.{Video}
 use Rattle.desk_rows.specs.Row.{same_media}
 use Rattle.desk_rows.specs.Desk.{Desk}
 use Rattle.topology.specs.Looking.{source_from}
-use Rattle.intake.specs.Readings.{Reading, IsReading, too_long, neither, no_packet, packet, no_compound, compound}
-use Rattle.intake.specs.declared.outcome.Outcome.{Outcome}
-use Rattle.intake.specs.declared.outcome.Outcome.TheVariants.{TooLong, Neither, BadRtp, BadRtcp, Unknown, BadPayload}
-use Rattle.intake.specs.declared.outcome.Outcome.TheVariants.{Spent, Probation, Accepted, Late, Duplicate, Jump}
-use Rattle.intake.specs.declared.outcome.Outcome.TheVariants.{Restarted, Rtcp}
-use Rattle.intake.specs.inner.Holding.{IntakeOf}
+use Rattle.ingress.specs.Readings.{Reading, IsReading, too_long, neither, no_packet, packet, no_compound, compound}
+use Rattle.ingress.specs.declared.outcome.Outcome.{Outcome}
+use Rattle.ingress.specs.declared.outcome.Outcome.TheVariants.{TooLong, Neither, BadRtp, BadRtcp, Unknown, BadPayload}
+use Rattle.ingress.specs.declared.outcome.Outcome.TheVariants.{Spent, Probation, Accepted, Late, Duplicate, Jump}
+use Rattle.ingress.specs.declared.outcome.Outcome.TheVariants.{Restarted, Rtcp}
+use Rattle.ingress.specs.inner.Holding.{IngressOf}
 use Rattle.media_front.specs.Fronts.{Arrival}
 
 -- the SSRC of a source, if it is video
@@ -51,7 +51,7 @@ abbrev pub ends_probation : Outcome → (before after : ℕ) → Bool
 ends_probation outcome before after = is_accepted outcome && nat_lt before after
 
 -- The datagram ended the probation of the video source of this SSRC, or of none.
-abbrev pub EndsProbation : Arrival → Outcome → (old new : IntakeOf) → Option ℕ → Type 0
+abbrev pub EndsProbation : Arrival → Outcome → (old new : IngressOf) → Option ℕ → Type 0
 EndsProbation arrival outcome old new ended =
     (r : Reading) → IsReading arrival.octets r → ended
     ≡ (if ends_probation outcome old.epochs new.epochs then video_in arrival.desk arrival.from r else None)

@@ -8,11 +8,11 @@ use Rattle.desk_rows.specs.Row.{same_media}
 use Rattle.desk_rows.specs.Desk.{Desk}
 use Rattle.topology.specs.Looking.{member_at}
 use Rattle.topology.specs.Choice.{sources_of}
-use Rattle.intake.specs.Sources.{Origin}
-use Rattle.intake.specs.Ingested.{Ingested}
-use Rattle.intake.specs.Intakes.{WaitsFor}
-use Rattle.intake.specs.inner.Holding.{IntakeOf}
-use Rattle.intake.specs.declared.outcome.Outcome.TheVariants.{Unknown}
+use Rattle.ingress.specs.Sources.{Origin}
+use Rattle.ingress.specs.Ingested.{Ingested}
+use Rattle.ingress.specs.Ingresses.{WaitsFor}
+use Rattle.ingress.specs.inner.Holding.{IngressOf}
+use Rattle.ingress.specs.declared.outcome.Outcome.TheVariants.{Unknown}
 use Rattle.udp_wire.specs.Attempts.{Attempt}
 use Rattle.media_front.specs.Fronts.{FrontOf, Arrival, HasHandled}
 
@@ -20,17 +20,17 @@ use Rattle.media_front.specs.Fronts.{FrontOf, Arrival, HasHandled}
 abbrev pub silence : Desk → Address → (moment : ℕ) → Arrival
 silence desk from moment = record { desk = desk; from = from; moment = moment; octets = [] }
 
--- The intake had a wait of the source of this origin. It is handled as an arrival of no octets that is no member's: it
--- refills nothing, and what is sent costs its octets.
+-- The receive side had a wait of the source of this origin. It is handled as an arrival of no octets that is no
+-- member's: it refills nothing, and what is sent costs its octets.
 pub record HasWaited {P S : Type 0} (desk : Desk) (o : Origin) (moment : ℕ) (old new : FrontOf P S)
     (before after : Option (List Attempt)) : Type 0 where
   pub ingested : Ingested
   pub became : ingested.outcome ≡ Unknown
-  pub waits : WaitsFor old.intake new.intake ingested desk o moment
+  pub waits : WaitsFor old.ingress new.ingress ingested desk o moment
   pub handled : HasHandled (silence desk o.address moment) ingested old new before after
 
--- The intake is as it was, or has had a wait of the source of this origin.
-abbrev pub MayHaveWaited : Desk → Origin → (moment : ℕ) → IntakeOf → IntakeOf → Type 0
+-- The receive side is as it was, or has had a wait of the source of this origin.
+abbrev pub MayHaveWaited : Desk → Origin → (moment : ℕ) → IngressOf → IngressOf → Type 0
 MayHaveWaited desk o moment old new = (new ≡ old) ⊎ ((ingested : Ingested) × WaitsFor old new ingested desk o moment)
 
 -- where the packets of a video source come from: its member's address, and its SSRC
@@ -53,12 +53,12 @@ pub record HasWaitedOnce {P S : Type 0} (desk : Desk) (moment : ℕ) (old : OnWi
   pub waited : HasWaited desk o moment old.0 new.0 old.1 new.1
   pub same : new.0
       ≡ record old.0 {
-        intake = new.0.intake;
+        ingress = new.0.ingress;
         feed = new.0.feed;
         limiter = new.0.limiter;
         limited = new.0.limited;
       }
-  pub asker : new.0.intake.asker ≡ old.0.intake.asker
+  pub asker : new.0.ingress.asker ≡ old.0.ingress.asker
 
 -- The sources of these origins have waited, each once and in this order, at this moment.
 abbrev pub HaveWaited : {P S : Type 0} → Desk → (moment : ℕ) → List Origin → (old new : FrontOf P S)
@@ -67,7 +67,7 @@ HaveWaited desk moment origins old new before after =
     FoldsTo (HasWaitedOnce desk moment) (old, before) origins (new, after)
 
 -- Of these origins the first sources have waited. For the next one nothing was sent or given, though its wait may have
--- come to the intake.
+-- come to the receive side.
 pub record HaveWaitedInPart {P S : Type 0} (desk : Desk) (moment : ℕ) (origins : List Origin) (old new : FrontOf P S)
     (before after : Option (List Attempt)) : Type 0 where
   pub first : List Origin
@@ -76,5 +76,5 @@ pub record HaveWaitedInPart {P S : Type 0} (desk : Desk) (moment : ℕ) (origins
   pub order : origins ≡ first ++ next ∷ rest
   pub behind : FrontOf P S
   pub waited : HaveWaited desk moment first old behind before after
-  pub unfed : new ≡ record behind { intake = new.intake }
-  pub intake : MayHaveWaited desk next moment behind.intake new.intake
+  pub unfed : new ≡ record behind { ingress = new.ingress }
+  pub ingress : MayHaveWaited desk next moment behind.ingress new.ingress

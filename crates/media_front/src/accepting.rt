@@ -1,8 +1,8 @@
 //! Video sources that are accepted for the first time.
 
 ghost use Rattle.std.specs.Prelude.{◌≡◌, ◌&&◌, option_and_then};
-ghost use Rattle.intake.specs.Received.{IsReceived};
-ghost use Rattle.intake.specs.inner.Holding.{IntakeOf};
+ghost use Rattle.ingress.specs.Received.{IsReceived};
+ghost use Rattle.ingress.specs.inner.Holding.{IngressOf};
 ghost use Rattle.media_front.specs.Fronts.{Arrival};
 ghost use Rattle.media_front.specs.Probations.{video_ssrc, is_accepted, EndsProbation};
 
@@ -55,9 +55,9 @@ fn ends_probation(outcome: Outcome, begins: bool) -> bool
 /// The SSRC of the video source whose probation a datagram ended, if it ended one (RFC 3550 section A.1).
 ///
 /// The frame that such a source was in is left out, so ask its sender for a picture, by `ask_picture` of the front to
-/// the address that the datagram came from. A source that restarts is not meant: the intake asks for its picture.
+/// the address that the datagram came from. A source that restarts is not meant: the receive side asks for its picture.
 pub fn ended_by(received: &Received) -> Option<u32>
-    ensures { (arrival : Arrival) (old new : IntakeOf)
+    ensures { (arrival : Arrival) (old new : IngressOf)
         → IsReceived arrival.desk arrival.from arrival.moment arrival.octets old.epochs new.epochs received.now
         → EndsProbation arrival received.now.outcome old new result }
 {

@@ -8,11 +8,11 @@ ghost use Rattle.media_front.specs.FedLanes.{FedLane, ports_in, owing_notice, af
 
 use crate::lane_status::{LaneStatus, owe_all, signal_all};
 use media_workers::{Bridge, LaneEnd, Pace, PublisherName, Signal, Sink};
+use published_desk::Notice;
 use std::alloc::Global;
 use std::marker::Model;
 use std::sync::{Arc, Wait};
 use std::thread::Threads;
-use versions::Notice;
 
 /// The lanes of a bridge, each with its signal, with the notice that it is owed and with how many parcels were dropped
 /// for it. It is not `Drop`: end it by [`LaneFeed::close`].

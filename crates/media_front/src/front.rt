@@ -3,7 +3,7 @@
 ghost use Rattle.std.specs.Prelude.{◌≡◌, ◌↔◌, ◌<◌, ◌≤◌, true, length, map, Some, OnErr, IfOk, slice_get};
 ghost use Rattle.std.specs.Bool.{MatchBool};
 ghost use Rattle.media_items.specs.Inputs.{Input};
-ghost use Rattle.intake.specs.Received.{IsReceived};
+ghost use Rattle.ingress.specs.Received.{IsReceived};
 ghost use Rattle.bridge_core.specs.Calls.{most_lanes};
 ghost use Rattle.media_workers.specs.Bridges.{AllEnded};
 ghost use Rattle.udp_wire.specs.Pacing.{tick_gap, most_ticks, is_behind, report_due, after_report};
@@ -17,10 +17,11 @@ use crate::feed::LaneFeed;
 use crate::limiting::none_limited;
 use crate::timer_item::TimerItem;
 use crate::trying::try_all;
-use bridge_core::{Intake, Received};
+use bridge_core::{Ingress, Received};
 use bridge_stats::Limited;
 use desk_rows::Rows;
 use media_workers::{LaneEnd, Pace, PublisherName, Sink};
+use published_desk::Notice;
 use rate_limiter::RateLimiter;
 use rtp_codec::Address;
 use std::alloc::Global;
@@ -28,7 +29,6 @@ use std::marker::Model;
 use std::sync::Wait;
 use std::thread::Threads;
 use udp_wire::{FrontFault, ReportTimer, Ticks, Wire};
-use versions::Notice;
 
 /// How many nanoseconds lie between two ticks.
 const TICK_GAP: u64 = 20_000_000;
@@ -41,7 +41,7 @@ const MOST_TICKS: u32 = 50;
 ///
 /// Contracts see these six. Moments are nanoseconds since 1970.
 pub struct MediaFront<N: PublisherName, P: Pace, S: Sink> {
-    pub(crate) intake: Intake,
+    pub(crate) ingress: Ingress,
     pub(crate) feed: LaneFeed<N, P, S>,
     pub(crate) limiter: RateLimiter,
     /// What the rate limiter left out.
@@ -60,7 +60,7 @@ impl<N: PublisherName, P: Pace, S: Sink> Model for MediaFront<N, P, S> {
     ghost Value = { FrontOf P S };
 
     ghost view = { λ f. record {
-      intake = f.intake;
+      ingress = f.ingress;
       feed = f.feed;
       limiter = f.limiter;
       limited = f.limited;
@@ -68,22 +68,22 @@ impl<N: PublisherName, P: Pace, S: Sink> Model for MediaFront<N, P, S> {
       reports = f.reports;
     } };
 
-    ghost invariant = { λ f. f.pli_cost ≡ pli_octets f.intake.asker };
+    ghost invariant = { λ f. f.pli_cost ≡ pli_octets f.ingress.asker };
 }
 
 impl<N: PublisherName, P: Pace, S: Sink> MediaFront<N, P, S> {
     /// A front whose ticks are counted from the start of these reports. `pli_cost` is how many octets pass a PLI on, as
     /// [`pli_octets`](crate::pli_octets) counts them.
     pub fn new(
-        intake: Intake,
+        ingress: Ingress,
         feed: LaneFeed<N, P, S>,
         limiter: RateLimiter,
         pli_cost: u64,
         reports: ReportTimer,
     ) -> Self
-        requires cost { pli_cost ≡ pli_octets intake.asker }
+        requires cost { pli_cost ≡ pli_octets ingress.asker }
         ensures { result ≡ record {
-          intake = intake;
+          ingress = ingress;
           feed = feed;
           limiter = limiter;
           limited = none_limited;
@@ -92,7 +92,7 @@ impl<N: PublisherName, P: Pace, S: Sink> MediaFront<N, P, S> {
         } }
     {
         Self {
-            intake,
+            ingress,
             feed,
             limiter,
             limited: none_limited(),
@@ -116,14 +116,14 @@ impl<N: PublisherName, P: Pace, S: Sink> MediaFront<N, P, S> {
     /// Takes in a datagram from an address at a moment, and returns what it was. The rows say whose it is. Then:
     ///
     /// - A datagram of a member refills the tokens of its octets.
-    /// - The front tries to send what the intake asks the sender for, in order. Each of these datagrams costs its
+    /// - The front tries to send what the receive side asks the sender for, in order. Each of these datagrams costs its
     ///   octets. One that its address has too few tokens for is dropped.
     /// - Every lane is given each item. A NACK keeps as many of its first numbers as the limiter grants. A NACK, a
     ///   report block or a PLI is left out if the limiter grants it nothing. A PLI also costs its sender the octets
     ///   that pass it on, and is left out if the sender has too few tokens. What is left out is counted.
     ///
-    /// On out of memory, the only error, nothing is sent, and no lane is given an item. The intake may have taken the
-    /// datagram in.
+    /// On out of memory, the only error, nothing is sent, and no lane is given an item. The receive side may have taken
+    /// the datagram in.
     pub fn datagram<W: Wire>(
         &mut self,
         alloc: Global,
@@ -137,21 +137,21 @@ impl<N: PublisherName, P: Pace, S: Sink> MediaFront<N, P, S> {
             (record { desk = rows.now; from = from.now; moment = moment; octets = octets.now }) received.outcome
             self.old self.new (W.attempts wire.old) (W.attempts wire.new)) }
         ensures received { IfOk result (IsReceived rows.now from.now moment octets.now
-            self.old.intake.epochs self.new.intake.epochs) }
-        ensures err { OnErr result (self.new ≡ record self.old { intake = self.new.intake }) }
+            self.old.ingress.epochs self.new.ingress.epochs) }
+        ensures err { OnErr result (self.new ≡ record self.old { ingress = self.new.ingress }) }
         ensures unsent { OnErr result (W.attempts wire.new ≡ W.attempts wire.old) }
-        ensures intake { OnErr result (MayHaveTaken
+        ensures ingress { OnErr result (MayHaveTaken
             (record { desk = rows.now; from = from.now; moment = moment; octets = octets.now })
-            self.old.intake self.new.intake) }
+            self.old.ingress self.new.ingress) }
         ensures same { self.new ≡ record self.old {
-          intake = self.new.intake;
+          ingress = self.new.ingress;
           feed = self.new.feed;
           limiter = self.new.limiter;
           limited = self.new.limited;
         } }
-        ensures asker { self.new.intake.asker ≡ self.old.intake.asker }
+        ensures asker { self.new.ingress.asker ≡ self.old.ingress.asker }
     {
-        let ingest = self.intake.datagram(alloc, rows, from, moment, octets)?;
+        let ingest = self.ingress.datagram(alloc, rows, from, moment, octets)?;
         let received = self.handle(alloc, ingest, wire)?;
         Ok(received)
     }
@@ -215,14 +215,14 @@ impl<N: PublisherName, P: Pace, S: Sink> MediaFront<N, P, S> {
             ((self.new ≡ self.old) × (W.attempts wire.new ≡ W.attempts wire.old))) }
         ensures timer { IfOk result (λ due. self.new.reports ≡ after_report self.old.reports now) }
         ensures same { self.new ≡ record self.new { limiter = self.old.limiter; ticks = self.old.ticks } }
-        ensures asker { self.new.intake.asker ≡ self.old.intake.asker }
+        ensures asker { self.new.ingress.asker ≡ self.old.ingress.asker }
         ensures err { OnErr result ((self.new ≡ self.old) × (W.attempts wire.new ≡ W.attempts wire.old)) }
     {
         let mut timer = self.reports;
         if !timer.due(now) {
             return Ok(false);
         }
-        let up = self.intake.reports(alloc, rows, now)?;
+        let up = self.ingress.reports(alloc, rows, now)?;
         self.reports = timer;
         try_all(&up, wire);
         self.feed.give_timer_item(TimerItem::Report { moment: now });
@@ -287,7 +287,7 @@ impl<N: PublisherName, P: Pace, S: Sink> MediaFront<N, P, S> {
         ensures ended { AllEnded P.answers S.taken (ports_in self.feed) result.items }
     {
         let MediaFront {
-            intake: _,
+            ingress: _,
             feed,
             limiter: _,
             limited: _,

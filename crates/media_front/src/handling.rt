@@ -1,7 +1,7 @@
-//! What is done with the intake's answer to a datagram or to a wait.
+//! What is done with the receive side's answer to a datagram or to a wait.
 
 ghost use Rattle.std.specs.Prelude.{◌≡◌, IfOk, OnOk, OnErr};
-ghost use Rattle.intake.specs.Ingested.{ingested_of, IsAbout};
+ghost use Rattle.ingress.specs.Ingested.{ingested_of, IsAbout};
 ghost use Rattle.media_front.specs.Fronts.{Arrival, HasHandled};
 ghost use Rattle.media_front.specs.inner.Plans.{IsOfArrival};
 
@@ -15,8 +15,8 @@ use std::alloc::{AllocError, Global};
 use udp_wire::Wire;
 
 impl<N: PublisherName, P: Pace, S: Sink> MediaFront<N, P, S> {
-    /// Does what the intake answered to a datagram: refills the tokens of its octets, tries to send what is paid for,
-    /// gives every lane what is granted of the items, and counts what is left out. Returns what the datagram was.
+    /// Does what the receive side answered to a datagram: refills the tokens of its octets, tries to send what is paid
+    /// for, gives every lane what is granted of the items, and counts what is left out. Returns what the datagram was.
     ///
     /// On out of memory, the only error, nothing changes and nothing is sent.
     pub(crate) fn handle<W: Wire>(

@@ -4,9 +4,9 @@ ghost use Rattle.std.specs.Prelude.{◌≡◌, length, map, Some, None};
 ghost use Rattle.media_front.specs.inner.Statuses.{counted, owing, status_after_signal, fresh_status};
 
 use media_workers::Signal;
+use published_desk::Notice;
 use std::alloc::Global;
 use std::sync::{Arc, Wait};
-use versions::Notice;
 
 /// From how many parcels on a lane is woken, whatever they are: a quarter of its ring, so that sound alone never fills
 /// it.

@@ -14,14 +14,14 @@
 //!
 //! ```rust
 //! // readers, notice and rows: of a shared desk of the brand H; sinks: a `Sink` for each lane; wire: a `Wire`
-//! let intake = Intake::new(alloc, settings.try_clone()?)?;
+//! let ingress = Ingress::new(alloc, settings.try_clone()?)?;
 //! let limiter = RateLimiter::new(alloc)?;
 //! let cost = pli_octets(alloc, &settings)?;
 //! let Ok(feed) = LaneFeed::<PublisherOf<H>, _, _>::start(rt, alloc, readers, &settings, sinks) else {
 //!     return println!(rt; "no lanes");
 //! };
-//! let mut media = MediaFront::new(intake, feed, limiter, cost, ReportTimer::begin(5_000, start)); // reports every 5 s
-//! media.renew(); // once, before anything else is given
+//! let mut media = MediaFront::new(ingress, feed, limiter, cost, ReportTimer::begin(5_000, start)); // reports every 5
+//! s media.renew(); // once, before anything else is given
 //! media.tell(notice);
 //! let received = media.datagram(alloc, rows, &from, moment, octets, &mut wire)?; // from, at this moment
 //! if let Some(ssrc) = ended_by(&received) {

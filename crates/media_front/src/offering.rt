@@ -8,7 +8,7 @@ ghost use Rattle.media_front.specs.PlacesLeft.{places_left};
 
 use bridge_core::Item;
 use media_workers::{Bridge, LaneItem, Pace, Parcel, PublisherName, Sink};
-use versions::Notice;
+use published_desk::Notice;
 
 /// How many of the 1,024 places of a lane's ring a NACK, a report block or a PLI leaves free.
 const LEFT_BY_REQUESTS: usize = 512;

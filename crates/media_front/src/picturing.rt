@@ -28,7 +28,7 @@ impl<N: PublisherName, P: Pace, S: Sink> MediaFront<N, P, S> {
         ensures same { self.new ≡ record self.old { limiter = self.new.limiter } }
         ensures err { OnErr result ((self.new ≡ self.old) × (W.attempts wire.new ≡ W.attempts wire.old)) }
     {
-        let request = self.intake.picture_request(alloc, to, ssrc)?;
+        let request = self.ingress.picture_request(alloc, to, ssrc)?;
         Ok(try_one(&mut self.limiter, &request, wire))
     }
 }

@@ -2,8 +2,8 @@
 
 ghost use Rattle.std.specs.Prelude.{◌≡◌, ◌≤◌, ◌↔◌, true, [], Err, length, map, All, IfOk, vec_len};
 ghost use Rattle.std.specs.List.{AllByRecursion};
-ghost use Rattle.intake.specs.Names.{is_name};
-ghost use Rattle.versions.specs.Published.{ReaderOf};
+ghost use Rattle.ingress.specs.Names.{is_name};
+ghost use Rattle.published_desk.specs.Published.{ReaderOf};
 ghost use Rattle.bridge_core.specs.Calls.{most_lanes};
 ghost use Rattle.media_workers.specs.LaneRuns.{LaneNow};
 ghost use Rattle.media_workers.specs.Bridges.{AreNew};
@@ -14,10 +14,10 @@ use crate::feed::LaneFeed;
 use crate::lane_status::LaneStatus;
 use bridge_core::{LaneState, Settings};
 use media_workers::{Bridge, Lane, PublisherName, Signal, Sink, SleepPace, StartFault};
+use published_desk::LaneReader;
 use std::alloc::{AllocError, Global};
 use std::sync::{Arc, Wait};
 use std::thread::Threads;
-use versions::LaneReader;
 
 /// The statuses of `count` lanes that were given nothing.
 fn statuses_for(alloc: Global, count: usize) -> Result<Vec<LaneStatus>, AllocError>

@@ -7,7 +7,7 @@ ghost use Rattle.media_front.specs.FedLanes.{FedLane};
 use crate::asking::{AskedLanes, any_has_ended};
 use crate::feed::LaneFeed;
 use crate::front::MediaFront;
-use bridge_core::Intake;
+use bridge_core::Ingress;
 use media_workers::{Pace, PublisherName, Sink};
 
 impl<N: PublisherName, P: Pace, S: Sink> AskedLanes for LaneFeed<N, P, S> {
@@ -51,10 +51,10 @@ impl<N: PublisherName, P: Pace, S: Sink> LaneFeed<N, P, S> {
 
 impl<N: PublisherName, P: Pace, S: Sink> MediaFront<N, P, S> {
     /// The receive side.
-    pub fn intake(&self) -> &Intake
-        ensures { result.now ≡ self.now.intake }
+    pub fn ingress(&self) -> &Ingress
+        ensures { result.now ≡ self.now.ingress }
     {
-        &self.intake
+        &self.ingress
     }
 
     /// How many parcels wait for a lane in its ring: items that it was given and has not begun. It may begin some at

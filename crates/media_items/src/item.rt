@@ -26,7 +26,7 @@ pub enum Item<A: Allocator + Copy = Global> {
         /// The samples, 1 sample to 200 ms: at most 1,600 or 8,820.
         samples: Vec<i16, A>,
     },
-    /// A tick: mixes are sent every 20 ms. The intake makes none.
+    /// A tick: mixes are sent every 20 ms. The receive side makes none.
     Tick {
         /// The moment, in nanoseconds since 1970.
         moment: u64,
@@ -54,12 +54,12 @@ pub enum Item<A: Allocator + Copy = Global> {
         /// The SSRC of the outgoing stream.
         out_ssrc: u32,
     },
-    /// Sender reports of all streams are due. The intake makes none.
+    /// Sender reports of all streams are due. The receive side makes none.
     Report {
         /// The moment, in nanoseconds since 1970.
         moment: u64,
     },
-    /// From here on, jitter buffers begin anew after late or full sound. The intake makes none.
+    /// From here on, jitter buffers begin anew after late or full sound. The receive side makes none.
     Renew,
 }
 

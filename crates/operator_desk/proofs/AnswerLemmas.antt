@@ -8,7 +8,7 @@ use Rattle.desk_rows.specs.Desk.{Desk}
 use Rattle.desk_edit.specs.Asked.{CallOf}
 use Rattle.desk_edit.specs.Calls.{refusal_of}
 use Rattle.desk_edit.specs.declared.refusal.Refusal.TheVariants.{OutOfMemory}
-use Rattle.versions.specs.Published.{NoticeOf}
+use Rattle.published_desk.specs.Published.{NoticeOf}
 use Rattle.operator_desk.specs.declared.answer.Why.{Why}
 use Rattle.operator_desk.specs.declared.answer.Why.TheVariants.{Told}
 use Rattle.operator_desk.specs.Entry.{EntryOf}

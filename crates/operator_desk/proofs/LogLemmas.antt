@@ -15,7 +15,7 @@ use Rattle.desk_edit.specs.Calls.{CallHistory, no_calls, after_call, desk_now, r
 use Rattle.desk_calls.specs.Accepted.{after_calls, AreAccepted}
 use Rattle.desk_calls.specs.Edits.{after}
 use Rattle.desk_calls.specs.Following.{HasCalled}
-use Rattle.versions.specs.Published.{after_list, after_lists, PublisherOf}
+use Rattle.published_desk.specs.Published.{after_list, after_lists, PublisherOf}
 use Rattle.operator_desk.specs.Entry.{EntryOf}
 use Rattle.operator_desk.specs.LegalLogs.{calls_of, after_log, IsLegal}
 use Rattle.operator_desk.specs.OwnCalls.{numbers, numbers_from}

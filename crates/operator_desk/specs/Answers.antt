@@ -9,7 +9,7 @@ use Rattle.desk_edit.specs.declared.refusal.Carried.TheVariants.{Nothing}
 use Rattle.desk_edit.specs.Told.{Told, told_of}
 use Rattle.desk_edit.specs.Calls.{desk_now, refusal_of}
 use Rattle.desk_calls.specs.Following.{IsTold}
-use Rattle.versions.specs.Published.{NoticeOf}
+use Rattle.published_desk.specs.Published.{NoticeOf}
 use Rattle.operator_desk.specs.declared.answer.Answer.{Answer}
 use Rattle.operator_desk.specs.declared.answer.Answer.TheVariants.{Accepted, Refused}
 use Rattle.operator_desk.specs.declared.answer.Why.{Why}

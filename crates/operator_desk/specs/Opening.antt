@@ -1,6 +1,6 @@
 -- What a shared desk is opened with (own).
 use Rattle.std.specs.Prelude.{ℕ, Option, Some, None, ◌||◌, nat_eq, nat_lt, if◌then◌else◌}
-use Rattle.versions.specs.Published.{reader_limit}
+use Rattle.published_desk.specs.Published.{reader_limit}
 use Rattle.operator_desk.specs.declared.fault.DeskFault.{DeskFault}
 use Rattle.operator_desk.specs.declared.fault.DeskFault.TheVariants.{Count, Places}
 

@@ -5,7 +5,7 @@ ghost use Rattle.desk_edit.specs.Told.{told_in};
 ghost use Rattle.operator_desk.specs.Answers.{why_told};
 
 use desk_edit::{Carried, Refusal, RefusalRow};
-use versions::Notice;
+use published_desk::Notice;
 
 /// The answer to a call.
 #[derive(Drop)]

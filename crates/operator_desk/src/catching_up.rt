@@ -7,7 +7,7 @@ use crate::desk_brand::DeskBrand;
 use crate::desk_inner::DeskInner;
 use crate::fault::CallFault;
 use crate::seat::Seat;
-use versions::Notice;
+use published_desk::Notice;
 
 impl<'a, H: DeskBrand> DeskInner<'a, H> {
     /// Lets a seat see the whole log, and returns the notice to which it led. A seat of another desk stays as it was.

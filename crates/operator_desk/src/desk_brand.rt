@@ -2,9 +2,9 @@
 
 ghost use Rattle.std.specs.Prelude.{◌≡◌};
 
+use published_desk::Opened;
 use std::marker::Brand;
 use std::sync::ledger::{Blank, Ledger};
-use versions::Opened;
 
 /// The brand of one desk: the cells of its log, the name of its publisher, the desk that it begins with, and how many
 /// seats it has. It exists in proofs alone. A caller is generic over it, and its own caller picks it

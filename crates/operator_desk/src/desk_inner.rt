@@ -26,12 +26,12 @@ use call_history::{AcceptedCall, CallLists};
 use desk_calls::{Desk, Prepared};
 use desk_edit::{Call, Refusal};
 use desk_rows::Edit;
+use published_desk::{Notice, Publisher};
 use std::alloc::Global;
 use std::marker::Model;
 use std::sync::ledger::{Book, Share};
 use std::sync::{OnceToken, Wait};
 use undo_log::Edits;
-use versions::{Notice, Publisher};
 
 /// The desk, what publishes it, its log and the count of its calls. It is not `Drop`: end it by `settle` or `end`.
 pub struct DeskInner<'a, H: DeskBrand> {

@@ -12,8 +12,8 @@ use crate::desk_inner::DeskInner;
 use crate::entry::LogEntry;
 use crate::fault::{Behind, GatherFault};
 use crate::seat::Seat;
+use published_desk::Notice;
 use std::alloc::Global;
-use versions::Notice;
 
 /// A copy of the log and the notice that it led to, if all seats are among these, none of them has seen more, and
 /// nothing else was written.

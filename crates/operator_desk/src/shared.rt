@@ -5,7 +5,7 @@ ghost use Rattle.std.specs.List.{All, sum_by};
 ghost use mathlib.Core.List.{IsPrefix};
 ghost use Rattle.desk_rows.specs.Desk.{blank as no_rows, good};
 ghost use Rattle.desk_edit.specs.Asked.{asked_by};
-ghost use Rattle.versions.specs.Published.{new_reader};
+ghost use Rattle.published_desk.specs.Published.{new_reader};
 ghost use Rattle.operator_desk.specs.LegalLogs.{IsLegal};
 ghost use Rattle.operator_desk.specs.PastCalls.{IsPast, made_of};
 ghost use Rattle.operator_desk.specs.Seats.{SeatOf, new_seats};
@@ -27,9 +27,9 @@ use call_history::{AcceptedCall, CallLists};
 use desk_calls::Desk;
 use desk_edit::Call;
 use desk_rows::Rows;
+use published_desk::{LaneReader, MAX_READERS, Notice, start};
 use std::alloc::{AllocError, Global};
 use std::sync::{Mutex, MutexGuard, Wait};
-use versions::{LaneReader, MAX_READERS, Notice, start};
 
 /// The most operators of a desk.
 pub const MAX_OPERATORS: u32 = 16;

@@ -10,7 +10,7 @@ use Rattle.operator_lines.specs.declared.line_desk.View.{View}
 use Rattle.operator_lines.specs.declared.line_desk.View.TheVariants.{Rows, History, Stats}
 use Rattle.desk_text.specs.RowLines.{show_text}
 use Rattle.desk_text.specs.Text.{reply_text, refused_text}
-use Rattle.versions.specs.Published.{NoticeOf}
+use Rattle.published_desk.specs.Published.{NoticeOf}
 use Rattle.operator_desk.specs.declared.answer.Answer.{Answer}
 use Rattle.operator_desk.specs.declared.answer.Answer.TheVariants.{Accepted, Refused}
 use Rattle.operator_desk.specs.Answers.{IsAnswered, IsCopy, IsNotice, why_told}

@@ -6,7 +6,7 @@ use Rattle.desk_rows.specs.Desk.{Desk}
 use Rattle.desk_text.specs.HistoryText.{end_line}
 use Rattle.desk_text.specs.NewsText.{news_text}
 use Rattle.operator_lines.specs.DeskAsk.{DeskAsk, calls, watches, news}
-use Rattle.versions.specs.Published.{NoticeOf}
+use Rattle.published_desk.specs.Published.{NoticeOf}
 use Rattle.operator_desk.specs.Answers.{HasCaughtUp}
 use Rattle.operator_desk.specs.PastCalls.{made_of}
 use Rattle.operator_desk.specs.Seats.{SeatOf}

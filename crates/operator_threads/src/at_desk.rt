@@ -13,9 +13,9 @@ use desk_edit::Call;
 use desk_text::print_end;
 use operator_desk::{Answer, DeskBrand};
 use operator_lines::{LineDesk, View};
+use published_desk::Notice;
 use std::alloc::{AllocError, Global};
 use std::sync::{MutexGuard, Wait};
-use versions::Notice;
 
 /// An operator at a shared desk. It is not `Drop`, so that the seat is given back: end it by [`AtDesk::leave`].
 ///

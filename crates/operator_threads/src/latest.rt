@@ -5,8 +5,8 @@ ghost use mathlib.Core.List.{IsPrefix};
 ghost use Rattle.operator_desk.specs.Answers.{IsNotice};
 
 use operator_desk::DeskBrand;
+use published_desk::Notice;
 use std::marker::{Model, PhantomData};
-use versions::Notice;
 
 /// The latest notice that is known of a hall's desk. Contracts see that notice.
 // It has a lock of its own. The desk's is held while a call is judged and published, and a publish waits for readers,
@@ -19,7 +19,7 @@ pub(crate) struct Latest<H: DeskBrand> {
 
 impl<H: DeskBrand> Model for Latest<H> {
     ghost use Rattle.operator_desk.specs.Answers.{IsNotice};
-    ghost use Rattle.versions.specs.Published.{NoticeOf};
+    ghost use Rattle.published_desk.specs.Published.{NoticeOf};
 
     ghost Value = { NoticeOf };
 

@@ -13,10 +13,10 @@ use crate::seats::{FreeSeats, TakenSeat};
 use crate::threads::ThreadCount;
 use crate::wake::Wake;
 use operator_desk::{DeskBrand, MAX_OPERATORS, Seat, SharedDesk};
+use published_desk::Notice;
 use std::alloc::Global;
 use std::sync::atomic::{AtomicBool, Ordering};
 use std::sync::{Mutex, MutexGuard, Wait};
-use versions::Notice;
 
 /// The operators of a bridge, at one desk. It is not `Drop`: end it by [`Operators::end`].
 ///

@@ -11,7 +11,7 @@ use Rattle.desk_edit.specs.declared.refusal.Refusal.TheVariants.{OutOfMemory}
 use Rattle.desk_edit.specs.Calls.{no_calls, desk_now, refusal_of, after_call as history_after}
 use Rattle.desk_calls.specs.declared.reply.Reply.{Reply}
 use Rattle.desk_calls.specs.declared.reply.Reply.TheVariants.{Accepted, Refused}
-use Rattle.upward.specs.Upstream.{Asker}
+use Rattle.sender_feedback.specs.Upstream.{Asker}
 use Rattle.media_items.specs.Inputs.{Input, is_sized}
 use Rattle.media_items.specs.Inputs.Input.{report}
 use Rattle.bridge_core.specs.Sent.{Sent}
@@ -25,12 +25,12 @@ use Rattle.std.specs.List.{flat_map, list_all}
 use Rattle.std.proofs.lemmas.Bool.{and_parts}
 use Rattle.bridge_core.specs.Lanes.{sends_at}
 use Rattle.rtp_codec.specs.declared.address.Address.{Address}
-use Rattle.intake.specs.Ingested.{Ingested}
-use Rattle.intake.specs.Sources.{Sources, no_sources}
-use Rattle.intake.specs.Taking.{taken_in}
-use Rattle.intake.specs.Waiting.{waited_for}
-use Rattle.intake.specs.Intakes.{Knows, TakesIn, WaitsFor, TellsSenders}
-use Rattle.intake.specs.Reported.{reported}
+use Rattle.ingress.specs.Ingested.{Ingested}
+use Rattle.ingress.specs.Sources.{Sources, no_sources}
+use Rattle.ingress.specs.Taking.{taken_in}
+use Rattle.ingress.specs.Waiting.{waited_for}
+use Rattle.ingress.specs.Ingresses.{Knows, TakesIn, WaitsFor, TellsSenders}
+use Rattle.ingress.specs.Reported.{reported}
 use Rattle.desk_text.specs.Text.{reply_text}
 use Rattle.desk_text.specs.RowLines.{show_text}
 use Rattle.script_text.specs.Decodings.{Decoding, voice_of}
@@ -57,32 +57,33 @@ told_why bridge (Redo last) at why by told = by
 
 -- the desk that a step publishes is the one that the calls leave
 accepted : (old new : CoreOf) (bridge : Bridge) (call : CallOf) → Stands old bridge
-    → HasCalled new (history_after bridge.calls call) → length new.lanes ≡ length old.lanes → new.intake ≡ old.intake
+    → HasCalled new (history_after bridge.calls call) → length new.lanes ≡ length old.lanes → new.ingress ≡ old.ingress
     → Takes old new (Step.publish new.desk) []
     → Stands new (answer_call bridge (history_after bridge.calls call) None).1
-accepted old new bridge call s called lanes intake takes = record {
+accepted old new bridge call s called lanes ingress takes = record {
   taken =
       subst (λ (d : Desk). HasTaken new (first_desk bridge.who) (bridge.steps ++ Step.publish d ∷ [])) called.desk
       (takes (first_desk bridge.who) bridge.steps s.taken).1;
   called = called;
   lanes = lanes ∙ s.lanes;
-  knows = rw intake s.knows;
-  speaks = rw intake s.speaks;
+  knows = rw ingress s.knows;
+  speaks = rw ingress s.speaks;
 }
 
 pub call_answered : (op : ℕ) (old new : CoreOf) (bridge : Bridge) (call : CallOf) (reply : Reply) → Stands old bridge
     → Answers old new call reply → IsAnswered bridge.calls new call reply
-    → OnAccepted reply (Takes old new (Step.publish new.desk) []) → new.intake ≡ old.intake → wants_memory reply ≡ false
+    → OnAccepted reply (Takes old new (Step.publish new.desk) []) → new.ingress ≡ old.ingress
+    → wants_memory reply ≡ false
     → Stands new (bridge_after bridge (DeskRequest op call))
     × (reply_text reply ≡ answer_text bridge (DeskRequest op call))
-call_answered op old new bridge call (Accepted number) s does by takes intake told =
+call_answered op old new bridge call (Accepted number) s does by takes ingress told =
     let next = history_after bridge.calls call in (
       subst (λ (o : Option Refusal). Stands new (answer_call bridge next o).1) (sym by.0)
-          (accepted old new bridge call s by.2 (ap length does.2) intake takes),
+          (accepted old new bridge call s by.2 (ap length does.2) ingress takes),
       subst (λ (o : Option Refusal). reply_text (Accepted number) ≡ text_of (answer_call bridge next o).0) (sym by.0)
           (ap (λ (n : ℕ). reply_text (Accepted n)) by.1),
     )
-call_answered op old new bridge call (Refused at why) s does by takes intake told =
+call_answered op old new bridge call (Refused at why) s does by takes ingress told =
     let next = history_after bridge.calls call in
     let some : refusal_of bridge.calls call ≡ Some why = told_why bridge call at why by.1 told in (
       subst (λ (o : Option Refusal). Stands new (answer_call bridge next o).1) (sym some) (rw does.1 s),
@@ -97,9 +98,9 @@ first_same x y e = cc
 
 pub item_answered : (old new : CoreOf) (bridge : Bridge) (item : Input) (out : List Sent) → Stands old bridge
     → Takes old new (Step.item 0 item) (out ∷ []) → new.version ≡ old.version → new.desk ≡ old.desk
-    → new.done ≡ old.done → new.undone ≡ old.undone → length new.lanes ≡ length old.lanes → new.intake ≡ old.intake
+    → new.done ≡ old.done → new.undone ≡ old.undone → length new.lanes ≡ length old.lanes → new.ingress ≡ old.ingress
     → Stands new (after_item bridge item) × (out ≡ item_sent bridge item)
-item_answered old new bridge item out s takes version desk done undone lanes intake =
+item_answered old new bridge item out s takes version desk done undone lanes ingress =
     let start = first_desk bridge.who in
     let t = takes start bridge.steps s.taken in
     let sends : List Sent =
@@ -118,8 +119,8 @@ item_answered old new bridge item out s takes version desk done undone lanes int
               ahead = rw undone s.called.ahead;
             };
         lanes = lanes ∙ s.lanes;
-        knows = rw intake s.knows;
-        speaks = rw intake s.speaks;
+        knows = rw ingress s.knows;
+        speaks = rw ingress s.speaks;
       },
       same,
     )
@@ -164,16 +165,16 @@ hands_more old mid new items item before text now h k bridge s =
           (sym (text_last (items_sent bridge items) one) ∙ ap items_text (sym (items_last bridge items item))))),
     )
 
--- ---- what the intake knows
+-- ---- what the receive side knows
 
--- nothing of the core is another, but for its intake
+-- nothing of the core is another, but for its ingress
 abbrev pub IsElse : CoreOf → CoreOf → Type 0
 IsElse old new =
     (new.version ≡ old.version) × (new.desk ≡ old.desk) × (new.done ≡ old.done) × (new.undone ≡ old.undone)
     × (new.lanes ≡ old.lanes)
 
 now_knows : (old new : CoreOf) (bridge : Bridge) (sources : Sources) → IsElse old new
-    → new.intake.asker ≡ old.intake.asker → Knows new.intake sources → Stands old bridge
+    → new.ingress.asker ≡ old.ingress.asker → Knows new.ingress sources → Stands old bridge
     → Stands new (knowing sources bridge)
 now_knows old new bridge sources others asker knows s = record {
   taken = record {
@@ -198,9 +199,9 @@ now_knows old new bridge sources others asker knows s = record {
 
 pub datagram_answered : (old mid new : CoreOf) (moment : ℕ) (from : Address) (octets : List ℕ) (ingested : Ingested)
     (before now : List ℕ)
-    → TakesIn old.intake mid.intake ingested octets
+    → TakesIn old.ingress mid.ingress ingested octets
     (λ r. record { desk = old.desk; from = from; moment = moment; reading = r })
-    → IsElse old mid → mid.intake.asker ≡ old.intake.asker
+    → IsElse old mid → mid.ingress.asker ≡ old.ingress.asker
     → before ≡ outcome_text ingested.outcome ++ flat_map up_text ingested.up
     → HandsItems mid ingested.items new before now → AnswersRequest old (Rx moment from octets) new now
 datagram_answered old mid new moment from octets ingested before now takes others asker text hands bridge heard s =
@@ -216,10 +217,10 @@ datagram_answered old mid new moment from octets ingested before now takes other
     (taken_in (voice_of bridge.who bridge.decoding) bridge.sources
     (record { desk = d; from = from; moment = moment; reading = bridge.decoding.reading octets })).0)
     desk in
-    let knows : Knows mid.intake here.1 =
+    let knows : Knows mid.ingress here.1 =
     subst
     (λ (d : Desk).
-    Knows mid.intake (taken_in (voice_of bridge.who bridge.decoding) bridge.sources
+    Knows mid.ingress (taken_in (voice_of bridge.who bridge.decoding) bridge.sources
     (record { desk = d; from = from; moment = moment; reading = bridge.decoding.reading octets })).1)
     desk took.1 in
     let h = hands (knowing here.1 bridge) (now_knows old mid bridge here.1 others asker knows s) in
@@ -235,8 +236,8 @@ datagram_answered old mid new moment from octets ingested before now takes other
 
 pub wait_answered : (old mid new : CoreOf) (moment : ℕ) (from : Address) (ssrc : ℕ) (freed : Ingested)
     (before now : List ℕ)
-    → WaitsFor old.intake mid.intake freed old.desk (origin_at from ssrc) moment → IsElse old mid
-    → mid.intake.asker ≡ old.intake.asker
+    → WaitsFor old.ingress mid.ingress freed old.desk (origin_at from ssrc) moment → IsElse old mid
+    → mid.ingress.asker ≡ old.ingress.asker
     → before ≡ flat_map up_text freed.up → HandsItems mid freed.items new before now
     → AnswersRequest old (Wait moment from ssrc) new now
 wait_answered old mid new moment from ssrc freed before now goes_by others asker text hands bridge heard s =
@@ -248,10 +249,11 @@ wait_answered old mid new moment from ssrc freed before now goes_by others asker
     ∙ ap
     (λ (d : Desk). (waited_for (voice_of bridge.who bridge.decoding) d (origin_at from ssrc) moment bridge.sources).0)
     desk in
-    let knows : Knows mid.intake here.1 =
+    let knows : Knows mid.ingress here.1 =
     subst
     (λ (d : Desk).
-    Knows mid.intake (waited_for (voice_of bridge.who bridge.decoding) d (origin_at from ssrc) moment bridge.sources).1)
+    Knows mid.ingress
+    (waited_for (voice_of bridge.who bridge.decoding) d (origin_at from ssrc) moment bridge.sources).1)
     desk went.1 in
     let h = hands (knowing here.1 bridge) (now_knows old mid bridge here.1 others asker knows s) in
     subst
@@ -264,19 +266,19 @@ wait_answered old mid new moment from ssrc freed before now goes_by others asker
 -- ---- reports
 
 pub report_answered : (old mid new : CoreOf) (moment : ℕ) (up : List (Address × List ℕ)) (before now : List ℕ)
-    → TellsSenders old.intake mid.intake up old.desk moment → IsElse old mid → mid.intake.asker ≡ old.intake.asker
+    → TellsSenders old.ingress mid.ingress up old.desk moment → IsElse old mid → mid.ingress.asker ≡ old.ingress.asker
     → before ≡ flat_map up_text up → HandsItem mid (report moment) new before now
     → AnswersRequest old (Report moment) new now
 report_answered old mid new moment up before now tells others asker text hands bridge heard s =
     let here = reported_at bridge moment in
     let desk : old.desk ≡ desk_now bridge.calls = s.called.desk in
     let told = tells bridge.sources s.knows in
-    let is : reported old.intake.asker old.desk moment bridge.sources ≡ here =
+    let is : reported old.ingress.asker old.desk moment bridge.sources ≡ here =
     ap (λ (who : Asker). reported who old.desk moment bridge.sources) s.speaks
     ∙ ap (λ (d : Desk). reported bridge.who d moment bridge.sources) desk in
     let same : up ≡ here.0 = told.0 ∙ ap (λ (r : List (Address × List ℕ) × Sources). r.0) is in
-    let knows : Knows mid.intake here.1 =
-    subst (λ (r : List (Address × List ℕ) × Sources). Knows mid.intake r.1) is told.1 in
+    let knows : Knows mid.ingress here.1 =
+    subst (λ (r : List (Address × List ℕ) × Sources). Knows mid.ingress r.1) is told.1 in
     let h = hands (knowing here.1 bridge) (now_knows old mid bridge here.1 others asker knows s) in (
       h.0,
       h.1
@@ -294,8 +296,8 @@ rows_shown core bridge s =
 -- ---- the first line
 
 pub opens : (core : CoreOf) (decoding : Decoding) (who : Asker) → HasTaken core (first_desk who) []
-    → HasCalled core (no_calls (first_desk who)) → length core.lanes ≡ 1 → Knows core.intake no_sources
-    → core.intake.asker ≡ who → Stands core (begun_bridge decoding who)
+    → HasCalled core (no_calls (first_desk who)) → length core.lanes ≡ 1 → Knows core.ingress no_sources
+    → core.ingress.asker ≡ who → Stands core (begun_bridge decoding who)
 opens core decoding who taken called lanes knows speaks =
     record { taken = taken; called = called; lanes = lanes; knows = knows; speaks = speaks }
 

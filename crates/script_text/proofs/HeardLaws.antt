@@ -7,9 +7,9 @@ use Rattle.std.proofs.lemmas.Bool.{cases_lt}
 use Rattle.hex.specs.Hex.{IsBytes}
 use Rattle.rtp_codec.specs.Octets.{AreOctets}
 use Rattle.rtp_codec.specs.declared.address.Address.{Address}
-use Rattle.upward.specs.Upstream.{Asker}
-use Rattle.intake.specs.Readings.{Reading, too_long, IsReading}
-use Rattle.intake.specs.Taking.{Voice, IsVoice}
+use Rattle.sender_feedback.specs.Upstream.{Asker}
+use Rattle.ingress.specs.Readings.{Reading, too_long, IsReading}
+use Rattle.ingress.specs.Taking.{Voice, IsVoice}
 use Rattle.desk_text.specs.declared.fault.Fault.{Fault}
 use Rattle.desk_text.specs.Lines.{limit_of, is_printable, lines_of}
 use Rattle.desk_text.specs.Words.{words_of}

@@ -10,7 +10,7 @@ use Rattle.frame_gate.specs.Frame.{SourcePacket, fault_of}
 use Rattle.rtp_codec.specs.declared.address.Address.{Address}
 use Rattle.media_items.specs.Frame.{SourceFrame}
 use Rattle.media_items.specs.Inputs.{Input}
-use Rattle.upward.specs.Upstream.{Asker}
+use Rattle.sender_feedback.specs.Upstream.{Asker}
 use Rattle.desk_text.specs.declared.fault.Fault.{Fault}
 use Rattle.desk_text.specs.declared.fault.Fault.TheVariants.{UnknownWord, BadNumber}
 use Rattle.desk_text.specs.declared.value.Value.{Value}

@@ -10,10 +10,10 @@ use Rattle.bridge_core.specs.Steps.{Step, along, sent_at, sends}
 use Rattle.desk_text.specs.declared.fault.Fault.{Fault}
 use Rattle.media_items.specs.Inputs.{Input}
 use Rattle.media_items.specs.Inputs.Input.{report, renew}
-use Rattle.upward.specs.Upstream.{Asker}
+use Rattle.sender_feedback.specs.Upstream.{Asker}
 use Rattle.std.proofs.lemmas.Bool.{ne_eqb}
-use Rattle.intake.specs.Ingested.{Ingested}
-use Rattle.intake.specs.Sources.{Sources}
+use Rattle.ingress.specs.Ingested.{Ingested}
+use Rattle.ingress.specs.Sources.{Sources}
 use Rattle.desk_text.specs.Lines.{lines_of}
 use Rattle.script_text.specs.Requests.{Request, Nothing, Begin, Desk, Item, Rx, Wait, Report, Show}
 use Rattle.script_text.specs.FirstLine.{request_at}

@@ -8,15 +8,15 @@ use Rattle.desk_edit.specs.Calls.{CallHistory, no_calls, desk_now, refusal_of, a
 use Rattle.desk_calls.specs.declared.reply.Reply.{Reply}
 use Rattle.desk_calls.specs.declared.reply.Reply.TheVariants.{Accepted, Refused}
 use Rattle.rtp_codec.specs.declared.address.Address.{Address}
-use Rattle.intake.specs.declared.outcome.Outcome.{Outcome}
+use Rattle.ingress.specs.declared.outcome.Outcome.{Outcome}
 use Rattle.media_items.specs.Inputs.{Input}
 use Rattle.media_items.specs.Inputs.Input.{report, renew}
-use Rattle.upward.specs.Upstream.{Asker}
-use Rattle.intake.specs.Ingested.{Ingested}
-use Rattle.intake.specs.Sources.{Origin, Sources, no_sources}
-use Rattle.intake.specs.Taking.{Datagram, taken_in}
-use Rattle.intake.specs.Waiting.{waited_for}
-use Rattle.intake.specs.Reported.{reported}
+use Rattle.sender_feedback.specs.Upstream.{Asker}
+use Rattle.ingress.specs.Ingested.{Ingested}
+use Rattle.ingress.specs.Sources.{Origin, Sources, no_sources}
+use Rattle.ingress.specs.Taking.{Datagram, taken_in}
+use Rattle.ingress.specs.Waiting.{waited_for}
+use Rattle.ingress.specs.Reported.{reported}
 use Rattle.bridge_core.specs.Sent.{Sent}
 use Rattle.bridge_core.specs.Lanes.{sends_at}
 use Rattle.bridge_core.specs.Steps.{Step, visits, visit_after}

@@ -5,10 +5,10 @@ use Rattle.rtp_codec.specs.declared.fault.RtpFault.{RtpFault}
 use Rattle.rtp_codec.specs.declared.fault.RtpFault.TheVariants as rtp
 use Rattle.rtcp_codec.specs.declared.fault.RtcpFault.{RtcpFault}
 use Rattle.rtcp_codec.specs.declared.fault.RtcpFault.TheVariants as rtcp
-use Rattle.intake.specs.declared.outcome.Outcome.{Outcome}
-use Rattle.intake.specs.declared.outcome.Outcome.TheVariants.{TooLong, Neither, BadRtp, BadRtcp, Unknown}
-use Rattle.intake.specs.declared.outcome.Outcome.TheVariants.{BadPayload, Spent, Probation, Accepted, Late}
-use Rattle.intake.specs.declared.outcome.Outcome.TheVariants.{Duplicate, Jump, Restarted, Rtcp}
+use Rattle.ingress.specs.declared.outcome.Outcome.{Outcome}
+use Rattle.ingress.specs.declared.outcome.Outcome.TheVariants.{TooLong, Neither, BadRtp, BadRtcp, Unknown}
+use Rattle.ingress.specs.declared.outcome.Outcome.TheVariants.{BadPayload, Spent, Probation, Accepted, Late}
+use Rattle.ingress.specs.declared.outcome.Outcome.TheVariants.{Duplicate, Jump, Restarted, Rtcp}
 use Rattle.desk_text.specs.declared.value.Value.TheVariants.{U64, Address}
 use Rattle.desk_text.specs.Text.{Word, fixed, value, signed, hex, line_text}
 

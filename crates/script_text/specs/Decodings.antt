@@ -1,9 +1,9 @@
 -- What the datagrams of a script are, as its bridge decodes them (own).
 use Rattle.std.specs.Prelude.{ℕ, List, [], ◌∷◌, codes, Result, Ok, Err}
 use Rattle.rtcp_codec.specs.declared.nack.NackWord.{NackWord}
-use Rattle.upward.specs.Upstream.{Asker}
-use Rattle.intake.specs.Readings.{Reading, IsReading}
-use Rattle.intake.specs.Taking.{Voice, IsVoice}
+use Rattle.sender_feedback.specs.Upstream.{Asker}
+use Rattle.ingress.specs.Readings.{Reading, IsReading}
+use Rattle.ingress.specs.Taking.{Voice, IsVoice}
 use Rattle.desk_text.specs.declared.fault.Fault.{Fault}
 use Rattle.script_text.specs.declared.script.TheConstants.{BRIDGE_SSRC}
 use Rattle.script_text.specs.Requests.{Request, Nothing, Begin, Desk, Item, Rx, Wait, Report, Show}

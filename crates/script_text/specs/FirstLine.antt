@@ -4,8 +4,8 @@ use Rattle.std.specs.Prelude.{Result, Ok, Err}
 use Rattle.std.specs.List.{list_all, join_with_byte}
 use Rattle.std.specs.Str.{bytes_eq}
 use Rattle.std.specs.Fmt.{decimal}
-use Rattle.upward.specs.Upstream.{Asker}
-use Rattle.intake.specs.Names.{is_name}
+use Rattle.sender_feedback.specs.Upstream.{Asker}
+use Rattle.ingress.specs.Names.{is_name}
 use Rattle.desk_text.specs.declared.fault.Fault.{Fault}
 use Rattle.desk_text.specs.declared.fault.Fault.TheVariants.{UnknownWord, BadNumber}
 use Rattle.desk_text.specs.Numbers.{decimal_of}

@@ -1,7 +1,7 @@
 -- What is printed for what goes out (own): lines, as lists of words.
 use Rattle.std.specs.Prelude.{ℕ, ℤ, List, [], ◌∷◌, ◌++◌, codes, Option, None, Some}
 use Rattle.rtp_codec.specs.declared.address.Address.{Address as Endpoint}
-use Rattle.feedback.specs.declared.noting.LossNote.{LossNote}
+use Rattle.receiver_feedback.specs.declared.noting.LossNote.{LossNote}
 use Rattle.bridge_core.specs.Sent.{MediaPacket, ControlPacket, Notice, Sent}
 use Rattle.bridge_core.specs.Sent.Sent.{media, control, note}
 use Rattle.desk_text.specs.declared.value.Value.TheVariants.{U16, U32, U64, Address}

@@ -1,7 +1,7 @@
 //! How the bridge of a script begins.
 
 ghost use Rattle.std.specs.Prelude.{◌≡◌, true, [], IfOk, OnOk};
-ghost use Rattle.intake.specs.Names.{is_name};
+ghost use Rattle.ingress.specs.Names.{is_name};
 ghost use Rattle.script_text.specs.Decodings.{Decoding};
 ghost use Rattle.script_text.specs.Bridge.{begun_bridge};
 ghost use Rattle.script_text.specs.inner.Cursor.{asker_in, begin_of};

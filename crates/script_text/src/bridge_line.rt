@@ -1,7 +1,7 @@
 //! What the first line of a script says of its bridge.
 
 ghost use Rattle.std.specs.Prelude.{◌≡◌, true};
-ghost use Rattle.intake.specs.Names.{is_name};
+ghost use Rattle.ingress.specs.Names.{is_name};
 
 use bridge_core::Settings;
 use std::alloc::{Allocator, Global};

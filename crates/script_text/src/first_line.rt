@@ -1,7 +1,7 @@
 //! The first line of a script, which may say who the bridge is.
 
 ghost use Rattle.std.specs.Prelude.{◌≡◌, true, IfOk};
-ghost use Rattle.intake.specs.Names.{is_name};
+ghost use Rattle.ingress.specs.Names.{is_name};
 ghost use Rattle.desk_text.specs.Words.{Gives, words_in};
 ghost use Rattle.script_text.specs.FirstLine.{asker_of, renews_of, bridge_of};
 ghost use Rattle.script_text.specs.inner.Cursor.{asker_in, begin_of};

@@ -6,7 +6,7 @@ ghost use Rattle.hex.specs.Hex.{IsBytes, decode_of, encode_lower};
 ghost use Rattle.rtp_codec.specs.declared.address.Address.{Address};
 ghost use Rattle.rtp_codec.specs.Octets.{AreOctets};
 ghost use Rattle.desk_rows.specs.Desk.{blank};
-ghost use Rattle.upward.specs.Upstream.{Asker};
+ghost use Rattle.sender_feedback.specs.Upstream.{Asker};
 ghost use Rattle.call_history.specs.AcceptedCall.{AcceptedOf};
 ghost use Rattle.desk_text.specs.Values.{last_operator, AllFit};
 ghost use Rattle.desk_text.specs.Words.{words_of};
@@ -32,7 +32,7 @@ ghost use Rattle.script_text.specs.Packets.{SpellPackets, packet_of, packet_text
 use crate::script::{BRIDGE_SSRC, CNAME};
 use bridge_core::streams_have_no_gap;
 use desk_edit::good_desks_stay_good;
-use intake::{datagrams_are_read, voices_are_there};
+use ingress::{datagrams_are_read, voices_are_there};
 
 /// The words of an operator's line are its call, and what is read as an operator's call is spelled by its line, in
 /// which a rate of 8000 Hz may be left out.

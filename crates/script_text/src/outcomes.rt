@@ -2,12 +2,12 @@
 
 ghost use Rattle.std.specs.Prelude.{◌≡◌, ◌∷◌, ◌++◌, [], codes, map, OnOk};
 ghost use Rattle.std.specs.List.{flat_map};
-ghost use Rattle.intake.specs.Ingested.{datagram_of};
+ghost use Rattle.ingress.specs.Ingested.{datagram_of};
 ghost use Rattle.desk_text.specs.Text.{fixed, signed, line_text};
 ghost use Rattle.script_text.specs.Datagrams.{rtp_fault_text, rtcp_fault_text, outcome_text, up_text};
 
 use desk_text::{Value, Word, print_line};
-use intake::Outcome;
+use ingress::Outcome;
 use rtcp_codec::RtcpFault;
 use rtp_codec::{Address, RtpFault};
 use std::alloc::{AllocError, Allocator};

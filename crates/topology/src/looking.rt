@@ -106,7 +106,7 @@ pub(crate) fn room_of_member<A: Allocator + Copy>(rows: &Rows<A>, member: u32) -
 }
 
 /// The clock rate of a room's audio in Hz, 8000 or 44100. It is 8000 if there is no such room.
-// No good desk lacks the room. By this answer the intake and the mixer need no case for one that is missing.
+// No good desk lacks the room. By this answer the receive side and the mixer need no case for one that is missing.
 pub fn room_rate<A: Allocator + Copy>(rows: &Rows<A>, room: u32) -> u32
     ensures { result ≡ room_rate rows.now room }
 {

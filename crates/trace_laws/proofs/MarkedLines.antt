@@ -5,7 +5,7 @@ use Rattle.std.specs.Fmt.{decimal}
 use Rattle.std.specs.List.{list_all}
 use Rattle.std.specs.Str.Lines.{strip_carriage_return}
 use Rattle.std.proofs.lemmas.Bool.{and_parts, and_from}
-use Rattle.upward.specs.Upstream.{Asker}
+use Rattle.sender_feedback.specs.Upstream.{Asker}
 use Rattle.media_workers.specs.LaneRuns.{Versioned}
 use Rattle.desk_text.specs.Lines.{parts_of, lines_by, ended, ended_lines, is_printable}
 use Rattle.desk_text.proofs.Cuts.{parts_some}

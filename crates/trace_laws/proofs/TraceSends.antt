@@ -8,7 +8,7 @@ use Rattle.desk_edit.specs.Asked.{CallOf}
 use Rattle.desk_edit.specs.declared.refusal.Refusal.{Refusal}
 use Rattle.desk_edit.specs.Calls.{CallHistory, no_calls, desk_now, after_call}
 use Rattle.desk_calls.specs.Accepted.{after_calls, AreAccepted}
-use Rattle.upward.specs.Upstream.{Asker}
+use Rattle.sender_feedback.specs.Upstream.{Asker}
 use Rattle.bridge_core.specs.Sent.{Sent}
 use Rattle.bridge_core.specs.Steps.{Step, along, sent_at, sends}
 use Rattle.bridge_core.specs.Events.{Event, steps_of as steps_after}

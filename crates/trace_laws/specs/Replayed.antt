@@ -1,6 +1,6 @@
 -- A lane that its part of a trace replays (own).
 use Rattle.std.specs.Prelude.{◌≡◌, ℕ, List, map, filter}
-use Rattle.upward.specs.Upstream.{Asker}
+use Rattle.sender_feedback.specs.Upstream.{Asker}
 use Rattle.bridge_core.specs.Sent.{sent_of}
 use Rattle.bridge_core.specs.Lanes.{is_lanes}
 use Rattle.operator_desk.specs.Entry.{EntryOf}

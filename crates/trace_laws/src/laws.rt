@@ -3,7 +3,7 @@
 ghost use Rattle.std.specs.Prelude.{◌≡◌, ℕ, ◌<◌, ◌≤◌, ◌^◌, List, length, map, Ok};
 ghost use Rattle.desk_edit.specs.Calls.{no_calls};
 ghost use Rattle.desk_calls.specs.Accepted.{AreAccepted};
-ghost use Rattle.upward.specs.Upstream.{Asker};
+ghost use Rattle.sender_feedback.specs.Upstream.{Asker};
 ghost use Rattle.media_items.specs.Inputs.{Input};
 ghost use Rattle.media_workers.specs.LaneRuns.{Versioned};
 ghost use Rattle.lane_laws.specs.Merges.{InOrder, UpTo};

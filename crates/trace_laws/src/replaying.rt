@@ -1,7 +1,7 @@
 //! A law of a bridge whose lanes have ended, and of its trace.
 
 ghost use Rattle.std.specs.Prelude.{◌≡◌, ℕ, List, Some, length, slice_get};
-ghost use Rattle.upward.specs.Upstream.{Asker};
+ghost use Rattle.sender_feedback.specs.Upstream.{Asker};
 ghost use Rattle.operator_desk.specs.Entry.{EntryOf};
 ghost use Rattle.operator_desk.specs.PastCalls.{made_of};
 ghost use Rattle.media_workers.specs.LaneRuns.{Versioned};

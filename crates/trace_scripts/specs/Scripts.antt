@@ -7,7 +7,7 @@ use Rattle.script_text.specs.Requests.{wait_line, report_line}
 use Rattle.call_history.specs.AcceptedCall.{AcceptedOf}
 use Rattle.operator_desk.specs.Entry.{EntryOf}
 use Rattle.operator_desk.specs.PastCalls.{made_of}
-use Rattle.front_rounds.specs.Traced.{DeedOf, took, waited, reported, asked}
+use Rattle.event_loop.specs.Traced.{DeedOf, took, waited, reported, asked}
 use Rattle.trace_text.specs.TraceLines.{marked, calls_text, datagram_line, picture_line}
 use Rattle.trace_text.specs.declared.speaker.Speaker.{Speaker}
 use Rattle.trace_text.specs.declared.told.Told.{Told}

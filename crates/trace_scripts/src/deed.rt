@@ -2,11 +2,11 @@
 
 ghost use Rattle.std.specs.Prelude.{◌≡◌, ◌++◌, OnOk};
 ghost use Rattle.lane_wire.specs.Handlings.{versioned_item};
-ghost use Rattle.front_rounds.specs.Traced.{front_told};
+ghost use Rattle.event_loop.specs.Traced.{front_told};
 ghost use Rattle.trace_text.specs.TraceLines.{marked};
 ghost use Rattle.trace_scripts.specs.Scripts.{DoneAt, item_done, front_done};
 
-use front_rounds::{FrontDeed, FrontTold};
+use event_loop::{FrontDeed, FrontTold};
 use lane_wire::Handled;
 use std::alloc::AllocError;
 use trace_text::Told;

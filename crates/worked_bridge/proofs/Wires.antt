@@ -1,6 +1,6 @@
 -- How a script without datagrams is read.
 use Rattle.std.proofs.Common.{List, ℕ, []}
-use Rattle.intake.specs.Readings.{too_long}
+use Rattle.ingress.specs.Readings.{too_long}
 use Rattle.script_text.specs.Decodings.{Decoding, DecodesLines, InEachDecoding}
 
 -- any way will do

@@ -10,7 +10,7 @@ pub mod taking_back;
 // Datagrams and items.
 pub mod dropping;
 pub mod framing;
-pub mod intake_laws;
+pub mod ingress_laws;
 pub mod sending;
 pub mod stepping;
 

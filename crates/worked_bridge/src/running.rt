@@ -46,7 +46,7 @@ pub fn sends_what_was_promised(
 
 /// What two lanes of the same bridge send for an item, where a datagram is taken in before the first lane handles it,
 /// and the receiver reports are asked for before the second one does: all that the headline promises holds of it. The
-/// call and the two items are its events; what the intake does between them is none.
+/// call and the two items are its events; what the receive side does between them is none.
 pub fn sends_what_was_promised_between_datagrams(
     alloc: Global,
     settings: Settings,

@@ -3,7 +3,7 @@
 ghost use Rattle.std.specs.Prelude.{◌≡◌, ◌≢◌, ◌≤◌, ◌<◌, ◌+◌, ◌%◌, ◌^◌, ◌++◌, ◌∷◌};
 ghost use Rattle.std.specs.Prelude.{ℕ, ℤ, Bool, pos, true, List, [], codes, length, Some, Ok, IfSome, IfOk, OnOk};
 ghost use Rattle.rtp_codec.specs.declared.address.Address.{Address};
-ghost use Rattle.upward.specs.Upstream.{Asker};
+ghost use Rattle.sender_feedback.specs.Upstream.{Asker};
 ghost use Rattle.desk_rows.specs.Desk.{Desk, blank, good};
 ghost use Rattle.frame_gate.specs.Frame.{SourcePacket};
 ghost use Rattle.media_items.specs.Frame.{SourceFrame};

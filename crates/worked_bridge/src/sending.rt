@@ -90,7 +90,7 @@ pub fn a_nack_leads_back(
     requires sized { is_sized (input_of item.now) ≡ true }
     ensures back { IfOk result (λ sent. (start : Desk) (before : List Step) (request : Request)
         → HasTaken core.old start before → good start ≡ true → AreGood before → input_of item.now ≡ Input.nack request
-        → AllByRecursion (LeadsBack core.old.intake.asker (length core.old.lanes) start before lane
+        → AllByRecursion (LeadsBack core.old.ingress.asker (length core.old.lanes) start before lane
         (visit_after start before lane (Input.nack request)) request) (map sent_of sent.items)) }
     ensures owed { IfOk result (λ sent. (start : Desk) (before : List Step) (request : Request) (p : SentPacket)
         → HasTaken core.old start before → good start ≡ true → AreGood before → input_of item.now ≡ Input.nack request
@@ -115,15 +115,15 @@ pub fn reports_notes_and_losses(
     requires sized { is_sized (input_of item.now) ≡ true }
     ensures counts { IfOk result (λ sent. (start : Desk) (before : List Step) (moment : ℕ)
         → HasTaken core.old start before → good start ≡ true → AreGood before → input_of item.now ≡ Input.report moment
-        → AllByRecursion (IsSenderReportOf core.old.intake.asker (length core.old.lanes) start before
+        → AllByRecursion (IsSenderReportOf core.old.ingress.asker (length core.old.lanes) start before
         (visit_after start before lane (Input.report moment)) moment) (map sent_of sent.items)) }
     ensures notes { IfOk result (λ sent. (start : Desk) (before : List Step) (told : Told)
         → HasTaken core.old start before → good start ≡ true → AreGood before → input_of item.now ≡ Input.block told
-        → AllByRecursion (IsNoteOf core.old.intake.asker (length core.old.lanes) start before lane
+        → AllByRecursion (IsNoteOf core.old.ingress.asker (length core.old.lanes) start before lane
         (visit_after start before lane (Input.block told)) told) (map sent_of sent.items)) }
     ensures losses { IfOk result (λ sent. (start : Desk) (before : List Step) (loss : Loss)
         → HasTaken core.old start before → input_of item.now ≡ Input.pli loss
-        → AllByRecursion (IsPassedUpOf core.old.intake.asker (visit_after start before lane (Input.pli loss)) loss)
+        → AllByRecursion (IsPassedUpOf core.old.ingress.asker (visit_after start before lane (Input.pli loss)) loss)
         (map sent_of sent.items)) }
 {
     reports_count_first_sendings();

@@ -56,7 +56,7 @@ pub fn is_the_same_on_two_lanes(
 ) -> Option<(Vec<Egress>, Vec<Egress>, Vec<Egress>)>
     requires one { length one.old.lanes ≡ 1 }
     requires two { length two.old.lanes ≡ 2 }
-    requires name { two.old.intake.asker ≡ one.old.intake.asker }
+    requires name { two.old.ingress.asker ≡ one.old.ingress.asker }
     requires sized { is_sized (input_of item.now) ≡ true }
     ensures { IfSome result (λ sent. (start : Desk) (ssrc : ℕ) → HasTaken one.old start [] → HasTaken two.old start []
         → sent_on ssrc (map sent_of sent.0.items ∷ [])

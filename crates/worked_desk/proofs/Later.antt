@@ -2,7 +2,7 @@
 use Rattle.std.proofs.Common.{List}
 use Rattle.std.specs.Prelude.{Result, Ok, Err, IfOk}
 use mathlib.Core.List.{IsPrefix}
-use Rattle.versions.proofs.Prefixes.{prefix_trans}
+use Rattle.published_desk.proofs.Prefixes.{prefix_trans}
 
 -- an entry has all lists that its reader knew
 pub ok_later : {X E A : Type 0} (lists : X → List A) (xs ys : List A) (r : Result X E) → IsPrefix xs ys

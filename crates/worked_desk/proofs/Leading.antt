@@ -5,7 +5,7 @@ use Rattle.desk_rows.specs.Desk.{Desk, count_of}
 use Rattle.desk_rows.specs.Edit.{EditOf}
 use Rattle.desk_rows.specs.declared.key.Kind.{Kind}
 use Rattle.desk_edit.specs.Calls.{desk_now}
-use Rattle.versions.specs.Published.{after_lists}
+use Rattle.published_desk.specs.Published.{after_lists}
 use Rattle.operator_desk.specs.Entry.{EntryOf}
 use Rattle.operator_desk.specs.LegalLogs.{after_log}
 use Rattle.operator_desk.specs.Published.{AreDesks}

@@ -1,8 +1,8 @@
 //! What may go to another thread: a publisher, a reader and an entry.
 
+use published_desk::{Entered, LaneReader, Publisher};
 use std::sync::Wait;
 use std::thread::{Threads, join};
-use versions::{Entered, LaneReader, Publisher};
 
 /// Ends a publisher in one thread while another one leaves an entry.
 pub fn part<R: Threads + Wait + Sync>(

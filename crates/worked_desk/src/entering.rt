@@ -2,11 +2,11 @@
 
 ghost use Rattle.std.specs.Prelude.{◌≡◌, ◌≤◌, length, take, IfOk};
 ghost use Rattle.desk_rows.specs.Desk.{count_of};
-ghost use Rattle.versions.specs.Published.{after_lists};
+ghost use Rattle.published_desk.specs.Published.{after_lists};
 
 use crate::lane::{Seen, handle, handle_told};
 use desk_rows::Kind;
-use versions::{LaneReader, Notice};
+use published_desk::{LaneReader, Notice};
 
 /// Enters, learns a notice, and enters again: the second version is neither below the first nor below the notice's,
 /// and the first one is the desk after the first lists of the second.

@@ -3,10 +3,10 @@
 ghost use Rattle.std.specs.Prelude.{◌≡◌, ◌≤◌, length, IfOk, IfErr};
 ghost use mathlib.Core.List.{IsPrefix};
 ghost use Rattle.desk_rows.specs.Desk.{count_of};
-ghost use Rattle.versions.specs.Published.{after_lists};
+ghost use Rattle.published_desk.specs.Published.{after_lists};
 
 use desk_rows::Kind;
-use versions::{LaneReader, Notice};
+use published_desk::{LaneReader, Notice};
 
 /// What an item saw: a version of the desk, and how many rows of a kind there are at it.
 #[derive(Clone, Copy)]

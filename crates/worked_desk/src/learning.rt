@@ -3,7 +3,7 @@
 ghost use Rattle.std.specs.Prelude.{◌≡◌, ◌<◌, length, IfOk};
 ghost use mathlib.Core.List.{IsPrefix};
 
-use versions::{Entered, LaneReader, Notice};
+use published_desk::{Entered, LaneReader, Notice};
 
 /// A notice of a later version.
 pub fn learns_of_a_later_version(reader: &mut LaneReader, notice: Notice)

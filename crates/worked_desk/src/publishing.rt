@@ -3,12 +3,12 @@
 ghost use Rattle.std.specs.Prelude.{◌≡◌, ◌∷◌, [], true, None, IfSome, IfNone};
 ghost use Rattle.undo_log.specs.Timeline.{all_fit};
 ghost use Rattle.desk_rows.specs.Exchange.{fits, after};
-ghost use Rattle.versions.specs.Published.{after_list, after_lists};
+ghost use Rattle.published_desk.specs.Published.{after_list, after_lists};
 
 use desk_rows::Edit;
+use published_desk::{Notice, Publisher};
 use std::sync::Wait;
 use undo_log::Edits;
-use versions::{Notice, Publisher};
 
 /// The first list is version 1. A publisher that has ended adds none.
 pub fn publishes_version_1<R: Wait>(

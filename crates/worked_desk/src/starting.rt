@@ -3,9 +3,9 @@
 ghost use Rattle.std.specs.Prelude.{◌≡◌, ◌≢◌, Err, [], IfOk};
 
 use desk_rows::Rows;
+use published_desk::{LaneReader, Opened, Publisher, VersionFault, start};
 use std::alloc::Global;
 use std::sync::Wait;
-use versions::{LaneReader, Opened, Publisher, VersionFault, start};
 
 /// Version 0 is published from the start on, and has no list.
 pub fn starts_with_seventeen_readers<R: Wait>(

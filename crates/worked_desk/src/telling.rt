@@ -3,15 +3,15 @@
 ghost use Rattle.std.specs.Prelude.{◌≡◌, ◌≤◌, length, IfSome};
 ghost use Rattle.desk_rows.specs.Desk.{count_of};
 ghost use Rattle.desk_edit.specs.Calls.{desk_now};
-ghost use Rattle.versions.specs.Published.{after_lists};
+ghost use Rattle.published_desk.specs.Published.{after_lists};
 ghost use Rattle.operator_desk.specs.LegalLogs.{after_log};
 
 use desk_edit::Call;
 use desk_rows::Kind;
 use operator_desk::{Answer, DeskBrand, Seat, SharedDesk};
+use published_desk::{LaneReader, Notice};
 use std::alloc::Global;
 use std::sync::Wait;
-use versions::{LaneReader, Notice};
 
 /// What a reader found that was told of an accepted call.
 #[derive(Clone, Copy)]

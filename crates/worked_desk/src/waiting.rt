@@ -3,12 +3,12 @@
 ghost use Rattle.std.specs.Prelude.{◌≡◌, true, None, IfOk};
 ghost use Rattle.undo_log.specs.Timeline.{all_fit};
 ghost use Rattle.desk_rows.specs.Exchange.{fits, after};
-ghost use Rattle.versions.specs.Published.{after_lists};
+ghost use Rattle.published_desk.specs.Published.{after_lists};
 ghost use mathlib.Core.List.{IsPrefix};
 
 use desk_rows::{Edit, Kind};
+use published_desk::{LaneReader, Publisher};
 use undo_log::Edits;
-use versions::{LaneReader, Publisher};
 
 /// Stages a list, tells, learns, enters and leaves.
 pub fn waits_for_nobody(

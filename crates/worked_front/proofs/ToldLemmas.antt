@@ -3,7 +3,7 @@ use Rattle.std.proofs.Common.{Bool, false, ◌≡◌, ◌<◌, ◌+◌, ℕ, zer
 use Rattle.std.proofs.Common.{OnOk, IfErr, refl, ap, sym, ◌∙◌, arith}
 use Rattle.std.proofs.lemmas.List.{length-map}
 use Rattle.std.specs.Prelude.{slice_get, slice_set}
-use Rattle.versions.specs.Published.{NoticeOf}
+use Rattle.published_desk.specs.Published.{NoticeOf}
 use Rattle.media_items.specs.declared.item.Item.TheVariants.{Tick}
 use Rattle.media_workers.specs.declared.lane_item.LaneItem.TheVariants.{Own}
 use Rattle.media_workers.specs.declared.parcel.Parcel.{Parcel}

@@ -12,10 +12,10 @@ use desk_edit::Call;
 use lane_laws::{lanes_saw_what_they_know, none_knew_more, the_running_headline};
 use media_workers::{Bridge, LaneEnd, LaneItem, Pace, Parcel, PublisherName, Sink};
 use operator_desk::{Answer, DeskBrand, Seat, SharedDesk};
+use published_desk::Notice;
 use std::alloc::Global;
 use std::sync::Wait;
 use std::thread::Threads;
-use versions::Notice;
 
 /// Makes an operator's call, tells both lanes of a bridge of it, each with a tick, and ends the bridge. `None` where
 /// the call is refused, or where a lane knew of a later call at its end.

@@ -1,8 +1,8 @@
 //! Which datagrams refill tokens, by their outcome.
 
 ghost use Rattle.std.specs.Prelude.{◌≡◌, ℕ, ℤ, [], true, false};
-ghost use Rattle.intake.specs.declared.outcome.Outcome.TheVariants.{BadPayload, Spent, Probation, Accepted};
-ghost use Rattle.intake.specs.declared.outcome.Outcome.TheVariants.{Duplicate, Jump, Restarted, Rtcp};
+ghost use Rattle.ingress.specs.declared.outcome.Outcome.TheVariants.{BadPayload, Spent, Probation, Accepted};
+ghost use Rattle.ingress.specs.declared.outcome.Outcome.TheVariants.{Duplicate, Jump, Restarted, Rtcp};
 ghost use Rattle.worked_front.specs.Refilled.{with_406};
 
 use bridge_core::Outcome;

@@ -3,27 +3,27 @@
 ghost use Rattle.std.specs.Prelude.{◌≡◌, ◌+◌, ◌*◌, ◌≤◌, ◌%◌, ◌^◌, ◌∷◌, if◌then◌else◌};
 ghost use Rattle.std.specs.Prelude.{ℕ, true, nat_eq, List, [], filter, IfOk};
 ghost use Rattle.std.specs.List.{AllByRecursion, flat_map, list_any};
-ghost use Rattle.feedback.specs.Resends.{firsts};
+ghost use Rattle.receiver_feedback.specs.Resends.{firsts};
 ghost use Rattle.rtcp_codec.specs.CanonicalName.{named};
 ghost use Rattle.rtcp_codec.specs.Compound.{written};
 ghost use Rattle.rtcp_codec.specs.Nack.{numbers_named};
 ghost use Rattle.rtcp_codec.specs.Packet.{Sender};
 ghost use Rattle.rtcp_codec.specs.Report.{FitsLost};
 ghost use Rattle.rtcp_codec.specs.View.{packets_of};
-ghost use Rattle.upward.specs.ReceiverReports.{blocks_in};
-ghost use Rattle.feedback.specs.Times.{from_1900_to_1970, ntp_of, second, ts_at};
+ghost use Rattle.sender_feedback.specs.ReceiverReports.{blocks_in};
+ghost use Rattle.receiver_feedback.specs.Times.{from_1900_to_1970, ntp_of, second, ts_at};
 ghost use Rattle.worked_media.specs.Reported.{bridge};
 
 use desk_rows::Rows;
-use feedback::{
+use forward_rewrite::Counts;
+use receiver_feedback::{
     each_number_once, picture_losses_reach_a_sender, pli_up, sender_report, times_of_reports,
 };
-use forward_rewrite::Counts;
 use rtcp_codec::{Nack, ReportBlock, Rtcp, read_compound};
 use rtp_codec::Address;
+use sender_feedback::{blocks_are_told_once, numbers_of, receiver_report};
 use std::alloc::{AllocError, Global};
 use topology::{choice, member_from, slot_at};
-use upward::{blocks_are_told_once, numbers_of, receiver_report};
 
 /// The list that is resent has each number that a NACK names once, however often it is named, and no other.
 pub fn asks_for_each_number_once(alloc: Global, nack: Nack) -> Result<Vec<u16>, AllocError>

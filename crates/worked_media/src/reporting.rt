@@ -5,11 +5,11 @@ ghost use Rattle.worked_media.specs.Upstreams.{octets_of};
 ghost use Rattle.worked_media.specs.Reported.{name, first_block, second_block};
 
 use crate::streaming::{owner, switched};
-use feedback::{LossNote, note, sender_report};
 use forward_rewrite::Counts;
+use receiver_feedback::{LossNote, note, sender_report};
 use rtcp_codec::ReportBlock;
+use sender_feedback::receiver_report;
 use std::alloc::{AllocError, Global};
-use upward::receiver_report;
 
 /// What is counted of a stream whose last frame had timestamp 1000, one second after 1970.
 fn counts() -> Counts

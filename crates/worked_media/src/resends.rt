@@ -8,8 +8,8 @@ use bytes::Bytes;
 use retransmit::{Entry, Owner, PacketBytes, Window, so_far};
 use rtcp_codec::{Nack, NackWord, Pli, Rtcp};
 use rtp_codec::Address;
+use sender_feedback::numbers_of;
 use std::alloc::{AllocError, Global};
-use upward::numbers_of;
 
 fn owner(member: u32, port: u16) -> Owner
     ensures { result ≡ owner_of member port }

@@ -3,8 +3,8 @@
 ghost use Rattle.std.specs.Prelude.{◌≡◌, ◌++◌, [], IfOk};
 ghost use Rattle.worked_media.specs.Upstreams.{octets_of, introduction, nack, pli};
 
+use sender_feedback::upstream;
 use std::alloc::{AllocError, Global};
-use upward::upstream;
 
 /// A lost packet is asked for by a NACK.
 pub fn a_lost_packet_is_asked_for(alloc: Global) -> Result<Vec<u8>, AllocError>

@@ -6,11 +6,11 @@ use crate::rooms::{Plan, core_with};
 use crate::tally::Tally;
 use crate::timing::{Took, Watch};
 use desk_rows::Rows;
+use published_desk::{LaneReader, Opened, start};
 use std::alloc::Global;
 use std::io;
 use std::sync::{Mutex, MutexGuard, Wait};
 use std::time::{Clock, CpuClock};
-use versions::{LaneReader, Opened, start};
 
 /// Enters and leaves so often. It answers how often it could.
 pub fn enter_all(reader: LaneReader, times: u64) -> u64 {

@@ -1,17 +1,17 @@
 //! Lanes of one bridge.
 
 ghost use Rattle.std.specs.Prelude.{◌≡◌, ◌<◌, ◌≤◌, true, All, IfOk, IfSome, vec_len};
-ghost use Rattle.versions.specs.Published.{ReaderOf};
-ghost use Rattle.intake.specs.Names.{is_name};
+ghost use Rattle.published_desk.specs.Published.{ReaderOf};
+ghost use Rattle.ingress.specs.Names.{is_name};
 ghost use Rattle.media_workers.specs.LaneRuns.{LaneNow};
 ghost use Rattle.media_workers.specs.Bridges.{IsNew, AreNew};
 
 use crate::rooms::settings;
 use bridge_core::{LaneState, Settings};
 use media_workers::{Lane, PublisherName};
+use published_desk::LaneReader;
 use std::alloc::Global;
 use std::io;
-use versions::LaneReader;
 
 /// The most lanes of a bridge.
 const LANES: u32 = 16;

@@ -11,13 +11,13 @@ use crate::rooms::{Plan, commands_for};
 use crate::timing::{Took, Watch};
 use desk_edit::Command;
 use operator_desk::{Answer, DeskBrand, DeskNames, Log, Seat, SharedDesk};
+use published_desk::LaneReader;
 use std::alloc::Global;
 use std::io;
 use std::marker::Brand;
 use std::sync::Wait;
 use std::thread::{Threads, join};
 use std::time::{Clock, CpuClock};
-use versions::LaneReader;
 
 /// What the operator calls while a reader enters.
 #[derive(Clone, Copy)]

@@ -1,7 +1,7 @@
 //! Bridges whose lanes run, each on a thread of its own, and a core that does the same on one.
 
 ghost use Rattle.std.specs.Prelude.{◌≡◌, ◌<◌, ◌≤◌, All, length};
-ghost use Rattle.versions.specs.Published.{ReaderOf};
+ghost use Rattle.published_desk.specs.Published.{ReaderOf};
 
 use crate::batches::{BATCH, feed_batches};
 use crate::feeding::feed_core;
@@ -12,13 +12,13 @@ use crate::rooms::{Plan, core_with};
 use crate::streaming::{Course, feed_stream};
 use crate::timing::{Took, Watch};
 use media_workers::{Pace, PublisherName};
+use published_desk::{LaneReader, Opened, start};
 use std::alloc::Global;
 use std::io;
 use std::marker::Brand;
 use std::sync::Wait;
 use std::thread::Threads;
 use std::time::{Clock, CpuClock};
-use versions::{LaneReader, Opened, start};
 
 /// How lanes are fed.
 #[derive(Clone, Copy)]

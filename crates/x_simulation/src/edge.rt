@@ -1,10 +1,10 @@
 //! What the front has in place of sockets and a clock.
 
 ghost use Rattle.std.specs.Prelude.{◌≡◌, ◌≤◌, length};
-ghost use Rattle.front_rounds.specs.Came.{octets_read};
+ghost use Rattle.event_loop.specs.Came.{octets_read};
 
 use crate::datagram::Datagram;
-use front_rounds::{Inlet, Read, ReadLog, TryLog, Watch, WatchLog};
+use event_loop::{Inlet, Read, ReadLog, TryLog, Watch, WatchLog};
 use rtp_codec::Address;
 use std::alloc::Global;
 use std::collections::VecDeque;
@@ -66,7 +66,7 @@ impl ScriptInlet {
 }
 
 impl Inlet for ScriptInlet {
-    ghost use Rattle.front_rounds.specs.Logs.{read_list};
+    ghost use Rattle.event_loop.specs.Logs.{read_list};
 
     ghost came = { λ inlet. read_list inlet.log };
 
@@ -118,7 +118,7 @@ fn keep(alloc: Global, tried: &mut Vec<Datagram>, to: Address, first: &[u8], res
 
 impl Wire for ScriptWire {
     ghost use Rattle.std.specs.Prelude.{Some};
-    ghost use Rattle.front_rounds.specs.Logs.{tried_list};
+    ghost use Rattle.event_loop.specs.Logs.{tried_list};
 
     ghost attempts = { λ wire. Some (tried_list wire.log) };
 
@@ -171,7 +171,7 @@ impl ScriptWatch {
 }
 
 impl Watch for ScriptWatch {
-    ghost use Rattle.front_rounds.specs.Logs.{told_list};
+    ghost use Rattle.event_loop.specs.Logs.{told_list};
 
     ghost told = { λ watch. told_list watch.log };
 

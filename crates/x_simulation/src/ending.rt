@@ -6,7 +6,7 @@ use crate::difference::Difference;
 use crate::scene::{Scene, ScriptMedia, ScriptRounds};
 use crate::sink::counted;
 use crate::tally::Tally;
-use front_rounds::FrontState;
+use event_loop::FrontState;
 use media_workers::HandleFault;
 use operator_desk::DeskBrand;
 use operator_threads::Operators;

@@ -1,14 +1,14 @@
 //! The model: a bridge of one thread, which takes the same datagrams, moments and lines.
 
 ghost use Rattle.std.specs.Prelude.{◌≡◌, true};
-ghost use Rattle.intake.specs.Names.{is_name};
+ghost use Rattle.ingress.specs.Names.{is_name};
 
 use crate::act::Plan;
 use crate::datagram::Datagram;
 use crate::difference::Difference;
 use crate::lane_model::LaneModel;
 use crate::plain_desk::PlainDesk;
-use bridge_core::{Core, Intake, Item, Settings, WaitAnswer};
+use bridge_core::{Core, Ingress, Item, Settings, WaitAnswer};
 use bytes::Bytes;
 use desk_rows::{Kind, Media, Row};
 use media_front::pli_octets;
@@ -58,10 +58,10 @@ fn begun_lanes(alloc: Global, count: u32) -> Result<Vec<LaneModel>, Difference> 
 }
 
 /// What takes datagrams, and nothing has come yet.
-fn begun_front(alloc: Global) -> Result<(Intake, RateLimiter), Difference> {
+fn begun_front(alloc: Global) -> Result<(Ingress, RateLimiter), Difference> {
     let limiter = RateLimiter::new(alloc)?;
-    let intake = Intake::new(alloc, settings())?;
-    Ok((intake, limiter))
+    let ingress = Ingress::new(alloc, settings())?;
+    Ok((ingress, limiter))
 }
 
 /// A bridge of one thread.
@@ -76,7 +76,7 @@ pub struct OneThread {
     pub busy: u64,
     /// Whether an operator has stopped the bridge.
     pub is_stopped: bool,
-    pub intake: Intake,
+    pub ingress: Ingress,
     pub limiter: RateLimiter,
     pub pictures: PictureRequests,
     /// The version of the desk that `pictures` has seen.
@@ -98,7 +98,7 @@ impl OneThread {
             return Err(Difference::Begin);
         };
         let lanes = begun_lanes(alloc, plan.lanes)?;
-        let (intake, limiter) = begun_front(alloc)?;
+        let (ingress, limiter) = begun_front(alloc)?;
         Ok(Self {
             alloc,
             desk: PlainDesk { core, accepted: 0 },
@@ -106,7 +106,7 @@ impl OneThread {
             seats: u64::from(SEATS),
             busy: 0,
             is_stopped: false,
-            intake,
+            ingress,
             limiter,
             pictures: PictureRequests::new(alloc),
             version: 0,
@@ -219,7 +219,7 @@ impl OneThread {
     /// Makes the reports.
     fn report(&mut self, now: u64) -> Result<(), AllocError> {
         let rows = self.desk.core.rows();
-        for (to, octets) in self.intake.reports(self.alloc, rows, now)? {
+        for (to, octets) in self.ingress.reports(self.alloc, rows, now)? {
             self.tried.push(Datagram::new(to, octets))?;
         }
         self.give(&Item::Report { moment: now })
@@ -230,7 +230,9 @@ impl OneThread {
         for source in self.videos()? {
             let rows = self.desk.core.rows();
             let from = source.address();
-            let answer = self.intake.wait(self.alloc, rows, &from, source.ssrc, now)?;
+            let answer = self
+                .ingress
+                .wait(self.alloc, rows, &from, source.ssrc, now)?;
             let WaitAnswer { up, items } = answer;
             self.handle(&from, now, up, items)?;
         }

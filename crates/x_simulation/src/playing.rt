@@ -11,10 +11,10 @@ use crate::scene::{Scene, ScriptMedia};
 use crate::talker::Place;
 use crate::talkers::Talkers;
 use operator_desk::DeskBrand;
+use published_desk::Notice;
 use std::alloc::Global;
 use std::sync::Wait;
 use std::time::Clock;
-use versions::Notice;
 
 /// The most items that give datagrams which a lane handles for one line.
 const MOST_STOPS: u64 = 2_000;

@@ -35,7 +35,7 @@ impl OneThread {
         let octets = &datagram.octets;
         let rows = self.desk.core.rows();
         let ingest = self
-            .intake
+            .ingress
             .datagram(self.alloc, rows, &from, moment, octets)?;
         let Ingest {
             received,
@@ -72,7 +72,7 @@ impl OneThread {
     /// Asks the sender of a video source for a picture, if its address has tokens.
     pub fn ask_picture(&mut self, source: &VideoSource, now: u64) -> Result<(), AllocError> {
         let (to, octets) = self
-            .intake
+            .ingress
             .picture_request(self.alloc, &source.address(), source.ssrc)?;
         if self.send_paid(to, octets)? {
             self.pictures.asked(source, now);
@@ -89,7 +89,8 @@ impl OneThread {
         Ok(is_paid)
     }
 
-    /// Does what the intake answered to an address: sends what is paid for, and gives what is granted of the items.
+    /// Does what the receive side answered to an address: sends what is paid for, and gives what is granted of the
+    /// items.
     pub fn handle(
         &mut self,
         from: &Address,

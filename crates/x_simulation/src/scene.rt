@@ -1,9 +1,9 @@
 //! A bridge that runs over a script, from its beginning to its end.
 
 ghost use Rattle.std.specs.Prelude.{◌≡◌, ◌≤◌, true, [], All, vec_len};
-ghost use Rattle.intake.specs.Names.{is_name};
+ghost use Rattle.ingress.specs.Names.{is_name};
 ghost use Rattle.desk_rows.specs.Desk.{blank as no_rows};
-ghost use Rattle.versions.specs.Published.{ReaderOf, new_reader};
+ghost use Rattle.published_desk.specs.Published.{ReaderOf, new_reader};
 ghost use Rattle.bridge_core.specs.Calls.{most_lanes};
 ghost use Rattle.lane_wire.specs.Logs.{taken_list};
 
@@ -17,20 +17,20 @@ use crate::sink::{FatedSink, gates_for, sinks_for};
 use crate::talker::{Place, Wakes};
 use crate::talkers::Talkers;
 use crate::tally::Tally;
-use bridge_core::{Intake, Settings};
+use bridge_core::{Ingress, Settings};
 use bridge_stats::BridgeStats;
-use front_rounds::{BegunRound, FrontState, FrontTrace, Rounds};
+use event_loop::{BegunRound, FrontState, FrontTrace, Rounds};
 use media_front::{LaneFeed, MediaFront, PublisherOf, pli_octets};
 use media_workers::SleepPace;
 use operator_desk::{DeskBrand, DeskNames, Log, SharedDesk};
 use operator_threads::Operators;
+use published_desk::LaneReader;
 use rate_limiter::RateLimiter;
 use std::alloc::Global;
 use std::marker::Brand;
 use std::sync::{Arc, Wait};
 use std::thread::Threads;
 use std::time::Clock;
-use versions::LaneReader;
 
 /// The media of a bridge over a script.
 pub type ScriptMedia<H, R> = MediaFront<PublisherOf<H>, SleepPace<R, ()>, FatedSink<R>>;
@@ -237,12 +237,12 @@ where
     requires many { vec_len sinks ≡ vec_len readers }
     requires untaken { All (λ sink. taken_list sink.sent.taken ≡ []) sinks.items }
 {
-    let intake = Intake::new(alloc, settings.try_clone()?)?;
+    let ingress = Ingress::new(alloc, settings.try_clone()?)?;
     let limiter = RateLimiter::new(alloc)?;
     let cost = pli_octets(alloc, &settings)?;
     match LaneFeed::start(rt, alloc, readers, &settings, sinks) {
         Ok(feed) => {
-            let mut media = MediaFront::new(intake, feed, limiter, cost, report_timer(plan));
+            let mut media = MediaFront::new(ingress, feed, limiter, cost, report_timer(plan));
             media.renew();
             Ok(media)
         }

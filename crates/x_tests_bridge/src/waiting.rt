@@ -1,6 +1,6 @@
-//! An intake that is told that time passes.
+//! A receive side that is told that time passes.
 
-use bridge_core::{Core, Intake, Settings};
+use bridge_core::{Core, Ingress, Settings};
 use bytes::Bytes;
 use desk_edit::{Call, Command};
 use desk_rows::{Codec, Media, Member, Room, Rows, Source};
@@ -58,21 +58,21 @@ fn packet(number: u16) -> [u8; 13] {
 }
 
 /// How many datagrams and frames the waits give, once the packets have come.
-fn counts(alloc: Global, intake: &mut Intake, rows: &Rows) -> Result<(usize, usize), AllocError> {
+fn counts(alloc: Global, ingress: &mut Ingress, rows: &Rows) -> Result<(usize, usize), AllocError> {
     for number in NUMBERS {
-        intake.datagram(alloc, rows, &FROM, 0, &packet(number))?;
+        ingress.datagram(alloc, rows, &FROM, 0, &packet(number))?;
     }
     let mut sent = 0usize;
     let mut freed = 0usize;
     for moment in 0..WAITS {
-        let answer = intake.wait(alloc, rows, &FROM, 101, moment)?;
+        let answer = ingress.wait(alloc, rows, &FROM, 101, moment)?;
         sent = sent.wrapping_add(answer.up.len());
         freed = freed.wrapping_add(answer.items.len());
     }
     Ok((sent, freed))
 }
 
-/// The same of a new intake, over a desk that is set up.
+/// The same of a new ingress, over a desk that is set up.
 fn counted(alloc: Global) -> Option<(usize, usize)> {
     let named = settings();
     if !named.is_good() {
@@ -82,8 +82,8 @@ fn counted(alloc: Global) -> Option<(usize, usize)> {
     for command in set_up() {
         core.desk(alloc, 0, Call::Apply(command));
     }
-    let mut intake = Intake::new(alloc, named).ok()?;
-    counts(alloc, &mut intake, core.rows()).ok()
+    let mut ingress = Ingress::new(alloc, named).ok()?;
+    counts(alloc, &mut ingress, core.rows()).ok()
 }
 
 /// A lost packet is asked for at 4 waits. The 26th gives it up: it asks for a picture, and sets a frame free.

@@ -7,11 +7,11 @@ use crate::calls::{Reply, reply_of};
 use desk_edit::{Call, Command, Refusal};
 use desk_rows::Room;
 use operator_desk::{DeskBrand, DeskNames, Log, Seat, SharedDesk};
+use published_desk::{LaneReader, Notice};
 use std::alloc::Global;
 use std::marker::Brand;
 use std::sync::Wait;
 use std::test::*;
-use versions::{LaneReader, Notice};
 
 /// How many calls a log takes.
 const CALLS: u64 = 1_048_576;

@@ -3,10 +3,10 @@
 use crate::plain::Plain;
 use crate::telling::look;
 use desk_rows::Rows;
+use published_desk::{LaneReader, Opened, VersionFault, start};
 use std::alloc::Global;
 use std::sync::Wait;
 use std::test::*;
-use versions::{LaneReader, Opened, VersionFault, start};
 
 /// What becomes of a start with so many readers: the readers of a publisher that has ended, or the fault.
 fn started<R: Wait>(

@@ -5,11 +5,11 @@ ghost use Rattle.std.specs.Prelude.{◌≡◌, ◌<◌, ◌≤◌, [], None, len
 use crate::plain::Plain;
 use crate::telling::{look, publish};
 use desk_rows::Rows;
+use published_desk::{LaneReader, Opened, Publisher, start};
 use std::alloc::Global;
 use std::sync::Wait;
 use std::test::*;
 use std::thread::{join, map_vec};
-use versions::{LaneReader, Opened, Publisher, start};
 
 /// How many versions are published.
 const VERSIONS: u64 = 1_000;

@@ -1,14 +1,14 @@
 //! A reader that is told of versions.
 
 ghost use Rattle.std.specs.Prelude.{◌≡◌, ◌<◌, ◌≤◌, ◌+◌, [], None, All, length, IfSome};
-ghost use Rattle.versions.specs.Published.{new_reader};
+ghost use Rattle.published_desk.specs.Published.{new_reader};
 
 use crate::plain::Plain;
 use desk_rows::Rows;
+use published_desk::{LaneReader, Opened, Publisher, start};
 use std::alloc::Global;
 use std::sync::Wait;
 use std::test::*;
-use versions::{LaneReader, Opened, Publisher, start};
 
 /// Publishes the next list, and says its version.
 pub fn publish<R: Wait>(

@@ -6,12 +6,12 @@ ghost use Rattle.desk_rows.specs.Desk.{blank as no_rows};
 use desk_edit::{Call, Command};
 use desk_rows::{Kind, Room};
 use operator_desk::{DeskBrand, DeskNames, Log, Seat, SharedDesk};
+use published_desk::{LaneReader, Notice};
 use std::alloc::Global;
 use std::marker::Brand;
 use std::sync::Wait;
 use std::test::*;
 use std::thread::Threads;
-use versions::{LaneReader, Notice};
 use worked_desk::telling::{Found, told_of};
 use worked_desk::together::by_two;
 

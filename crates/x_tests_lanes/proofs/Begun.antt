@@ -5,8 +5,8 @@ use Rattle.std.proofs.lemmas.List.{length_push}
 use Rattle.std.proofs.lemmas.List.Elements.{All-push}
 use Rattle.logbook.specs.Pages.{Book}
 use Rattle.desk_rows.specs.Desk.{Desk}
-use Rattle.upward.specs.Upstream.{Asker}
-use Rattle.versions.specs.Published.{ReaderOf, new_reader}
+use Rattle.sender_feedback.specs.Upstream.{Asker}
+use Rattle.published_desk.specs.Published.{ReaderOf, new_reader}
 use Rattle.bridge_core.specs.LaneState.{LaneOf, HasHandled}
 use Rattle.media_workers.specs.LaneRuns.{LaneNow}
 use Rattle.media_workers.specs.Bridges.{IsNew, AreNew}

@@ -1,7 +1,7 @@
 //! A bridge of new lanes.
 
 ghost use Rattle.std.specs.Prelude.{◌≡◌, All};
-ghost use Rattle.versions.specs.Published.{new_reader};
+ghost use Rattle.published_desk.specs.Published.{new_reader};
 
 use crate::lanes::lanes;
 use crate::rings::outfits;
@@ -9,10 +9,10 @@ use crate::running::Running;
 use crate::told::OfBrand;
 use media_workers::Pace;
 use operator_desk::DeskBrand;
+use published_desk::LaneReader;
 use std::alloc::Global;
 use std::sync::Wait;
 use std::thread::Threads;
-use versions::LaneReader;
 
 /// How many egresses a lane's ring holds.
 const PLACES: usize = 4_096;

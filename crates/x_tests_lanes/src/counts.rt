@@ -2,7 +2,7 @@
 
 ghost use Rattle.std.specs.Prelude.{◌≡◌, All};
 ghost use Rattle.desk_rows.specs.Desk.{blank as no_rows};
-ghost use Rattle.versions.specs.Published.{new_reader};
+ghost use Rattle.published_desk.specs.Published.{new_reader};
 
 use crate::lanes::lanes;
 use crate::paces::Free;
@@ -12,12 +12,12 @@ use crate::stage::OneDesk;
 use crate::told::OfBrand;
 use media_workers::StartFault;
 use operator_desk::{DeskBrand, DeskNames, Log};
+use published_desk::LaneReader;
 use std::alloc::Global;
 use std::marker::Brand;
 use std::sync::Wait;
 use std::test::*;
 use std::thread::Threads;
-use versions::LaneReader;
 
 fn free(alloc: Global, count: usize) -> Option<Vec<Free>> {
     let mut paces = Vec::new(alloc);

@@ -2,7 +2,7 @@
 
 ghost use Rattle.std.specs.Prelude.{◌≡◌, All};
 ghost use Rattle.desk_rows.specs.Desk.{blank as no_rows};
-ghost use Rattle.versions.specs.Published.{new_reader};
+ghost use Rattle.published_desk.specs.Published.{new_reader};
 
 use crate::items::FitItem;
 use crate::lanes::{OwnLane, own_lane};
@@ -13,12 +13,12 @@ use crate::told::{OfBrand, Told};
 use bridge_core::Egress;
 use media_workers::PublisherName;
 use operator_desk::{DeskBrand, DeskNames, Log};
+use published_desk::LaneReader;
 use std::alloc::Global;
 use std::marker::Brand;
 use std::sync::Wait;
 use std::test::*;
 use std::thread::Threads;
-use versions::LaneReader;
 
 /// What a lane sends for an item once it is told.
 fn sent_after<N: PublisherName>(

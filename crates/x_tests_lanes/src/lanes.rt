@@ -1,7 +1,7 @@
 //! Lanes that have handled nothing.
 
 ghost use Rattle.std.specs.Prelude.{◌≡◌, ◌<◌, ◌≤◌, [], vec_len, codes, All, IfSome, IfOk};
-ghost use Rattle.versions.specs.Published.{new_reader};
+ghost use Rattle.published_desk.specs.Published.{new_reader};
 ghost use Rattle.bridge_core.specs.LaneState.{HasHandled};
 ghost use Rattle.media_workers.specs.LaneRuns.{LaneNow};
 ghost use Rattle.media_workers.specs.Bridges.{AreNew};
@@ -12,9 +12,9 @@ use bridge_core::{Egress, LaneState, Settings};
 use bytes::Bytes;
 use media_workers::{HandleFault, Lane, PublisherName};
 use operator_desk::DeskBrand;
+use published_desk::LaneReader;
 use std::alloc::{AllocError, Global};
 use std::marker::PhantomData;
-use versions::LaneReader;
 
 /// The state of a lane of the bridge `bridge`, which has SSRC 1.
 fn state(alloc: Global, lane: u32, lanes: u32) -> Result<LaneState, AllocError>

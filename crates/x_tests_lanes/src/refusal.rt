@@ -2,7 +2,7 @@
 
 ghost use Rattle.std.specs.Prelude.{◌≡◌, All};
 ghost use Rattle.desk_rows.specs.Desk.{blank as no_rows};
-ghost use Rattle.versions.specs.Published.{new_reader};
+ghost use Rattle.published_desk.specs.Published.{new_reader};
 
 use crate::beginning::begun;
 use crate::gathering::{asked_by, paces, wait_until};
@@ -14,13 +14,13 @@ use crate::told::OfBrand;
 use bridge_core::Item;
 use media_workers::{HandleFault, LaneItem, Pace, PublisherName};
 use operator_desk::{DeskBrand, DeskNames, Log};
+use published_desk::LaneReader;
 use std::alloc::Global;
 use std::marker::Brand;
 use std::sync::{Arc, Wait};
 use std::test::*;
 use std::thread;
 use std::thread::Threads;
-use versions::LaneReader;
 
 /// Waits until the lane has ended.
 fn wait_for_end<N: PublisherName, P: Pace, R: Wait>(rt: &R, running: &Running<N, P>, lane: u32) {

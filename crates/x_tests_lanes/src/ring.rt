@@ -2,7 +2,7 @@
 
 ghost use Rattle.std.specs.Prelude.{◌≡◌, All};
 ghost use Rattle.desk_rows.specs.Desk.{blank as no_rows};
-ghost use Rattle.versions.specs.Published.{new_reader};
+ghost use Rattle.published_desk.specs.Published.{new_reader};
 
 use crate::beginning::begun;
 use crate::items::FitItem;
@@ -14,13 +14,13 @@ use crate::told::{OfBrand, Told};
 use bridge_core::Item;
 use media_workers::{LaneItem, Pace, Parcel, PublisherName};
 use operator_desk::{DeskBrand, DeskNames, Log};
+use published_desk::LaneReader;
 use std::alloc::Global;
 use std::marker::Brand;
 use std::sync::atomic::{AtomicBool, Ordering};
 use std::sync::{Arc, Wait};
 use std::test::*;
 use std::thread::Threads;
-use versions::LaneReader;
 
 /// How many parcels a lane's ring holds.
 const RING_PARCELS: u64 = 1_024;

@@ -2,7 +2,7 @@
 
 ghost use Rattle.std.specs.Prelude.{◌≡◌, All};
 ghost use Rattle.desk_rows.specs.Desk.{blank as no_rows};
-ghost use Rattle.versions.specs.Published.{new_reader};
+ghost use Rattle.published_desk.specs.Published.{new_reader};
 
 use crate::beginning::begun;
 use crate::rows::{FIRST, SECOND, frame, set_up};
@@ -13,6 +13,7 @@ use crate::together::next;
 use crate::told::{OfBrand, Told};
 use media_workers::{BeforeSleep, Pace, PublisherName, Signal, SleepPace};
 use operator_desk::{DeskBrand, DeskNames, Log};
+use published_desk::LaneReader;
 use std::alloc::Global;
 use std::marker::Brand;
 use std::sync::atomic::{AtomicU64, Ordering};
@@ -20,7 +21,6 @@ use std::sync::{Arc, Wait};
 use std::test::*;
 use std::thread;
 use std::thread::Threads;
-use versions::LaneReader;
 
 /// Counts how often a lane goes to sleep.
 #[derive(Drop)]

@@ -2,15 +2,15 @@
 
 ghost use Rattle.std.specs.Prelude.{◌≡◌, All, IfSome};
 ghost use Rattle.desk_rows.specs.Desk.{blank as no_rows};
-ghost use Rattle.versions.specs.Published.{new_reader};
+ghost use Rattle.published_desk.specs.Published.{new_reader};
 
 use crate::told::{OfBrand, Told};
 use desk_edit::{Call, Command, Form};
 use desk_rows::{Kind, Rows};
 use operator_desk::{Answer, DeskBrand, DeskNames, Log, Seat, SharedDesk};
+use published_desk::LaneReader;
 use std::alloc::Global;
 use std::sync::Wait;
-use versions::LaneReader;
 
 /// All kinds of rows.
 const KINDS: [Kind; 9] = [

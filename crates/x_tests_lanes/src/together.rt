@@ -2,7 +2,7 @@
 
 ghost use Rattle.std.specs.Prelude.{◌≡◌, All};
 ghost use Rattle.desk_rows.specs.Desk.{blank as no_rows};
-ghost use Rattle.versions.specs.Published.{new_reader};
+ghost use Rattle.published_desk.specs.Published.{new_reader};
 
 use crate::beginning::begun_with;
 use crate::items::FitItem;
@@ -15,6 +15,7 @@ use crate::told::{OfBrand, Told};
 use bridge_core::Egress;
 use media_workers::{Pace, PublisherName};
 use operator_desk::{DeskBrand, DeskNames, Log};
+use published_desk::LaneReader;
 use std::alloc::Global;
 use std::marker::Brand;
 use std::sync::atomic::AtomicBool;
@@ -22,7 +23,6 @@ use std::sync::{Arc, Wait};
 use std::test::*;
 use std::thread;
 use std::thread::Threads;
-use versions::LaneReader;
 
 /// Gives each lane an item, which they share, with the notice. False where one isn't accepted.
 fn tell_all<N: PublisherName, P: Pace>(

@@ -4,8 +4,8 @@ ghost use Rattle.std.specs.Prelude.{◌≡◌};
 
 use media_workers::PublisherName;
 use operator_desk::DeskBrand;
+use published_desk::Notice;
 use std::marker::PhantomData;
-use versions::Notice;
 
 /// The publisher of a desk, by its brand.
 pub struct OfBrand<H: DeskBrand> {

@@ -2,18 +2,18 @@
 
 ghost use Rattle.std.specs.Prelude.{◌≡◌, All};
 ghost use Rattle.desk_rows.specs.Desk.{blank as no_rows};
-ghost use Rattle.versions.specs.Published.{new_reader};
+ghost use Rattle.published_desk.specs.Published.{new_reader};
 
 use crate::beginning::begun;
 use crate::stage::OneDesk;
 use media_workers::{Signal, SleepPace};
 use operator_desk::{DeskBrand, DeskNames, Log};
+use published_desk::LaneReader;
 use std::alloc::Global;
 use std::marker::Brand;
 use std::sync::{Arc, Wait};
 use std::test::*;
 use std::thread::Threads;
-use versions::LaneReader;
 
 /// A pace by a new signal.
 fn paces<R: Wait + Copy + Drop>(rt: &R, alloc: Global) -> Option<Vec<SleepPace<R, ()>>> {

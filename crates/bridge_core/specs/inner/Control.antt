@@ -7,7 +7,7 @@ use Rattle.forward_rewrite.specs.declared.counts.Counts.{Counts}
 use Rattle.topology.specs.Receivers.{slots_to}
 use Rattle.media_items.specs.OwnStreams.{is_mine}
 use Rattle.mixer.specs.Mixes.{turns, counts_of as mix_counts_of}
-use Rattle.upward.specs.Upstream.{Asker}
+use Rattle.sender_feedback.specs.Upstream.{Asker}
 use Rattle.media_items.specs.Inputs.{Input}
 use Rattle.bridge_core.specs.Sent.{Sent}
 use Rattle.bridge_core.specs.Lanes.{Visit, given_of, routed, video_counts, tells}

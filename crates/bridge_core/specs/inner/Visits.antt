@@ -1,6 +1,6 @@
 -- What a lane handles an item by, in the words of the definitions.
 use Rattle.media_items.specs.Inputs.{Input}
-use Rattle.upward.specs.Upstream.{Asker}
+use Rattle.sender_feedback.specs.Upstream.{Asker}
 use Rattle.bridge_core.specs.declared.visit.LaneVisit.{LaneVisit}
 use Rattle.bridge_core.specs.Lanes.{Visit}
 use Rattle.bridge_core.specs.LaneState.{visit_of}

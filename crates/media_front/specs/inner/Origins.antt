@@ -5,7 +5,7 @@ use Rattle.rtp_codec.specs.declared.address.Address.{Address}
 use Rattle.desk_rows.specs.declared.row.Row.{Row}
 use Rattle.desk_rows.specs.Desk.{Desk}
 use Rattle.topology.specs.Looking.{source_in}
-use Rattle.intake.specs.Sources.{Origin}
+use Rattle.ingress.specs.Sources.{Origin}
 use Rattle.media_front.specs.Waits.{video_origin}
 
 -- an address and an SSRC, as an origin

@@ -1,7 +1,7 @@
 -- What a feed keeps of a lane beside its port.
 use Rattle.std.specs.Prelude.{◌≡◌, Bool, true, false, ◌||◌, if◌then◌else◌, nat_le, List, Some, None, All, IfSome}
 use Rattle.logbook.specs.Pages.{Book}
-use Rattle.versions.specs.Published.{NoticeOf}
+use Rattle.published_desk.specs.Published.{NoticeOf}
 use Rattle.media_workers.specs.Ports.{PortOf}
 use Rattle.media_front.specs.declared.lane_status.LaneStatus.{LaneStatus}
 use Rattle.media_front.specs.Signals.{many_parcels}

@@ -7,7 +7,7 @@ use Rattle.desk_edit.specs.Asked.{CallOf}
 use Rattle.desk_calls.specs.Edits.{after}
 use Rattle.desk_calls.specs.Desk.{DeskOf, Does}
 use Rattle.desk_calls.specs.Following.{HasCalled}
-use Rattle.versions.specs.Published.{PublisherOf}
+use Rattle.published_desk.specs.Published.{PublisherOf}
 use Rattle.operator_desk.specs.Entry.{EntryOf}
 use Rattle.operator_desk.specs.LegalLogs.{after_log, IsLegal}
 use Rattle.operator_desk.specs.Published.{AreDesks}

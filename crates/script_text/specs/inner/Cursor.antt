@@ -3,8 +3,8 @@ use Rattle.std.specs.Prelude.{◌≡◌, ◌≢◌, ℕ, List, [], ◌∷◌, le
 use Rattle.frame_gate.specs.Frame.{SourcePacket}
 use Rattle.media_items.specs.Frame.{SourceFrame}
 use Rattle.desk_edit.specs.Asked.{asked_by}
-use Rattle.upward.specs.Upstream.{Asker}
-use Rattle.intake.specs.declared.settings.Settings.{Settings}
+use Rattle.sender_feedback.specs.Upstream.{Asker}
+use Rattle.ingress.specs.declared.settings.Settings.{Settings}
 use Rattle.media_items.specs.Inputs.{input_of}
 use Rattle.media_items.specs.Inputs.Input.{frame, tick}
 use Rattle.desk_text.specs.declared.fault.ParseFault.{ParseFault}

@@ -5,7 +5,7 @@ use Rattle.std.specs.Prelude.{List, [], ◌++◌, Option, None, Result, Ok, Err}
 use Rattle.std.specs.Io.KnownBytes.{Appends}
 use Rattle.desk_edit.specs.declared.refusal.Refusal.TheVariants.{OutOfMemory}
 use Rattle.media_items.specs.Inputs.{Input}
-use Rattle.intake.specs.Intakes.{Knows}
+use Rattle.ingress.specs.Ingresses.{Knows}
 use Rattle.desk_calls.specs.declared.reply.Reply.{Reply}
 use Rattle.desk_calls.specs.declared.reply.Reply.TheVariants.{Refused}
 use Rattle.bridge_core.specs.Following.{HasCalled}
@@ -31,8 +31,8 @@ pub record Stands (core : CoreOf) (bridge : Bridge) : Type 0 where
   pub taken : HasTaken core (first_desk bridge.who) bridge.steps
   pub called : HasCalled core bridge.calls
   pub lanes : length core.lanes ≡ 1
-  pub knows : Knows core.intake bridge.sources
-  pub speaks : core.intake.asker ≡ bridge.who
+  pub knows : Knows core.ingress bridge.sources
+  pub speaks : core.ingress.asker ≡ bridge.who
 
 -- the core has the lane that a script's items go to
 abbrev pub HasLane : CoreOf → Type 0

@@ -1,6 +1,6 @@
 use Rattle.std.proofs.Common.{ℕ, List, ap, ◌∙◌, sym, length, subst, ◌+◌}
 use Rattle.std.proofs.lemmas.List.{length_push}
-use Rattle.upward.specs.Upstream.{Asker}
+use Rattle.sender_feedback.specs.Upstream.{Asker}
 use Rattle.bridge_core.specs.Sound.{AreFresh}
 use Rattle.bridge_core.proofs.StepLaws.{AreFresh-push}
 use Rattle.bridge_core.proofs.bridge.lane_states.Goals as goal

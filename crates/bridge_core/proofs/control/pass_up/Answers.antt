@@ -2,8 +2,8 @@ use Rattle.std.proofs.Common.{List, ℕ, [], ◌∷◌, cond, true, refl, ap, sy
 use Rattle.std.proofs.lemmas.Result.{IfOk-weaker}
 use Rattle.rtp_codec.specs.declared.address.Address.{Address}
 use Rattle.rtcp_codec.specs.Compound.{written}
-use Rattle.upward.specs.Upstream.{upstream_packets}
-use Rattle.feedback.specs.PassedUp.{pli_up}
+use Rattle.sender_feedback.specs.Upstream.{upstream_packets}
+use Rattle.receiver_feedback.specs.PassedUp.{pli_up}
 use Rattle.media_items.specs.Inputs.{Input, Loss}
 use Rattle.bridge_core.specs.Lanes.{controls, passed_up}
 use Rattle.bridge_core.specs.inner.Visits.{visit_on, asker_of}

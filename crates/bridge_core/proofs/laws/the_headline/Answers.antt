@@ -16,7 +16,7 @@ returns-clause-undone c first middle last commands replies accepts undoes =
 pub returns-clause-holds : goal.returns-clause-holds
 returns-clause-holds c start events sent first last h taken called plays =
     let steps = steps_of (no_calls start) events in
-    let who = first.intake.asker in
+    let who = first.ingress.asker in
     let lanes = length first.lanes in
     let run = played start [] (no_calls start) events sent first last taken called plays in
     record {

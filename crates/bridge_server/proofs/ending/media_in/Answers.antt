@@ -1,5 +1,5 @@
 use Rattle.std.proofs.Common.{◌∙◌, sym, subst}
-use Rattle.front_rounds.specs.Turns.{History}
+use Rattle.event_loop.specs.Turns.{History}
 use Rattle.bridge_server.specs.OneRun.{IsSetUp}
 use Rattle.bridge_server.proofs.ending.media_in.Goals as goal
 

@@ -1,7 +1,7 @@
 use Rattle.std.proofs.Common.{◌≡◌, ◌∙◌, ℕ, List, length, All, ap, sym, subst}
-use Rattle.upward.specs.Upstream.{Asker}
+use Rattle.sender_feedback.specs.Upstream.{Asker}
 use Rattle.media_front.specs.Prices.{pli_octets}
-use Rattle.versions.specs.Published.{ReaderOf}
+use Rattle.published_desk.specs.Published.{ReaderOf}
 use Rattle.media_front.specs.FedLanes.{lanes_in}
 use Rattle.media_workers.specs.LaneRuns.{LaneNow}
 use Rattle.bridge_server.specs.OneRun.{IsSetUp}
@@ -43,7 +43,7 @@ returns-in-Ok g c =
           lanes_begun who many publisher start lanes c.args.readers.items c.in-Ok.ensures.new named
           c.in-Ok.ensures.readers
           count c.requires.readers;
-      asker = c.in_ok-intake.ensures.asker ∙ (same ∙ c.requires.who);
+      asker = c.in_ok-ingress.ensures.asker ∙ (same ∙ c.requires.who);
     })
 
 pub new-requires-in-Ok : goal.new-requires-in-Ok
@@ -54,4 +54,4 @@ new-requires-in-Ok g c =
     (record { ssrc = here.bridge_ssrc; cname = here.cname }) =
     ap (λ (s : ℕ). record { ssrc = s; cname = copy.cname }) c.in_ok-try_clone.ensures.0
     ∙ ap (λ (n : List ℕ). record { ssrc = here.bridge_ssrc; cname = n }) c.in_ok-try_clone.ensures.1 in
-    record { cost = c.in_ok-cost.ensures ∙ ap pli_octets (sym (c.in_ok-intake.ensures.asker ∙ same)) }
+    record { cost = c.in_ok-cost.ensures ∙ ap pli_octets (sym (c.in_ok-ingress.ensures.asker ∙ same)) }

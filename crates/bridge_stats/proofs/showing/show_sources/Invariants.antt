@@ -7,5 +7,5 @@ abbrev pub invariant-loop-sender : goal.invariant-loop-sender
 invariant-loop-sender g l = record {
   counts : map counts_in l.out.items ++ map (source_row l.now) l.sender-iterator
       ≡ map (source_row l.now) l.cache.entries;
-  receptions : All (TellsReception l.intake) l.out.items;
+  receptions : All (TellsReception l.ingress) l.out.items;
 }

@@ -1,6 +1,6 @@
 use Rattle.std.proofs.Common.{◌≡◌, ◌+◌, ◌++◌, map, take, drop, set, get_or, subst, sym, ap, ◌∙◌, arith}
 use Rattle.std.proofs.lemmas.List.Edits.{map_over_more}
-use Rattle.versions.specs.Published.{NoticeOf}
+use Rattle.published_desk.specs.Published.{NoticeOf}
 use Rattle.media_front.specs.declared.lane_status.LaneStatus.{LaneStatus}
 use Rattle.media_front.specs.inner.Statuses.{owing}
 use Rattle.media_front.proofs.lane_status.owe_all.Goals as goal

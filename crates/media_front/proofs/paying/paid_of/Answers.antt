@@ -2,7 +2,7 @@ use Rattle.std.proofs.Common.{◌≡◌, ◌∙◌, map, length, ap, sym, arith}
 use Rattle.std.specs.Prelude.{option_map, option_to_list}
 use Rattle.std.specs.Vec.Iter.{into_iter_items}
 use Rattle.rate_limiter.specs.Drafts.{DraftOf}
-use Rattle.intake.specs.Ingested.{datagram_of}
+use Rattle.ingress.specs.Ingested.{datagram_of}
 use Rattle.media_front.proofs.DraftLemmas.{still, next_one}
 use Rattle.media_front.proofs.PaidLemmas.{paid_step, paying_step}
 use Rattle.media_front.proofs.paying.paid_of.Goals as goal

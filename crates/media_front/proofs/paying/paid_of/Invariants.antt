@@ -3,7 +3,7 @@
 use Rattle.std.proofs.Common.{◌≡◌, ◌+◌, ◌≤◌, ◌++◌, length, map, vec_len, vec_capacity}
 use Rattle.std.specs.List.{AllByRecursion}
 use Rattle.std.specs.Vec.Iter.{into_iter_items}
-use Rattle.intake.specs.Ingested.{datagram_of}
+use Rattle.ingress.specs.Ingested.{datagram_of}
 use Rattle.media_front.specs.Paid.{paid_of, after_paying}
 use Rattle.media_front.proofs.paying.paid_of.Given as goal
 

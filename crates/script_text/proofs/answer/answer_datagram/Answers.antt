@@ -1,6 +1,6 @@
 use Rattle.std.proofs.Common.{◌≡◌, ℕ, List, ◌++◌, ◌∙◌, ap, refl}
 use Rattle.std.specs.List.{flat_map}
-use Rattle.intake.specs.Ingested.{ingested_of}
+use Rattle.ingress.specs.Ingested.{ingested_of}
 use Rattle.script_text.specs.Datagrams.{outcome_text, up_text}
 use Rattle.script_text.proofs.BridgeLemmas.{datagram_answered, on_ok}
 use Rattle.script_text.proofs.answer.answer_datagram.Goals as goal

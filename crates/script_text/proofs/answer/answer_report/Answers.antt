@@ -1,6 +1,6 @@
 use Rattle.std.proofs.Common.{◌≡◌, ◌∙◌, map, refl}
 use Rattle.std.specs.List.{flat_map}
-use Rattle.intake.specs.Ingested.{datagram_of}
+use Rattle.ingress.specs.Ingested.{datagram_of}
 use Rattle.script_text.specs.Datagrams.{up_text}
 use Rattle.script_text.proofs.BridgeLemmas.{report_answered, on_ok}
 use Rattle.script_text.proofs.answer.answer_report.Goals as goal

@@ -1,6 +1,6 @@
 use Rattle.std.proofs.Common.{◌≡◌, ◌∙◌, refl}
 use Rattle.std.specs.List.{flat_map}
-use Rattle.intake.specs.Ingested.{answered_of}
+use Rattle.ingress.specs.Ingested.{answered_of}
 use Rattle.script_text.specs.Datagrams.{up_text}
 use Rattle.script_text.proofs.BridgeLemmas.{wait_answered, on_ok}
 use Rattle.script_text.proofs.answer.answer_wait.Goals as goal

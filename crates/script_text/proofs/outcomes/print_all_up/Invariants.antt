@@ -1,6 +1,6 @@
 use Rattle.std.proofs.Common.{◌≡◌, ◌++◌, map, take}
 use Rattle.std.specs.List.{flat_map}
-use Rattle.intake.specs.Ingested.{datagram_of}
+use Rattle.ingress.specs.Ingested.{datagram_of}
 use Rattle.script_text.specs.Datagrams.{up_text}
 use Rattle.script_text.proofs.outcomes.print_all_up.Given as goal
 

@@ -3,7 +3,7 @@ use Rattle.std.specs.Prelude.{filter}
 use Rattle.desk_edit.specs.Asked.{CallOf}
 use Rattle.desk_edit.specs.Calls.{no_calls}
 use Rattle.desk_calls.specs.Accepted.{AreAccepted}
-use Rattle.upward.specs.Upstream.{Asker}
+use Rattle.sender_feedback.specs.Upstream.{Asker}
 use Rattle.bridge_core.specs.Lanes.{is_lanes}
 use Rattle.operator_desk.specs.LegalLogs.{calls_of}
 use Rattle.operator_desk.specs.PastCalls.{made_of}

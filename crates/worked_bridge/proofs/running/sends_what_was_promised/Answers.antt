@@ -2,9 +2,9 @@ use Rattle.std.proofs.Common.{◌≡◌, ℕ, true, List, [], ◌∷◌, map, re
 use Rattle.desk_rows.specs.Desk.{blank, good}
 use Rattle.desk_edit.specs.Asked.{asked_by}
 use Rattle.desk_edit.specs.Calls.{no_calls}
-use Rattle.upward.specs.Upstream.{Asker}
+use Rattle.sender_feedback.specs.Upstream.{Asker}
 use Rattle.media_items.specs.Inputs.{input_of}
-use Rattle.intake.specs.inner.Holding.{IntakeOf}
+use Rattle.ingress.specs.inner.Holding.{IngressOf}
 use Rattle.bridge_core.specs.Sent.{sent_of}
 use Rattle.bridge_core.specs.Events.{Event, Accepts, Sends, Plays, steps_of}
 use Rattle.bridge_core.specs.WholeRuns.{Holds}
@@ -27,7 +27,7 @@ returns-in-Ok-item c =
       takes = c.in-Accepted.ensures.takes;
       good = c.in-Accepted.ensures.good;
       lanes = c.in-Accepted.ensures.answer.2;
-      who = ap (λ (i : IntakeOf). i.asker) c.in-Accepted.ensures.intake;
+      who = ap (λ (i : IngressOf). i.asker) c.in-Accepted.ensures.ingress;
     } in
     let sends : Sends middle last 2 input sent = record {
       takes = c.in-Ok-item.ensures.takes;
@@ -36,7 +36,7 @@ returns-in-Ok-item c =
       done = c.in-Ok-item.ensures.history.0;
       undone = c.in-Ok-item.ensures.history.1;
       lanes = c.in-Ok-item.ensures.lanes;
-      who = ap (λ (i : IntakeOf). i.asker) c.in-Ok-item.ensures.intake;
+      who = ap (λ (i : IngressOf). i.asker) c.in-Ok-item.ensures.ingress;
     } in
     let plays : Plays first events (sent ∷ []) last = (
       first,
@@ -46,7 +46,7 @@ returns-in-Ok-item c =
       (middle, last, sent, [], refl, at_rest middle, sends, (refl, at_rest last)),
     ) in
     subst (λ (who : Asker). Holds who 3 start (steps_of (no_calls start) events) (sent ∷ [])) c.in-Ok.ensures.asker
-    (subst (λ (n : ℕ). Holds first.intake.asker n start (steps_of (no_calls start) events) (sent ∷ []))
+    (subst (λ (n : ℕ). Holds first.ingress.asker n start (steps_of (no_calls start) events) (sent ∷ []))
     c.in-Ok.ensures.lanes
     (c.the_headline.ensures.holds start events (sent ∷ []) first last begins c.in-Ok.ensures.fresh
     c.in-Ok.ensures.history plays))

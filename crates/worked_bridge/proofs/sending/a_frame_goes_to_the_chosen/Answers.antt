@@ -11,7 +11,7 @@ use Rattle.worked_bridge.proofs.sending.a_frame_goes_to_the_chosen.Goals as goal
 
 pub returns-clause-chosen : goal.returns-clause-chosen
 returns-clause-chosen c =
-    let who = c.args.core.now.intake.asker in
+    let who = c.args.core.now.ingress.asker in
     let lanes = length c.args.core.now.lanes in
     IfOk-weaker c.item.result _ _ (λ sent takes start before f taken good is.
     let at =
@@ -21,7 +21,7 @@ returns-clause-chosen c =
 
 pub returns-clause-whole : goal.returns-clause-whole
 returns-clause-whole c =
-    let who = c.args.core.now.intake.asker in
+    let who = c.args.core.now.ingress.asker in
     let lanes = length c.args.core.now.lanes in
     IfOk-weaker c.item.result _ _ (λ sent takes start before f ssrc r taken good is mine chose.
     let visit = visit_after start before c.args.lane (Input.frame f) in

@@ -11,7 +11,7 @@ use Rattle.worked_bridge.proofs.sending.a_nack_leads_back.Goals as goal
 
 pub returns-clause-back : goal.returns-clause-back
 returns-clause-back c =
-    let who = c.args.core.now.intake.asker in
+    let who = c.args.core.now.ingress.asker in
     let lanes = length c.args.core.now.lanes in
     IfOk-weaker c.item.result _ _ (λ sent takes start before request taken good goods is.
     let at =
@@ -24,7 +24,7 @@ returns-clause-back c =
 
 pub returns-clause-owed : goal.returns-clause-owed
 returns-clause-owed c =
-    let who = c.args.core.now.intake.asker in
+    let who = c.args.core.now.ingress.asker in
     let lanes = length c.args.core.now.lanes in
     IfOk-weaker c.item.result _ _ (λ sent takes start before request p taken good goods is mine owed.
     let at =

@@ -11,7 +11,7 @@ use Rattle.worked_bridge.proofs.sending.a_tick_goes_to_all_who_hear.Goals as goa
 
 pub returns-clause-heard : goal.returns-clause-heard
 returns-clause-heard c =
-    let who = c.args.core.now.intake.asker in
+    let who = c.args.core.now.ingress.asker in
     let lanes = length c.args.core.now.lanes in
     IfOk-weaker c.item.result _ _ (λ sent takes start before moment taken good is.
     let at =
@@ -23,7 +23,7 @@ returns-clause-heard c =
 
 pub returns-clause-all : goal.returns-clause-all
 returns-clause-all c =
-    let who = c.args.core.now.intake.asker in
+    let who = c.args.core.now.ingress.asker in
     let lanes = length c.args.core.now.lanes in
     IfOk-weaker c.item.result _ _ (λ sent takes start before moment m sound taken good is mine mixes hears.
     let visit = visit_after start before c.args.lane (Input.tick moment) in

@@ -9,7 +9,7 @@ use Rattle.worked_bridge.proofs.sending.reports_notes_and_losses.Goals as goal
 
 pub returns-clause-counts : goal.returns-clause-counts
 returns-clause-counts c =
-    let who = c.args.core.now.intake.asker in
+    let who = c.args.core.now.ingress.asker in
     let lanes = length c.args.core.now.lanes in
     IfOk-weaker c.item.result _ _ (λ sent takes start before moment taken good goods is.
     let at =
@@ -21,7 +21,7 @@ returns-clause-counts c =
 
 pub returns-clause-notes : goal.returns-clause-notes
 returns-clause-notes c =
-    let who = c.args.core.now.intake.asker in
+    let who = c.args.core.now.ingress.asker in
     let lanes = length c.args.core.now.lanes in
     IfOk-weaker c.item.result _ _ (λ sent takes start before told taken good goods is.
     let at =
@@ -32,7 +32,7 @@ returns-clause-notes c =
 
 pub returns-clause-losses : goal.returns-clause-losses
 returns-clause-losses c =
-    let who = c.args.core.now.intake.asker in
+    let who = c.args.core.now.ingress.asker in
     let lanes = length c.args.core.now.lanes in
     IfOk-weaker c.item.result _ _ (λ sent takes start before loss taken is.
     let at =

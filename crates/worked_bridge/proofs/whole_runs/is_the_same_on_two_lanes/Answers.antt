@@ -1,7 +1,7 @@
 use Rattle.std.proofs.Common.{◌++◌, ℕ, List, [], ◌∷◌, length, map, ap, sym, ◌∙◌, arith}
-use Rattle.upward.specs.Upstream.{Asker}
+use Rattle.sender_feedback.specs.Upstream.{Asker}
 use Rattle.media_items.specs.Inputs.{input_of}
-use Rattle.intake.specs.inner.Holding.{IntakeOf}
+use Rattle.ingress.specs.inner.Holding.{IngressOf}
 use Rattle.bridge_core.specs.Sent.{Sent, sent_of}
 use Rattle.bridge_core.specs.Steps.{Step, sent_at}
 use Rattle.bridge_core.specs.Named.{sent_on}
@@ -9,9 +9,9 @@ use Rattle.worked_bridge.proofs.whole_runs.is_the_same_on_two_lanes.Goals as goa
 
 pub returns : goal.returns
 returns c = λ start ssrc one two.
-    let who = c.args.one.now.intake.asker in
+    let who = c.args.one.now.ingress.asker in
     let at : ℕ → Step = λ lane. Step.item lane (input_of c.args.item.now) in
-    let name = ap (λ (i : IntakeOf). i.asker) c.in-Ok-item.ensures.intake ∙ c.requires.name in
+    let name = ap (λ (i : IngressOf). i.asker) c.in-Ok-item.ensures.ingress ∙ c.requires.name in
     let lanes = c.in-Ok-item.ensures.lanes ∙ c.requires.two in
     let behind = c.in-Ok-item.ensures.takes start [] two in
     let alone = (c.in-Ok.ensures.takes start [] one).0 ∙ ap (λ n. sent_at who n start [] (at 0)) c.requires.one in

@@ -1,8 +1,8 @@
 use Rattle.std.proofs.Common.{◌≡◌, ℕ, true, List, [], ◌∷◌, length, map, refl, ap, sym, ◌∙◌}
 use Rattle.desk_rows.specs.Desk.{blank, good}
-use Rattle.upward.specs.Upstream.{Asker}
+use Rattle.sender_feedback.specs.Upstream.{Asker}
 use Rattle.media_items.specs.Inputs.{input_of}
-use Rattle.intake.specs.inner.Holding.{IntakeOf}
+use Rattle.ingress.specs.inner.Holding.{IngressOf}
 use Rattle.bridge_core.specs.Sent.{Sent, sent_of}
 use Rattle.bridge_core.specs.Steps.{Step, sends}
 use Rattle.bridge_core.specs.Runs.{Runs}
@@ -23,7 +23,7 @@ returns-in-Ok-item-clause-given c =
       refl,
       c.in-Ok-item.ensures.takes,
       c.in-Ok-item.ensures.lanes,
-      ap (λ (i : IntakeOf). i.asker) c.in-Ok-item.ensures.intake,
+      ap (λ (i : IngressOf). i.asker) c.in-Ok-item.ensures.ingress,
       (refl, refl),
     ) in
     (c.all_that_is_sent.ensures start steps sent first last c.in-Ok.ensures.fresh runs).0

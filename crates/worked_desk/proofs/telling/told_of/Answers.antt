@@ -2,7 +2,7 @@ use Rattle.std.proofs.Common.{◌≡◌, length, subst}
 use Rattle.std.specs.Prelude.{IfSome}
 use Rattle.desk_rows.specs.Desk.{count_of}
 use Rattle.desk_edit.specs.Asked.{asked_by}
-use Rattle.versions.specs.Published.{after_lists}
+use Rattle.published_desk.specs.Published.{after_lists}
 use Rattle.operator_desk.specs.Answers.{IsAnswered}
 use Rattle.worked_desk.proofs.Leading.{count_at_call}
 use Rattle.worked_desk.proofs.telling.told_of.Goals as goal

@@ -1,6 +1,6 @@
 use Rattle.std.proofs.Common.{◌≡◌, ◌∙◌, ap, sym, subst}
 use Rattle.desk_edit.specs.Asked.{asked_by}
-use Rattle.versions.specs.Published.{NoticeOf}
+use Rattle.published_desk.specs.Published.{NoticeOf}
 use Rattle.operator_desk.specs.Answers.{IsAnswered}
 use Rattle.media_workers.specs.Bridges.{AreNew}
 use Rattle.lane_laws.specs.Learnt.{AllBegin, AllRead, lanes_of}

@@ -1,6 +1,6 @@
 use Rattle.std.proofs.Common.{◌≡◌, ◌∙◌, List, pos, ap}
 use Rattle.rtp_codec.specs.declared.address.Address.{Address}
-use Rattle.intake.specs.declared.outcome.Outcome.TheVariants.{Late}
+use Rattle.ingress.specs.declared.outcome.Outcome.TheVariants.{Late}
 use Rattle.rate_limiter.specs.declared.bucket.Bucket.{Bucket}
 use Rattle.rate_limiter.specs.Drafts.{DraftOf}
 use Rattle.rate_limiter.specs.Steps.{spend, buckets_after, may_spend}

@@ -1,7 +1,7 @@
 use Rattle.std.proofs.Common.{◌∙◌, ap}
-use Rattle.intake.specs.declared.outcome.Outcome.{Outcome}
-use Rattle.intake.specs.declared.outcome.Outcome.TheVariants.{BadPayload, Spent, Probation, Accepted, Duplicate, Jump}
-use Rattle.intake.specs.declared.outcome.Outcome.TheVariants.{Restarted, Rtcp}
+use Rattle.ingress.specs.declared.outcome.Outcome.{Outcome}
+use Rattle.ingress.specs.declared.outcome.Outcome.TheVariants.{BadPayload, Spent, Probation, Accepted, Duplicate, Jump}
+use Rattle.ingress.specs.declared.outcome.Outcome.TheVariants.{Restarted, Rtcp}
 use Rattle.rate_limiter.specs.Drafts.{DraftOf}
 use Rattle.media_front.specs.Paid.{refilled_by}
 use Rattle.worked_front.proofs.refilling.each_of_a_member_refills.Goals as goal

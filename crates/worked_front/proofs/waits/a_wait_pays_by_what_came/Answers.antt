@@ -1,6 +1,6 @@
 use Rattle.std.proofs.Common.{◌≡◌, ◌∙◌, ℕ, List, [], ◌∷◌, Result, Ok, Err, OnOk, refl, ap, subst}
 use Rattle.rtp_codec.specs.declared.address.Address.{Address}
-use Rattle.intake.specs.declared.outcome.Outcome.{Outcome}
+use Rattle.ingress.specs.declared.outcome.Outcome.{Outcome}
 use Rattle.rate_limiter.specs.declared.bucket.Bucket.{Bucket}
 use Rattle.media_front.specs.Paid.{refilled_by, paid_of}
 use Rattle.media_front.specs.Tries.{WereTried}

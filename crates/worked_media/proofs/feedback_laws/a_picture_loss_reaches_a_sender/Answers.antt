@@ -1,6 +1,6 @@
 use Rattle.std.proofs.Common.{rules, ◌≡◌, true, nat_eq, Some, ap, sym, ◌∙◌}
 use Rattle.std.specs.Option.{is_some}
-use Rattle.feedback.specs.PassedUp.{is_of_member_at}
+use Rattle.receiver_feedback.specs.PassedUp.{is_of_member_at}
 use Rattle.topology.specs.Choice.{choice}
 use Rattle.topology.specs.Looking.{is_this, member_from, slot_at}
 use Rattle.worked_media.proofs.feedback_laws.a_picture_loss_reaches_a_sender.Goals as goal

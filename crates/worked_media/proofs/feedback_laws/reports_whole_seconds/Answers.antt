@@ -3,7 +3,7 @@ use Rattle.std.proofs.lemmas.Result.{IfOk-weaker}
 use Rattle.rtcp_codec.specs.CanonicalName.{named}
 use Rattle.rtcp_codec.specs.Compound.{written}
 use Rattle.rtcp_codec.specs.Packet.{Sender}
-use Rattle.feedback.specs.Times.{from_1900_to_1970, ntp_of, second, ts_at}
+use Rattle.receiver_feedback.specs.Times.{from_1900_to_1970, ntp_of, second, ts_at}
 use Rattle.worked_media.specs.Reported.{bridge}
 use Rattle.worked_media.proofs.feedback_laws.reports_whole_seconds.Goals as goal
 

@@ -1,6 +1,6 @@
 use Rattle.std.proofs.Common.{◌≡◌, ◌≤◌, ℕ, All, length, vec_capacity, Some}
 use Rattle.std.specs.Prelude.{slice_get}
-use Rattle.versions.specs.Published.{ReaderOf}
+use Rattle.published_desk.specs.Published.{ReaderOf}
 use Rattle.media_workers.specs.LaneRuns.{LaneNow}
 use Rattle.media_workers.specs.Bridges.{IsNew}
 use Rattle.x_bench.proofs.lanes.all_lanes.Given as goal

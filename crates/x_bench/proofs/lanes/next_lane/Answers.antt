@@ -1,6 +1,6 @@
 use Rattle.std.proofs.Common.{◌≡◌, IfSome, subst, ap, ◌∙◌}
 use Rattle.std.proofs.lemmas.List.Elements.{All-pop}
-use Rattle.versions.specs.Published.{ReaderOf}
+use Rattle.published_desk.specs.Published.{ReaderOf}
 use Rattle.media_workers.specs.LaneRuns.{LaneNow}
 use Rattle.x_bench.proofs.lanes.next_lane.Goals as goal
 

@@ -2,10 +2,10 @@ use Rattle.std.proofs.Common.{◌≡◌, ◌∙◌, ℕ, List, ap, sym}
 use denote.Exit.{yes}
 use denote.Param.{copied}
 use denote.Param.Send.{param_send, arg_send}
-use Rattle.upward.specs.Upstream.{Asker}
+use Rattle.sender_feedback.specs.Upstream.{Asker}
 use Rattle.lane_wire.specs.contracts.wire_sink.WireSink as WireSink
 use Rattle.media_front.specs.Prices.{pli_octets}
-use Rattle.versions.specs.Published.{ReaderOf}
+use Rattle.published_desk.specs.Published.{ReaderOf}
 use Rattle.x_simulation.specs.contracts.sink.FatedWire as FatedWire
 use Rattle.x_simulation.proofs.SinkLemmas.{wire_send, sink_send}
 use Rattle.x_simulation.proofs.scene.media_of.Goals as goal
@@ -28,4 +28,4 @@ new-media-requires g c =
     (record { ssrc = here.bridge_ssrc; cname = here.cname }) =
     ap (λ (s : ℕ). record { ssrc = s; cname = copy.cname }) c.in_ok-try_clone.ensures.0
     ∙ ap (λ (n : List ℕ). record { ssrc = here.bridge_ssrc; cname = n }) c.in_ok-try_clone.ensures.1 in
-    record { cost = c.in_ok-cost.ensures ∙ ap pli_octets (sym (c.in_ok-intake.ensures.asker ∙ same)) }
+    record { cost = c.in_ok-cost.ensures ∙ ap pli_octets (sym (c.in_ok-ingress.ensures.asker ∙ same)) }

@@ -1,6 +1,6 @@
 use Rattle.std.proofs.Common.{◌≡◌, All, sym, subst}
 use Rattle.std.proofs.lemmas.List.Elements.{All-take}
-use Rattle.versions.specs.Published.{ReaderOf, new_reader}
+use Rattle.published_desk.specs.Published.{ReaderOf, new_reader}
 use Rattle.x_simulation.proofs.scene.scene_of.Goals as goal
 
 pub media_of-requires-clause-readers : goal.media_of-requires-clause-readers

@@ -1,6 +1,6 @@
 use Rattle.std.proofs.Common.{◌≡◌}
 use Rattle.std.proofs.lemmas.List.Elements.{All-pop}
-use Rattle.versions.specs.Published.{new_reader}
+use Rattle.published_desk.specs.Published.{new_reader}
 use Rattle.x_tests_desk.proofs.telling.last_of.Goals as goal
 
 pub returns : goal.returns

@@ -1,6 +1,6 @@
 use Rattle.std.proofs.Common.{◌≡◌, Some, arith}
 use Rattle.std.proofs.lemmas.List.Elements.{All-pop}
-use Rattle.versions.specs.Published.{ReaderOf, new_reader}
+use Rattle.published_desk.specs.Published.{ReaderOf, new_reader}
 use Rattle.x_tests_lanes.proofs.Begun.{is_new, is_read, begun_more, read_more, count_more, are_new}
 use Rattle.x_tests_lanes.proofs.lanes.lanes.Goals as goal
 

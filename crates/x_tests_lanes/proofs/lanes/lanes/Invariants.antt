@@ -1,6 +1,6 @@
 -- The lanes so far are new, and their readers are of the publisher.
 use Rattle.std.proofs.Common.{◌≡◌, All, length}
-use Rattle.versions.specs.Published.{new_reader}
+use Rattle.published_desk.specs.Published.{new_reader}
 use Rattle.media_workers.specs.LaneRuns.{LaneNow}
 use Rattle.x_tests_lanes.proofs.Begun.{AreBegun}
 use Rattle.x_tests_lanes.proofs.lanes.lanes.Given as goal

@@ -1,6 +1,6 @@
 use Rattle.std.proofs.Common.{◌≡◌}
 use Rattle.std.proofs.lemmas.List.Elements.{All-pop}
-use Rattle.versions.specs.Published.{new_reader}
+use Rattle.published_desk.specs.Published.{new_reader}
 use Rattle.x_tests_lanes.proofs.lanes.last_of.Goals as goal
 
 pub returns-clause-taken : goal.returns-clause-taken

@@ -22,7 +22,7 @@ there g c =
 
 pub invariant_of-self : goal.invariant_of-self
 invariant_of-self g c =
-    still_placed c.self.inside.intake.asker c.self.inside.lanes.items _ c.args.lane c.index_mut.result.now
+    still_placed c.self.inside.ingress.asker c.self.inside.lanes.items _ c.args.lane c.index_mut.result.now
     c.step.new.self c.self.invariant (there g c) c.step.ensures.place.0 c.step.ensures.place.1 c.step.ensures.place.2
     refl
 
@@ -36,7 +36,7 @@ returns-clause-takes g c =
       done = was.desk.done;
       undone = was.desk.undone;
       lanes = was.lanes.items;
-      intake = was.intake;
+      ingress = was.ingress;
     } in
     let new : CoreOf =
     record {
@@ -45,7 +45,7 @@ returns-clause-takes g c =
       done = was.desk.done;
       undone = was.desk.undone;
       lanes = set was.lanes.items c.args.lane c.step.new.self;
-      intake = was.intake;
+      ingress = was.ingress;
     } in
     IfOk-weaker c.step.result _ _ (λ sent does.
     subst
@@ -88,7 +88,7 @@ returns-clause-err g c =
       done = was.desk.done;
       undone = was.desk.undone;
       lanes = ls;
-      intake = was.intake;
+      ingress = was.ingress;
     } in
     k in
     on_err_weaker c.step.result (λ same.

@@ -1,5 +1,5 @@
 use Rattle.std.proofs.Common.{◌≡◌, true, sym, subst, ◌∙◌}
-use Rattle.intake.specs.Names.{is_name}
+use Rattle.ingress.specs.Names.{is_name}
 use Rattle.bridge_core.specs.Sound.{HavePlaces}
 use Rattle.bridge_core.proofs.StepLaws.{placed_at_first, no_fault}
 use Rattle.bridge_core.proofs.bridge.Core.new.Goals as goal

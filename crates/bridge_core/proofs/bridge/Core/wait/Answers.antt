@@ -2,8 +2,8 @@ use Rattle.std.proofs.Common.{ap, sym, subst, ◌∙◌}
 use Rattle.std.specs.Result.{IfOk}
 use Rattle.std.proofs.lemmas.Result.{on_err_weaker}
 use Rattle.desk_rows.specs.Desk.{Desk}
-use Rattle.intake.specs.Ingested.{answered_of}
-use Rattle.intake.specs.Intakes.{WaitsFor}
+use Rattle.ingress.specs.Ingested.{answered_of}
+use Rattle.ingress.specs.Ingresses.{WaitsFor}
 use Rattle.bridge_core.specs.Sound.{HavePlaces}
 use Rattle.bridge_core.specs.Steps.{CoreOf}
 use Rattle.bridge_core.proofs.DeskCalls.{core_with}
@@ -16,11 +16,11 @@ pub returns-clause-waits : goal.returns-clause-waits
 returns-clause-waits g c =
     let waits = λ (core : CoreOf) (desk : Desk).
     IfOk c.wait.result (λ answer.
-    WaitsFor core.intake c.wait.new.self (answered_of answer) desk
+    WaitsFor core.ingress c.wait.new.self (answered_of answer) desk
     (record { address = c.args.from.now; ssrc = c.args.ssrc }) c.args.moment) in
     let was = c.self.inside in
     subst (λ (core : CoreOf). waits core core.desk) c.self.view_is
-    (subst (waits (core_with was.desk was.lanes.items was.intake)) c.rows-rows.ensures.rows c.wait.ensures.waits)
+    (subst (waits (core_with was.desk was.lanes.items was.ingress)) c.rows-rows.ensures.rows c.wait.ensures.waits)
 
 pub returns-clause-err : goal.returns-clause-err
 returns-clause-err g c =

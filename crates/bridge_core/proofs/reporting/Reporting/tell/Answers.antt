@@ -1,7 +1,7 @@
 use Rattle.std.proofs.Common.{◌++◌, List, ℕ, [], ◌∷◌, map, ap, sym, ◌∙◌}
 use Rattle.std.proofs.lemmas.List.{map-append}
 use Rattle.rtcp_codec.specs.Compound.{written}
-use Rattle.feedback.specs.SenderReports.{sender_packets}
+use Rattle.receiver_feedback.specs.SenderReports.{sender_packets}
 use Rattle.bridge_core.specs.Sent.{sent_of}
 use Rattle.bridge_core.specs.Lanes.{controls, tells}
 use Rattle.bridge_core.specs.inner.Visits.{asker_of}

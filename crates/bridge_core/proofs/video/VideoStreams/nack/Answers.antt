@@ -3,7 +3,7 @@ use Rattle.std.proofs.lemmas.Result.{IfOk-weaker}
 use Rattle.media_items.specs.Inputs.{Request}
 use Rattle.bridge_core.specs.Sent.{sent_of}
 use Rattle.bridge_core.specs.Lanes.{goes}
-use Rattle.feedback.specs.Resends.{resends}
+use Rattle.receiver_feedback.specs.Resends.{resends}
 use Rattle.bridge_core.specs.LaneState.{stream_at}
 use Rattle.bridge_core.proofs.AskedAgain.{window_of, nothing_again, others_answered, mine_answered}
 use Rattle.bridge_core.proofs.video.VideoStreams.nack.Goals as goal

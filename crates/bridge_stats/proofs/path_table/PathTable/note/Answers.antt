@@ -1,7 +1,7 @@
 use Rattle.std.proofs.Common.{sym, subst}
 use Rattle.std.specs.List.{FoldsTo}
 use Rattle.rtcp_codec.specs.View.{packets_of}
-use Rattle.intake.specs.declared.outcome.Outcome.{Outcome}
+use Rattle.ingress.specs.declared.outcome.Outcome.{Outcome}
 use Rattle.bridge_stats.specs.Paths.{IsPacketNoted, AreReported}
 use Rattle.bridge_stats.proofs.path_table.PathTable.note.Goals as goal
 

@@ -1,9 +1,9 @@
 use Rattle.std.proofs.Common.{◌≡◌, ℕ, List, refl, ap, sym, subst, ◌∙◌}
 use Rattle.std.proofs.lemmas.List.{append-nil}
 use Rattle.rtp_codec.specs.declared.address.Address.{Address}
-use Rattle.intake.specs.Sources.{Origin}
-use Rattle.intake.specs.Ingested.{datagram_of}
-use Rattle.intake.specs.Taking.{picture_request}
+use Rattle.ingress.specs.Sources.{Origin}
+use Rattle.ingress.specs.Ingested.{datagram_of}
+use Rattle.ingress.specs.Taking.{picture_request}
 use Rattle.media_front.specs.Tries.{WereTried}
 use Rattle.media_front.specs.Paid.{paid_one, after_one, is_paid_for}
 use Rattle.media_front.specs.Fronts.{FrontOf}
@@ -15,14 +15,14 @@ returns-clause-asked g c =
     let here = c.self.inside in
     let o : Origin = record { address = c.args.to.now; ssrc = c.args.ssrc } in
     let d = datagram_of c.in_ok-request.request in
-    let p = picture_request here.intake.asker o in
+    let p = picture_request here.ingress.asker o in
     let is : d ≡ p = c.in_ok-request.ensures in
     let before = g.W.Wire.attempts c.args.wire.now in
     let after = g.W.Wire.attempts c.try_one.new.wire in
     let limiter = c.try_one.new.limiter in
     let old : FrontOf g.row.P.Denot g.row.S.Denot =
     record {
-      intake = here.intake;
+      ingress = here.ingress;
       feed = here.feed;
       limiter = here.limiter;
       limited = here.limited;

@@ -4,8 +4,8 @@ use Rattle.std.specs.declared.alloc.Global.{Global}
 use Rattle.std.specs.declared.vec.Vec.{Vec}
 use Rattle.rtp_codec.specs.declared.address.Address.{Address}
 use Rattle.media_items.specs.Inputs.{Input, input_of, is_sized}
-use Rattle.intake.specs.Ingested.{Ingested, ingested_of, datagram_of}
-use Rattle.intake.specs.declared.received.Received.{Received}
+use Rattle.ingress.specs.Ingested.{Ingested, ingested_of, datagram_of}
+use Rattle.ingress.specs.declared.received.Received.{Received}
 use Rattle.media_front.specs.FedLanes.{AllAreGiven}
 use Rattle.media_front.specs.Tries.{WereTried}
 use Rattle.rate_limiter.specs.declared.bucket.Bucket.{Bucket}
@@ -39,7 +39,7 @@ returns-clause-handled g c arrival of =
     c.in_ok-planned.ensures in
     let new : FrontOf g.row.P.Denot g.row.S.Denot =
     record {
-      intake = here.intake;
+      ingress = here.ingress;
       feed = c.hand_out_all.new.self;
       limiter = c.put_back.new.self;
       limited = plan.limited;

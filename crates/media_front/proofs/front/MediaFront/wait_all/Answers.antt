@@ -1,7 +1,7 @@
 use Rattle.std.proofs.Common.{List, ap, subst, ◌∙◌}
 use Rattle.std.specs.Prelude.{filter_map}
 use Rattle.std.proofs.lemmas.List.{take_all}
-use Rattle.intake.specs.Sources.{Origin}
+use Rattle.ingress.specs.Sources.{Origin}
 use Rattle.media_front.specs.Fronts.{FrontOf}
 use Rattle.media_front.specs.Waits.{HaveWaited, HaveWaitedInPart}
 use Rattle.media_front.specs.inner.Origins.{origin_in}
@@ -36,7 +36,7 @@ loop-row-preserved g c =
           ∙ ap
           (λ (f : FrontOf g.row.P.Denot g.row.S.Denot).
           record f {
-            intake = c.wait_row.new.self.intake;
+            ingress = c.wait_row.new.self.ingress;
             feed = c.wait_row.new.self.feed;
             limiter = c.wait_row.new.self.limiter;
             limited = c.wait_row.new.self.limited;

@@ -11,10 +11,10 @@ invariant-loop-row g l = record {
       (g.W.Wire.attempts l.initial.wire) (g.W.Wire.attempts l.wire);
   same : l.self
       ≡ record l.initial.self {
-        intake = l.self.intake;
+        ingress = l.self.ingress;
         feed = l.self.feed;
         limiter = l.self.limiter;
         limited = l.self.limited;
       };
-  asker : l.self.intake.asker ≡ l.initial.self.intake.asker;
+  asker : l.self.ingress.asker ≡ l.initial.self.ingress.asker;
 }

@@ -1,6 +1,6 @@
 use Rattle.std.proofs.Common.{◌≡◌, [], ◌∷◌, List, Result, Ok, Err, OnErr, refl, ap, sym, subst, ◌∙◌}
 use Rattle.std.specs.Prelude.{option_to_list, option_map}
-use Rattle.intake.specs.Sources.{Origin}
+use Rattle.ingress.specs.Sources.{Origin}
 use Rattle.media_front.specs.Waits.{HaveWaitedInPart}
 use Rattle.media_front.specs.inner.Origins.{origin_of, origin_in}
 use Rattle.media_front.proofs.front.MediaFront.wait_row.Goals as goal
@@ -21,7 +21,7 @@ returns-in-Some-clause-err g c =
     (λ (os : List Origin).
     OnErr c.wait.result (HaveWaitedInPart desk c.args.now os c.args.self.now c.wait.new.self before after))
     one
-    (in_part c.wait.result (λ unfed unsent intake. record {
+    (in_part c.wait.result (λ unfed unsent ingress. record {
       first = [];
       next = o;
       rest = [];
@@ -29,5 +29,5 @@ returns-in-Some-clause-err g c =
       behind = c.args.self.now;
       waited = ap (λ w. (c.args.self.now, w)) (sym unsent);
       unfed = unfed;
-      intake = intake;
-    }) c.wait.ensures.err c.wait.ensures.unsent c.wait.ensures.intake)
+      ingress = ingress;
+    }) c.wait.ensures.err c.wait.ensures.unsent c.wait.ensures.ingress)

@@ -3,8 +3,8 @@ use Rattle.std.proofs.lemmas.Grind.{common_steps}
 use Rattle.media_workers.specs.declared.fault.StartFault.{StartFault}
 use Rattle.std.specs.List.{AllByRecursion}
 use Rattle.std.proofs.lemmas.List.{length-map}
-use Rattle.versions.specs.Published.{ReaderOf}
-use Rattle.upward.specs.Upstream.{Asker}
+use Rattle.published_desk.specs.Published.{ReaderOf}
+use Rattle.sender_feedback.specs.Upstream.{Asker}
 use Rattle.media_workers.specs.LaneRuns.{LaneNow}
 use Rattle.media_workers.specs.Bridges.{AreNew}
 use Rattle.media_front.specs.FedLanes.{IsFresh, lanes_in}

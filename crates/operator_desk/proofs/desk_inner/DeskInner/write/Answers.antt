@@ -9,7 +9,7 @@ use Rattle.desk_edit.specs.Calls.{call_limit, refusal_of, after_call}
 use Rattle.desk_calls.specs.Desk.{Does}
 use Rattle.desk_calls.specs.Edits.{fits}
 use Rattle.desk_calls.specs.Following.{HasCalled}
-use Rattle.versions.specs.Published.{NoticeOf, after_lists}
+use Rattle.published_desk.specs.Published.{NoticeOf, after_lists}
 use Rattle.operator_desk.specs.declared.answer.Why.TheVariants.{Told, LogTaken}
 use Rattle.operator_desk.specs.Entry.{EntryOf}
 use Rattle.operator_desk.specs.LegalLogs.{after_log, IsLegal}

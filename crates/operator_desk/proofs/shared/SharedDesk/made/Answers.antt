@@ -2,7 +2,7 @@ use Rattle.std.proofs.Common.{◌≡◌, subst, ◌∙◌}
 use Rattle.std.specs.List.{All}
 use Rattle.logbook.specs.Pages.{Book}
 use Rattle.desk_rows.specs.Desk.{Desk}
-use Rattle.versions.specs.Published.{ReaderOf, new_reader}
+use Rattle.published_desk.specs.Published.{ReaderOf, new_reader}
 use Rattle.operator_desk.proofs.shared.SharedDesk.made.Goals as goal
 
 pub returns-in-Ok-clause-readers : goal.returns-in-Ok-clause-readers

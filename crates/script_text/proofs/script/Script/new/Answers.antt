@@ -1,5 +1,5 @@
 use Rattle.std.proofs.Common.{ℕ, List, ◌∙◌, refl, ap, subst}
-use Rattle.upward.specs.Upstream.{Asker}
+use Rattle.sender_feedback.specs.Upstream.{Asker}
 use Rattle.script_text.specs.Bridge.{begun_bridge}
 use Rattle.script_text.specs.inner.Steps.{Stands}
 use Rattle.script_text.proofs.script.Script.new.Goals as goal

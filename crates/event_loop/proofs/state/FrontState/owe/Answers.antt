@@ -1,0 +1,13 @@
+use Rattle.std.proofs.Common.{ap, subst}
+use Rattle.event_loop.specs.Turns.{History, Does, history, owed}
+use Rattle.event_loop.proofs.state.FrontState.owe.Goals as goal
+
+pub returns : goal.returns
+returns g c =
+    let a = c.self.inside in
+    let came = g.I.Inlet.came a.inlet in
+    let told = g.C.Watch.told a.watch in
+    let tried = g.W.Wire.attempts a.wire in
+    subst (λ (h : History g.row.P.Denot g.row.S.Denot).
+    Does h (owed c.args.notice) (history c.tell.new.self came told tried a.ticked a.stats))
+    c.self.view_is (ap (λ f. history f came told tried a.ticked a.stats) c.tell.ensures)

@@ -1,0 +1,154 @@
+-- What the rounds of a front are (own).
+use Rattle.std.specs.Prelude.{◌≡◌, ◌⊎◌, ◌≤◌, ℕ, Bool, true, false, List, [], ◌∷◌, ◌++◌, length, Option, Some, None}
+use Rattle.std.specs.List.{AllByRecursion, FoldsTo, flat_map}
+use mathlib.Core.List.{IsPrefix}
+use Rattle.rtp_codec.specs.declared.address.Address.{Address}
+use Rattle.desk_rows.specs.Desk.{Desk}
+use Rattle.published_desk.specs.Published.{NoticeOf, ReaderOf, after_lists}
+use Rattle.ingress.specs.declared.outcome.Outcome.{Outcome}
+use Rattle.media_front.specs.Fronts.{Arrival}
+use Rattle.event_loop.specs.Came.{Came, datagram, other, nothing}
+use Rattle.event_loop.specs.Turns.{Turn, owed, passed, took, lost, looked, gave_ticks, let_wait, let_some_wait}
+use Rattle.event_loop.specs.Turns.{asked_picture, made_report, signalled}
+
+-- how many datagrams a round takes in at most
+abbrev pub most_datagrams : ℕ
+most_datagrams = 64
+
+-- The sender of the video source whose probation a datagram ended was asked for a picture, and nobody if it ended none.
+abbrev pub AsksFirst : Address → (ended : Option ℕ) → List Turn → Type 0
+AsksFirst from None turns = turns ≡ []
+AsksFirst from (Some ssrc) turns =
+    (sent : Bool) × (turns ≡ asked_picture (record { address = from; ssrc = ssrc }) sent ∷ [])
+
+-- A datagram was read and taken in at these rows, and then a picture was asked for if it ended a probation.
+pub record IsTakenAt (desk : Desk) (turns : List Turn) : Type 0 where
+  pub late : Bool
+  pub arrival : Arrival
+  pub outcome : Outcome
+  pub ended : Option ℕ
+  pub asked : List Turn
+  pub rows : arrival.desk ≡ desk
+  pub first : AsksFirst arrival.from ended asked
+  pub are : turns ≡ took late arrival outcome ended ∷ asked
+
+-- One read: a datagram was taken in at these rows, or something else was read.
+abbrev pub IsTaken : Desk → List Turn → Type 0
+IsTaken desk turns = IsTakenAt desk turns ⊎ (turns ≡ passed other ∷ [])
+
+-- A datagram or something else was read.
+abbrev pub IsSomething : Came → Type 0
+IsSomething (datagram from octets) = Unit {0}
+IsSomething other = Unit {0}
+IsSomething nothing = ⊥
+
+-- One read: a datagram or something else was read, and not taken in.
+abbrev pub IsPassed : List Turn → Type 0
+IsPassed turns = (came : Came) × IsSomething came × (turns ≡ passed came ∷ [])
+
+-- A source was asked for a picture.
+abbrev pub IsPicture : Turn → Type 0
+IsPicture (asked_picture o sent) = Unit {0}
+IsPicture (passed came) = ⊥
+IsPicture (took late arrival outcome ended) = ⊥
+IsPicture (owed notice) = ⊥
+IsPicture (lost late arrival) = ⊥
+IsPicture (looked moment) = ⊥
+IsPicture (gave_ticks due moment) = ⊥
+IsPicture (let_wait at moment) = ⊥
+IsPicture (let_some_wait at moment) = ⊥
+IsPicture (made_report due at moment) = ⊥
+IsPicture signalled = ⊥
+
+-- the last read found nothing, or there was none
+abbrev pub found_nothing : Bool → List Turn
+found_nothing true = passed nothing ∷ []
+found_nothing false = []
+
+-- All that waited was read, by up to 64 reads, and this was done at each.
+pub record AreAllRead (Is : List Turn → Type 0) (turns : List Turn) : Type 0 where
+  pub reads : List (List Turn)
+  pub each : AllByRecursion Is reads
+  pub few : length reads ≤ most_datagrams
+  pub dry : Bool
+  pub whole : dry ≡ false → length reads ≡ most_datagrams
+  pub are : turns ≡ flat_map (λ turns. turns) reads ++ found_nothing dry
+
+-- time passed for the video sources, where a tick was due
+abbrev pub waits : Bool → Desk → (moment : ℕ) → List Turn
+waits true desk moment = let_wait desk moment ∷ []
+waits false desk moment = []
+
+-- What is due at this moment: ticks, and where one was due a wait of each video source, then pictures and reports.
+pub record IsDue (desk : Desk) (moment : ℕ) (turns : List Turn) : Type 0 where
+  pub due : Bool
+  pub pictures : List Turn
+  pub asked : AllByRecursion IsPicture pictures
+  pub report : Bool
+  pub are : turns
+      ≡ (gave_ticks due moment ∷ waits due desk moment) ++ (pictures ++ made_report report desk moment ∷ [])
+
+-- All that waited was taken in at these rows, and then came what was due at one moment.
+pub record IsTaking (desk : Desk) (turns : List Turn) : Type 0 where
+  pub reads : List Turn
+  pub read : AreAllRead (IsTaken desk) reads
+  pub moment : ℕ
+  pub rest : List Turn
+  pub due : IsDue desk moment rest
+  pub are : turns ≡ reads ++ looked moment ∷ rest
+
+-- Without rows, what waited was read and not taken in, and the ticks were given that were due.
+pub record IsPassing (turns : List Turn) : Type 0 where
+  pub reads : List Turn
+  pub read : AreAllRead IsPassed reads
+  pub moment : ℕ
+  pub due : Bool
+  pub are : turns ≡ reads ++ looked moment ∷ gave_ticks due moment ∷ []
+
+-- An entry of the same publisher, at no earlier version.
+abbrev pub IsEntryOf : ReaderOf → ReaderOf → Type 0
+IsEntryOf old new = (new.publisher ≡ old.publisher) × (new.start ≡ old.start) × IsPrefix old.lists new.lists
+
+-- By a reader, these turns took in what came: at the rows of one entry, or without rows, if the publisher has ended.
+abbrev pub IsEntered : ReaderOf → Option ReaderOf → List Turn → Type 0
+IsEntered old (Some new) turns =
+    (IsEntryOf old new × IsTaking (after_lists new.start new.lists) turns) ⊎ ((new ≡ old) × IsPassing turns)
+IsEntered old None turns = ⊥
+
+-- The same of a front that has a reader.
+abbrev pub IsTakenIn : Option ReaderOf → Option ReaderOf → List Turn → Type 0
+IsTakenIn (Some old) new turns = IsEntered old new turns
+IsTakenIn None new turns = ⊥
+
+-- the signals were raised, or not
+abbrev pub signals : Bool → List Turn
+signals true = signalled ∷ []
+signals false = []
+
+-- One round: the notice first, then what had come and what was due at the rows of one entry, and then the signals, if
+-- they were due.
+pub record IsRound (notice : NoticeOf) (old new : Option ReaderOf) (turns : List Turn) : Type 0 where
+  pub entry : List Turn
+  pub entered : IsTakenIn old new entry
+  pub wake : ℕ
+  pub raised : Bool
+  pub are : turns ≡ owed notice ∷ (entry ++ looked wake ∷ signals raised)
+
+-- Before a round, the front looked at its watch and slept.
+pub record IsRoundAfterSleep (old : Option ReaderOf) (turns : List Turn) (new : Option ReaderOf) : Type 0 where
+  pub slept : ℕ
+  pub notice : NoticeOf
+  pub rest : List Turn
+  pub round : IsRound notice old new rest
+  pub are : turns ≡ looked slept ∷ rest
+
+-- The turns are whole rounds, one after another: each reader is that of the round before.
+abbrev pub AreRounds : Option ReaderOf → Option ReaderOf → List Turn → Type 0
+AreRounds old new turns =
+    (rounds : List (List Turn)) × (turns ≡ flat_map (λ turns. turns) rounds) × FoldsTo IsRoundAfterSleep old rounds new
+
+-- All rounds but the last are whole.
+abbrev pub BeginAsRounds : Option ReaderOf → List Turn → Type 0
+BeginAsRounds old turns =
+    (whole : List Turn) × (rest : List Turn) × (mid : Option ReaderOf)
+    × (turns ≡ whole ++ rest) × AreRounds old mid whole

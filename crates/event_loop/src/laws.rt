@@ -1,0 +1,43 @@
+//! Laws of any number of rounds. The functions do nothing when they run.
+
+ghost use Rattle.std.specs.Prelude.{◌≡◌, ◌++◌, List};
+ghost use Rattle.std.specs.List.{flat_map};
+ghost use Rattle.media_front.specs.FedLanes.{lanes_in};
+ghost use Rattle.event_loop.specs.Turns.{Turn, History, HaveDone};
+ghost use Rattle.event_loop.specs.Tries.{Try, AreMeant, came_in, moments_in};
+ghost use Rattle.event_loop.specs.Totals.{AreCounted};
+
+use media_workers::{Pace, Sink};
+
+/// All that was read was read by a turn, and all that the watch told was told to one, in order. So no datagram is taken
+/// in twice or out of order, and none without its moment.
+pub fn all_that_came_is_in_turns<P: Pace, S: Sink>()
+    ensures came { (turns : List Turn) (old new : History P S) → HaveDone turns old new
+        → new.came ≡ old.came ++ flat_map came_in turns }
+    ensures told { (turns : List Turn) (old new : History P S) → HaveDone turns old new
+        → new.told ≡ old.told ++ flat_map moments_in turns }
+{}
+
+/// Whatever a front does, each datagram that it tries to send is a compound of the receive side to the sender of a
+/// datagram that it took in, one that asks a sender again as time passes, a receiver report of a report that was due,
+/// or the PLI that asks a source for a picture.
+pub fn all_that_is_tried_is_meant<P: Pace, S: Sink>()
+    ensures { (turns : List Turn) (old new : History P S) → HaveDone turns old new
+        → (tries : List Try) × AreMeant turns old new tries }
+{}
+
+/// Whatever a front does, it counts each datagram that it took in once, in order, with the outcome that its ingress
+/// gave, and nothing else. A datagram for which memory ran out isn't counted, nor one that was dropped since the desk
+/// had ended.
+pub fn all_that_is_taken_in_is_counted<P: Pace, S: Sink>()
+    ensures { (turns : List Turn) (old new : History P S) → HaveDone turns old new
+        → AreCounted turns old.stats new.stats }
+{}
+
+/// Whatever a front does, its lanes stay those that it was handed, and its ingress signs with the same SSRC and CNAME.
+pub fn lanes_stay_the_same<P: Pace, S: Sink>()
+    ensures lanes { (turns : List Turn) (old new : History P S) → HaveDone turns old new
+        → lanes_in new.front.feed ≡ lanes_in old.front.feed }
+    ensures asker { (turns : List Turn) (old new : History P S) → HaveDone turns old new
+        → new.front.ingress.asker ≡ old.front.ingress.asker }
+{}

@@ -1,8 +1,0 @@
-use Rattle.std.proofs.Common.{inr}
-use Rattle.front_rounds.proofs.StepLemmas.{on_ok_map}
-use Rattle.front_rounds.proofs.rounds.Rounds.take_in.Goals as goal
-
-pub returns-in-Err : goal.returns-in-Err
-returns-in-Err g c =
-    let p = c.pass.ensures in
-    (p.0, p.1, on_ok_map c.pass.result (λ k. inr (c.in-Err.ensures.back, k)) p.2)

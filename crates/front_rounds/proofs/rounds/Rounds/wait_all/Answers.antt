@@ -1,4 +1,0 @@
-use Rattle.front_rounds.proofs.rounds.Rounds.wait_all.Goals as goal
-
-pub returns : goal.returns
-returns g c = c.wait_all-done.ensures

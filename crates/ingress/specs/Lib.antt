@@ -1,0 +1,15 @@
+pub mod Names
+pub mod Readings
+pub mod Stories
+pub mod Sources
+pub mod Ingested
+pub mod Received
+pub mod Media
+pub mod Control
+pub mod Taking
+pub mod Waiting
+pub mod PacketsAlone
+pub mod Reported
+pub mod Reception
+pub mod Ingresses
+pub mod inner

@@ -1,5 +1,0 @@
-use Rattle.intake.proofs.Readable.{has_reading}
-use Rattle.intake.proofs.laws.datagrams_are_read.Goals as goal
-
-pub returns : goal.returns
-returns c = has_reading c.faultless_is_packet.ensures c.compound_or_fault.ensures

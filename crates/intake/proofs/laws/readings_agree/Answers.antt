@@ -1,5 +1,0 @@
-use Rattle.intake.proofs.Read.{one_reading}
-use Rattle.intake.proofs.laws.readings_agree.Goals as goal
-
-pub returns : goal.returns
-returns c octets r s is other = one_reading octets r s is other

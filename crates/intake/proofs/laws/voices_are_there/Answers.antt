@@ -1,5 +1,0 @@
-use Rattle.intake.proofs.Voices.{the_voice}
-use Rattle.intake.proofs.laws.voices_are_there.Goals as goal
-
-pub returns : goal.returns
-returns c asker = the_voice c.numbers_have_words.ensures asker

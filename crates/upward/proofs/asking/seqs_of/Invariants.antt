@@ -1,7 +1,0 @@
--- The sequence numbers so far.
-use Rattle.std.proofs.Common.{◌≡◌, map, take}
-use Rattle.upward.specs.Upstream.{seq_of}
-use Rattle.upward.proofs.asking.seqs_of.Given as goal
-
-abbrev pub invariant-loop-ext : goal.invariant-loop-ext
-invariant-loop-ext g l = l.seqs.items ≡ map seq_of (take l.ext-index l.exts)
