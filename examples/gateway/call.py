@@ -5,7 +5,7 @@ import secrets
 import time
 
 # What rtpengine remembers of a call beside its own: a text of JSON, which it tells to who asks (`label`).
-TOLD = "side", "name", "source", "key", "tag", "is_held"
+TOLD = "side", "name", "source", "key", "tag", "is_held", "is_transcoded", "offer"
 
 
 def log(text):
@@ -36,6 +36,17 @@ class Call:
         # A phone's: the gateway's tag, whether it is held, and how many packets had come when it was told where to
         # send: until more come, it gets none.
         self.tag, self.is_held, self.waits_at = None, False, None
+        # Its last offer; the IP address that it sends from; what had come of its sound when that was last heard, and
+        # when that was; since when it is no member any more, by an operator; and when its port was last learnt anew.
+        self.offer = self.ip = self.media = self.gone = None
+        self.learning, self.reset = time.monotonic(), 0.0
+        # Whether rtpengine makes PCMU of what it sends, and so draws the SSRC at the bridge; under which one it sends
+        # itself when that was learnt; and how many packets of those of no source have come to the bridge. `asked`: how
+        # often that was asked; `strange`: how many packets had come to rtpengine from elsewhere.
+        self.is_transcoded, self.sends, self.strangers, self.asked, self.strange = False, None, None, 0, 0
+        # The keys that it has pressed last, and when; how many PINs were wrong; and the desk's call that has muted it
+        # by its keys.
+        self.keys, self.pressed, self.wrong, self.muted = "", 0.0, 0, None
         # How many packets had come when they were last counted, and when a sign of life came last.
         self.packets, self.alive = 0, time.monotonic()
 
@@ -62,5 +73,6 @@ def labelled(tags, gateway):
             call = Call(told["side"], None, told["name"], told["source"], 0)
             call.key = tuple(told["key"]) if isinstance(told["key"], list) else told["key"]
             call.tag, call.is_held, call.is_open = told["tag"], told["is_held"], True
+            call.is_transcoded, call.offer = told["is_transcoded"], told["offer"]
             return call
     return None

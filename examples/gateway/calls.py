@@ -12,27 +12,21 @@ from again import NO_MEMBER, Absents, calls_of, key_of, opened_by, tied
 from call import Call, log
 from desk import MUSIC, FULL, ROOMS, SPEECH, Desk, Rows, in_words
 from fleet_rooms import LEAST, Fleet
+from keys import Pins
 from own_rooms import EMPTY, OwnRooms
+from phone_calls import CALLS, KNOWN, MUX, PhoneCalls
 from refused import Refused, words_of
 from rtpengine import Rtpengine
-from targets import Targets, without_others
+from targets import Targets
 
 # A line of the desk holds 45 of the longest commands.
 LONGEST_GROUP = 44
 # An agent's members have as many numbers, from `first_member` of the settings on.
 NUMBERS = 100_000
-# In how many of the desk's last calls an agent looks for the rooms that one before it has opened.
-CALLS = 4096
+# For how many seconds an agent that ends waits until Kamailio asks which calls are over.
+TELLING = 3
 # How often, each tenth of a second, an agent looks for a room that its fleet has placed.
 LOOKS = 50
-# For rtpengine: RTP and RTCP have one port; addresses are known, of browsers by ICE, and not to be learnt from packets.
-MUX, KNOWN = ["offer", "require"], ["asymmetric", "strict-source"]
-# A phone's address is that of its request, whatever its description names, and then that from which its packets come.
-# Until that is certain, packets from the first count more than a stranger's, or the last ones count: where a phone has
-# said that its sound comes from elsewhere, late ones from the first would count too much. The bridge's side keeps its
-# port when a phone offers again.
-LEARNT = ["SIP-source-address", "strict-source", "port-latching"]
-NEAREST, LAST = "endpoint-learning-heuristic", "endpoint-learning-delayed"
 
 
 def shown(slots, cameras):
@@ -40,7 +34,7 @@ def shown(slots, cameras):
     return [f"subscribe {slot} {camera}" for slot, camera in zip(slots, cameras)]
 
 
-class Calls:
+class Calls(PhoneCalls):
     def __init__(self, settings):
         self.settings, self.bridge = settings["calls"], settings["bridge"]["udp"]
         self.engine, self.desk = Rtpengine(settings["rtpengine"]["control"]), Desk(settings["bridge"]["tcp"])
@@ -52,6 +46,8 @@ class Calls:
         # The calls of pages by their ids, and why the last ones ended; those of phones by Call-ID and the phone's tag.
         # One change at a time is made to them and to the desk.
         self.pages, self.ended, self.phones, self.lock = {}, {}, {}, threading.RLock()
+        # The rooms that have names, and those that have a PIN; and set once Kamailio has heard which calls are over.
+        self.names, self.pins, self.told_over = settings["names"], Pins(settings["pins"]), threading.Event()
         # The desk as it was last read.
         self.seen = Rows()
         # Members that have to go from the desk, with their cameras, and the rooms that the agent added.
@@ -154,78 +150,11 @@ class Calls:
     def label(self, call, **more):
         return call.label(self.settings["first_member"], **more)
 
-    def phone(self, room, words):
-        """Takes a phone's offer, and answers. It is a member once its sound comes (`heard`)."""
-        call = Call("phone", room, words["name"], words.get("account") or words["source"], 0)
-        call.tag = words["to"]
-        self.begin(call, self.phones, (words["call"], words["from"]))
-        with self.whole_or_not(call):
-            found = sdp.demand(words["sdp"], from_browser=False)
-            self.demand_room(call, self.desk.rows())
-            # Most phones don't say their SSRC: the watch learns it.
-            call.voice = found[0].ssrc
-            return self.described(call, found, words)
-
-    def offers_again(self, call, words):
-        """Takes a phone's further offer, by which it holds the call, takes it up again, or has moved."""
-        with self.whole_or_not(call):
-            return self.described(call, sdp.demand(words["sdp"], from_browser=False), words)
-
-    def described(self, call, found, words):
-        """What a phone is answered to its description. Nothing goes there until something has come from there."""
-        self.targets.demand(words["sdp"], words["source"])
-        direction = sdp.direction_of(found[0])
-        given = {"sdp": without_others(words["sdp"]), "received_from": ["IP4", words["source"]]}
-        ways = {"ICE": "remove", "rtcp_mux": MUX, "direction": ["outside", "bridge"], "flags": [*LEARNT, NEAREST]}
-        ways |= {"transport_protocol": "RTP/AVPF", "codec": {"strip": ["all"], "offer": ["PCMU"]}}
-        own = sdp.plain(self.bridge, "RTP/AVPF", types=[sdp.PCMU], direction=sdp.ANSWERS[direction])
-        own = {"sdp": sdp.refusing_others(own, found), "flags": KNOWN}
-        with self.lock:
-            if call.is_open:
-                call.waits_at = self.engine.received(call.id, "phone").media
-                self.engine.ask("block media", call_id=call.id, from_tag="bridge")
-                learning = LAST if self.targets.is_elsewhere(words["sdp"], words["source"]) else NEAREST
-                # Without a reset an address that was learnt within the last three seconds counts more than the new one.
-                ways |= {"to_tag": "bridge", "flags": [*LEARNT, learning, "reset"]}
-            is_held = direction in ("sendonly", "inactive")
-            ways["label"] = self.label(call, is_held=is_held)
-            said = self.opened(call, from_tag="phone", **given, **ways)
-            answer = self.engine.ask("answer", call_id=call.id, from_tag="phone", to_tag="bridge", **own)
-            call.address, call.is_held = sdp.plain_address(said["sdp"]), is_held
-            call.alive, call.waits_at = time.monotonic(), self.engine.received(call.id, "phone").media
-        return {"sdp": answer["sdp"]}
-
-    def heard(self, call, came):
-        """Where a phone's sound has come from an address, sound may go there from now on."""
-        with self.lock:
-            if call.waits_at is None or came.media <= call.waits_at:
-                return
-            if not self.targets.has(came.ip):
-                words = f"Its sound comes from {came.ip}, to which this gateway sends nothing (`targets`)."
-                self.end(call, words)
-                return
-            if not call.is_held:
-                self.engine.ask("unblock media", call_id=call.id, from_tag="bridge")
-            if call.member is None:
-                threading.Thread(target=self.let_in, args=[call], daemon=True).start()
-            call.waits_at = None
-
-    def let_in(self, call):
-        """Makes a phone a member. Where that is refused, the log says why."""
-        with contextlib.suppress(Refused), self.whole_or_not(call):
-            self.join(call, call.address)
-
-    def of_phone(self, words):
-        """The call of a request within it: its Call-ID and both tags have to be right, and who asks has to be."""
-        call = self.phones.get((words["call"], words["from"]))
-        if not call or not secrets.compare_digest(call.tag.encode(), words["to"].encode()):
-            raise Refused("There is no such call.", 410)
-        if "account" in words and words["account"] != call.source:
-            raise Refused("This call is another account's.", 403)
-        return call
-
     def begin(self, call, table, key):
         """Takes a call in. Neither the gateway nor a source may have more than the settings say."""
+        if self.seen.version < 0:
+            # The calls of an agent before this one are taken up first: what it had at rtpengine beside them goes.
+            self.rows()
         with self.lock:
             if key in table:
                 raise Refused("There is such a call already.", 409)
@@ -291,11 +220,12 @@ class Calls:
             for _ in range(3):
                 rows = self.desk.rows()
                 self.demand_room(call, rows)
-                taken = rows.members.keys() | self.absent.keys()
+                taken = rows.members.keys() | self.absent.keys() | {one.member for one in self}
                 member = next(one for one in itertools.count(self.settings["first_member"]) if one not in taken)
                 # Where no answer comes, the bridge may have taken the group: the member goes once the desk is back.
                 self.leaving.append((member, None))
-                refusal = self.desk.group(self.joining(call, member, rows))
+                group = self.joining(call, member, rows)
+                refusal = self.desk.group(group)
                 self.leaving.pop()
                 if refusal is None:
                     self.is_in(call, member, rows)
@@ -303,7 +233,7 @@ class Calls:
                 # Where an operator has changed the desk meanwhile: again on what it is now.
                 if self.desk.rows().version == rows.version:
                     break
-        raise Refused(in_words(refusal))
+        raise Refused(in_words(refusal, group))
 
     def is_in(self, call, member, before):
         """A call has become a member. `before`: the desk as it was."""
@@ -333,7 +263,7 @@ class Calls:
         if self.desk.group(group + more[:fit]) is None:
             more = more[fit:]
         elif refusal := self.desk.group(group):
-            raise Refused(in_words(refusal))
+            raise Refused(in_words(refusal, group))
         self.absent.pop(member, None)
         for one in more:
             # What is refused of these has changed meanwhile.
@@ -414,8 +344,14 @@ class Calls:
             self.end(call, why)
 
     def end_all(self, why):
+        """Ends all calls. Kamailio hears of those of phones, and sends a BYE to each."""
+        were_phones = bool(self.phones)
+        self.told_over.clear()
         for call in self:
             self.end(call, why)
+        if were_phones and self.told_over.wait(TELLING):
+            # The answer goes out.
+            time.sleep(0.3)
 
     def clear(self):
         """Takes the members that have to go from the desk. Where the desk is out of reach, the watch tries again."""

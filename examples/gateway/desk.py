@@ -9,6 +9,7 @@ from refused import Refused
 GONE = "The bridge doesn't answer. Try again in a minute."
 BUSY = "The bridge is busy: all seats at its desk are taken. Ask its operators to leave one to the gateway."
 SAME_SSRC = "Another member sends under your SSRC, a number that a program draws. Join again: yours draws a new one."
+TAKEN = "Another member has the {0} that the gateway took for you. Join again: you get another one."
 FULL = "The bridge is full: it has {1} {0} already. Try again when somebody has left."
 MUSIC = "This room is for music at 44100 Hz. Browsers and phones can join a room for speech."
 REFUSALS = {"Exists": SAME_SSRC, "SsrcTaken": SAME_SSRC, "Full": FULL, "RateMismatch": MUSIC}
@@ -16,10 +17,17 @@ REFUSALS = {"Exists": SAME_SSRC, "SsrcTaken": SAME_SSRC, "Full": FULL, "RateMism
 ROOMS, SPEECH = 64, 8000
 
 
-def in_words(refusal):
-    """A line `no AT NUMBER NAME ..` in words. In a group, the reason of its part counts."""
+def in_words(refusal, group=()):
+    """A line `no AT NUMBER NAME ..` in words. Of a group of commands, the reason of that part counts."""
     words = refusal.replace("room-audio", "voices").split()
-    name, *more = words[6:] if words[3:4] == ["PartRefused"] else words[3:]
+    is_group = words[3:4] == ["PartRefused"]
+    name, *more = words[6:] if is_group else words[3:]
+    part = group[int(words[4])].split() if is_group and group else []
+    if part[:1] in (["add-member"], ["add-slot"]):
+        # The numbers are the gateway's own, and none that a program of who calls has drawn.
+        what = "number or the address" if name == "Exists" and part[0] == "add-member" else "SSRC"
+        if name in ("Exists", "SsrcTaken"):
+            return TAKEN.format(what)
     return REFUSALS[name].format(*more) if name in REFUSALS else f"The bridge refuses: {refusal}"
 
 
@@ -80,6 +88,12 @@ class Desk:
 
     def rows(self):
         return Rows(self.ask("show", lambda said: said.startswith("end ")))
+
+    def strangers(self, address):
+        """The SSRCs that come from an address and are of no source: how many packets of each."""
+        lines = self.ask("stats", lambda said: said == "end")
+        rows = [line.split() for line in lines if line.startswith(f"stranger {address} ")]
+        return {int(row[2]): int(row[6]) for row in rows}
 
     def group(self, commands):
         """Gives commands as one change. The refusal, or None where it was accepted."""

@@ -23,16 +23,20 @@ import tomllib
 
 from call import log
 from calls import Calls
+from keys import Keys
 from watch import Watch
 from web import ForBrowsers, ForKamailio, served
 
 FOLDER = pathlib.Path(__file__).resolve().parent
 ADDRESSES = [("bridge", "udp"), ("bridge", "tcp"), ("rtpengine", "control"), ("page", "listen"), ("phones", "agent")]
+ADDRESSES += [("rtpengine", "keys")]
 # The settings that a file may leave out.
 DEFAULTS = {
     "page": {"proxies": []},
-    "phones": {"accounts": {}, "targets": [], "proxies": []},
-    "calls": {"away": 30, "hold": 600, "unanswered": 8, "rooms": 8},
+    "phones": {"accounts": {}, "targets": [], "proxies": [], "tcp": "", "tls": "", "certificate": "", "key": ""},
+    "calls": {"away": 30, "hold": 600, "removed": 5, "unanswered": 8, "rooms": 8},
+    "names": {},
+    "pins": {},
 }
 
 
@@ -40,7 +44,11 @@ def read(path):
     """The settings of a file, with these addresses as pairs."""
     settings = tomllib.loads(path.read_text())
     for table, values in DEFAULTS.items():
-        settings[table] = values | settings[table]
+        settings[table] = values | settings.get(table, {})
+    if "keys" not in settings["rtpengine"]:
+        # The port after that by which rtpengine is controlled.
+        ip, _, port = settings["rtpengine"]["control"].rpartition(":")
+        settings["rtpengine"]["keys"] = f"{ip}:{int(port) + 1}"
     for table, key in ADDRESSES:
         ip, _, port = settings[table][key].rpartition(":")
         settings[table][key] = ip, int(port)
@@ -53,6 +61,7 @@ def agent(settings, _):
     signal.pthread_sigmask(signal.SIG_BLOCK, ends)
     calls = Calls(settings)
     watch, page = Watch(calls), settings["page"]
+    Keys(settings["rtpengine"]["keys"], calls).start()
     servers = [
         served(ForBrowsers, page["listen"], calls=calls, watch=watch, sites=page["sites"], proxies=page["proxies"]),
         served(ForKamailio, settings["phones"]["agent"], calls=calls),
@@ -60,10 +69,10 @@ def agent(settings, _):
     log(f"the page is {page['sites'][0]}/?room=1")
     threading.Thread(target=watch.run, daemon=True).start()
     by = signal.sigwait(ends)
-    for server in servers:
-        server.server_close()
     if by != signal.SIGHUP:
         calls.end_all("The gateway has been stopped.")
+    for server in servers:
+        server.server_close()
 
 
 def rtpengine(settings, _):
@@ -73,6 +82,8 @@ def rtpengine(settings, _):
     command = ["rtpengine", "--config-file=none", "--foreground", "--log-stderr", "--log-level=4"]
     command += [f"--interface=bridge/{own['bridge']}", f"--interface=outside/{own['outside']}"]
     command += ["--listen-ng={}:{}".format(*own["control"]), *map("--port-{}={}".format, ("min", "max"), own["ports"])]
+    # Each key that a phone presses is told to the agent.
+    command.append("--dtmf-log-dest={}:{}".format(*own["keys"]))
     # In userspace. With the package rtpengine-kernel-dkms, --table=0 forwards in the kernel.
     command.append("--table=-1")
     # A call that the agent forgot goes after a minute without a packet. Media are marked as networks know them from
@@ -83,15 +94,20 @@ def rtpengine(settings, _):
 def kamailio(settings, path):
     """Its command. Where no phone has a password, only those of this machine may call."""
     # phones.py reads there where the agent is, and the accounts.
-    os.environ["GATEWAY_SETTINGS"] = str(path)
-    listen = settings["phones"]["listen"]
-    if not settings["phones"]["accounts"]:
-        if not listen.startswith("127."):
-            listen = f"127.0.0.1:{listen.partition('/')[0].rpartition(':')[2]}"
+    os.environ |= {"GATEWAY_SETTINGS": str(path), "PYTHONDONTWRITEBYTECODE": "1"}
+    phones = settings["phones"]
+    ways = {"udp": phones["listen"], "tcp": phones["tcp"], "tls": phones["tls"]}
+    ways = {way: listen for way, listen in ways.items() if listen}
+    if not phones["accounts"]:
+        for way, listen in ways.items():
+            if not listen.startswith("127."):
+                ways[way] = f"127.0.0.1:{listen.partition('/')[0].rpartition(':')[2]}"
         words = "gateway: there are no accounts ([phones.accounts]): Kamailio listens on"
-        print(words, listen, "alone", file=sys.stderr)
-    command = ["kamailio", "-DD", "-E", "-f", str(FOLDER / "kamailio.cfg")]
-    return [*command, "-l", f"udp:{listen}", "-A", f'SCRIPT="{FOLDER / "phones.py"}"']
+        print(words, " and ".join(ways.values()), "alone", file=sys.stderr)
+    command = ["kamailio", "-DD", "-E", "-f", str(FOLDER / "kamailio.cfg"), "-A", f'SCRIPT="{FOLDER / "phones.py"}"']
+    if "tls" in ways:
+        command += ["-A", f'CERTIFICATE="{phones["certificate"]}"', "-A", f'KEY="{phones["key"]}"']
+    return [*command, *(word for way, listen in ways.items() for word in ("-l", f"{way}:{listen}"))]
 
 
 def main():

@@ -3,21 +3,26 @@ that says.
 
 A phone calls sip:ROOM@HOST. Kamailio reads and writes all SIP, and repeats what is lost. A request within a call has
 the Call-ID and both tags of its dialog (RFC 3261 section 12). The gateway's own tag is drawn, and only the phone is
-told it.
+told it. dialogs.py sends requests to phones.
 """
 
 import json
 import os
 import pathlib
+import re
 import secrets
 import tomllib
 import urllib.error
 import urllib.request
 
+import dialogs
 import KSR
 
-PHONES = tomllib.loads(pathlib.Path(os.environ["GATEWAY_SETTINGS"]).read_text())["phones"]
+SETTINGS = tomllib.loads(pathlib.Path(os.environ["GATEWAY_SETTINGS"]).read_text())
+PHONES, AWAY = SETTINGS["phones"], SETTINGS["calls"].get("away", 30)
 AGENT, ACCOUNTS, PROXIES = PHONES["agent"], PHONES.get("accounts", {}), PHONES.get("proxies", [])
+# The accounts of exchanges, whose callers have names of their own; and the shortest session that one may ask for.
+TRUNKS, SHORTEST = PHONES.get("trunks", []), PHONES.get("shortest_session", 90)
 # Where SIP has a status of its own for one of HTTP: Not Acceptable Here, Loop Detected (of a merged request), Call Does
 # Not Exist, Request Entity Too Large, Temporarily Unavailable.
 STATUSES = {406: 488, 409: 482, 410: 481, 413: 513, 429: 480}
@@ -25,7 +30,9 @@ STATUSES = {406: 488, 409: 482, 410: 481, 413: 513, 429: 480}
 REALM, OLD = "confbridge", (-4, -6)
 # Challenges name a quality of protection, and may say that the old one is over.
 QOP, STALE = 1, 16
-METHODS = "INVITE, ACK, BYE, CANCEL, OPTIONS"
+METHODS = "INVITE, ACK, BYE, CANCEL, OPTIONS, UPDATE"
+# How long a session is, and who refreshes it (RFC 4028 section 4).
+SESSION = re.compile(r"\s*([0-9]{1,9})\s*(?:;(.*))?")
 
 
 def ask(path, **words):
@@ -41,8 +48,32 @@ def ask(path, **words):
 
 
 class Script:
+    def __init__(self):
+        self.dialogs = dialogs.Dialogs(ask, AWAY)
+
     def child_init(self, rank):
         return 0
+
+    def ksr_reply_route(self, msg):
+        """An answer to a request of dialogs.py. Without this the next request of a phone would be lost."""
+        return 1
+
+    def ksr_onsend_route(self, msg):
+        return 1
+
+    def see_calls(self, msg, name=""):
+        """Each second, in a process of its own."""
+        self.dialogs.look()
+        return 1
+
+    def ksr_tm_event(self, msg, name):
+        if name == "tm:local-request":
+            self.dialogs.local_request()
+        return 1
+
+    def ksr_uac_event(self, msg, name):
+        self.dialogs.answered_so()
+        return 1
 
     def ksr_request_route(self, msg):
         # A flood is dropped, and what is malformed or has passed too many proxies is answered so.
@@ -54,9 +85,14 @@ class Script:
             KSR.sl.send_reply(483, "Too Many Hops")
             return 1
         method = KSR.pv.get("$rm")
-        if method == "INVITE":
-            self.invite()
+        if method in ("INVITE", "UPDATE"):
+            # One that comes again gets its answer again, whatever its password was good for.
+            if KSR.tm.t_check_trans() != 0 and self.may_require():
+                self.invite() if method == "INVITE" else self.update()
         elif method == "BYE":
+            tag, one = dialogs.of_request()
+            if one:
+                dialogs.drop(tag)
             _, status, words = ask("hang-up", **dialog())
             KSR.sl.send_reply(status, words)
         elif method == "CANCEL":
@@ -68,33 +104,68 @@ class Script:
         elif method == "ACK":
             # Its answer came through, and isn't sent again.
             KSR.tm.t_check_trans()
+            dialogs.confirmed()
         else:
             KSR.hdr.append_to_reply(f"Allow: {METHODS}\r\n")
             KSR.sl.send_reply(405, "Method Not Allowed")
         return 1
 
+    def may_require(self):
+        """Whether the gateway has what a request requires of it, and its session is no shorter than one may be."""
+        missing = tokens("Require") - {"timer"}
+        if missing:
+            KSR.hdr.append_to_reply(f"Unsupported: {', '.join(sorted(missing))}\r\n")
+            KSR.sl.send_reply(420, "Bad Extension")
+        elif 0 < session_of()[0] < SHORTEST:
+            KSR.hdr.append_to_reply(f"Min-SE: {SHORTEST}\r\n")
+            KSR.sl.send_reply(422, "Session Interval Too Small")
+        else:
+            return True
+        return False
+
     def invite(self):
         """Answers an offer: of a new call, or within one."""
-        # An INVITE that comes again gets its answer again, whatever its password was good for.
-        if KSR.tm.t_check_trans() == 0:
-            return
-        words, room = {"source": KSR.pv.get("$si")}, KSR.pv.get("$rU") or ""
+        words = {"source": KSR.pv.get("$si")}
         if ACCOUNTS:
             words["account"] = self.account()
             if words["account"] is None:
                 return
         is_new = KSR.siputils.has_totag() < 0
         if is_new:
-            words |= {"room": room, "name": words.get("account") or KSR.pv.get("$fU") or "phone"}
+            name = KSR.pv.get("$fU") if words.get("account") in (None, *TRUNKS) else words["account"]
+            words |= {"room": KSR.pv.get("$rU") or "", "name": name or words.get("account") or "phone"}
             take_tag(secrets.token_hex(16))
         if KSR.tm.t_newtran() < 0:
             return
-        path = "phone" if is_new else "again"
-        said, status, text = ask(path, sdp=KSR.pv.get("$rb") or "", **words, **dialog())
-        if said:
+        said, status, text = ask("phone" if is_new else "again", sdp=KSR.pv.get("$rb") or "", **words, **dialog())
+        self.reply(status, text, said)
+
+    def update(self):
+        """Answers an UPDATE (RFC 3311): a session goes on, or an offer comes by it."""
+        if KSR.pv.get("$rb") and KSR.siputils.has_totag() > 0:
+            self.invite()
+        elif KSR.tm.t_newtran() >= 0:
+            # A Kamailio that was started anew doesn't have the calls of the one before it, and the agent has.
+            tag, one = dialogs.of_request()
+            said = one or ask("over", tags=[tag or ""])[0]
+            is_there = one or said == {"over": []}
+            self.reply(*(200, "OK") if is_there else (481, "Call Does Not Exist"))
+
+    def reply(self, status, text, said=None):
+        if status == 200:
+            interval, refresher = session_of()
             # Where the phone finds Kamailio: behind a NAT that is the advertised address.
-            KSR.hdr.append_to_reply(f"Contact: <sip:{room}@{KSR.pv.get('$RAi')}:{KSR.pv.get('$RAp')}>\r\n")
-            KSR.hdr.append_to_reply(f"Allow: {METHODS}\r\n")
+            at, protocol = f"{KSR.pv.get('$RAi')}:{KSR.pv.get('$RAp')}", (KSR.pv.get("$proto") or "udp").lower()
+            way = "" if protocol == "udp" else f";transport={protocol}"
+            lines = [f"Contact: <sip:{KSR.pv.get('$rU') or 'room'}@{at}{way}>", f"Allow: {METHODS}"]
+            lines += ["Supported: timer"]
+            if interval:
+                lines.append(f"Session-Expires: {interval};refresher={refresher}")
+                lines += ["Require: timer"] * (refresher == "uac")
+            for line in lines:
+                KSR.hdr.append_to_reply(line + "\r\n")
+            dialogs.kept(KSR.pv.get("$tt"), (interval, refresher))
+        if said:
             KSR.textops.set_reply_body(said["sdp"], "application/sdp")
         KSR.tm.t_reply(status, text)
 
@@ -111,6 +182,28 @@ class Script:
             return name
         KSR.auth.auth_challenge(REALM, QOP | (STALE if said in OLD else 0))
         return None
+
+
+def tokens(*names):
+    """What headers with these names list."""
+    found = set()
+    for name in names:
+        for at in range(KSR.pv.get(f"$hdrc({name})") or 0):
+            found |= {one.strip() for one in (KSR.pv.get(f"$(hdr({name})[{at}])") or "").split(",")}
+    return found - {""}
+
+
+def session_of():
+    """The seconds of the session that a request asks for, and who is to refresh it (RFC 4028 section 9): the phone,
+    unless it wants to be refreshed by UPDATE. Without a session, 0 seconds."""
+    text = KSR.pv.get("$hdr(Session-Expires)") or KSR.pv.get("$hdr(x)") or ""
+    found, supported = SESSION.fullmatch(text), tokens("Supported", "k", "Require")
+    if not found:
+        return 0, None
+    asked = re.search("refresher *= *(uac|uas)", found[2] or "", re.IGNORECASE)
+    refresher = asked[1].lower() if asked else "uac" if "timer" in supported else "uas"
+    may = "timer" in supported if refresher == "uac" else "UPDATE" in tokens("Allow")
+    return (int(found[1]), refresher) if may else (0, None)
 
 
 def dialog():

@@ -15,12 +15,14 @@ class UnknownCall(Refused):
 
 class Received(typing.NamedTuple):
     """How many packets came, the SSRC of the last one where there is one, how many were of the call's sound, and the IP
-    address to which rtpengine sends sound: once such packets came, it is that from which they came."""
+    address to which rtpengine sends sound: once such packets came, it is that from which they came. And how many it
+    dropped, since they came from elsewhere: these aren't counted before."""
 
     packets: int
     ssrc: int | None
     media: int
     ip: str | None
+    strange: int
 
 
 class Rtpengine:
@@ -49,9 +51,10 @@ class Rtpengine:
         streams = [stream for media in medias for stream in media["streams"]]
         ssrc = next((stream["SSRC"] for stream in streams if "SSRC" in stream), None)
         # The first stream of a call is that of its sound, the others have RTCP.
-        first = streams[0] if streams else {"stats": {"packets": 0}}
-        packets = sum(stream["stats"]["packets"] for stream in streams)
-        return Received(packets, ssrc, first["stats"]["packets"], first.get("endpoint", {}).get("address"))
+        first = streams[0] if streams else {"stats": {"packets": 0, "errors": 0}}
+        good = lambda stream: stream["stats"]["packets"] - stream["stats"]["errors"]
+        packets, ip = sum(map(good, streams)), first.get("endpoint", {}).get("address")
+        return Received(packets, ssrc, good(first), ip, first["stats"]["errors"])
 
 
 def checked(command, answer):

@@ -6,6 +6,8 @@ from refused import Refused
 
 PCMU, VP8 = 0, 96
 NAMES = {PCMU: "PCMU/8000", VP8: "VP8/90000"}
+# The sound of phones, of which rtpengine makes PCMU; the types that need no name (RFC 3551 section 6); and keys.
+OTHERS, STATIC, EVENTS = ("opus", "g722", "pcma"), {"0": "pcmu", "8": "pcma", "9": "g722"}, "telephone-event"
 TRANSPORT = ("ice-ufrag:", "ice-pwd:", "ice-options:", "fingerprint:", "setup:", "candidate:", "end-of-candidates")
 
 
@@ -20,6 +22,12 @@ class Section:
         self.ssrc = next((int(one[5:].split()[0]) for one in self.attributes if one.startswith("ssrc:")), None)
         if not 0 <= (self.ssrc or 0) < 2**32:
             raise ValueError("an SSRC of over 32 bits")
+
+    def codecs(self):
+        """The name of each payload type's encoding, in small letters, in the order of the section."""
+        maps = [one[7:].split(None, 1) for one in self.attributes if one.startswith("rtpmap:") and " " in one]
+        named = {type_: name.partition("/")[0].lower() for type_, name in maps}
+        return [named.get(one, STATIC.get(one, "")) for one in self.types]
 
     def transport(self):
         """What it says of ICE and DTLS, each line once."""
@@ -40,8 +48,10 @@ def demand(text, from_browser):
     audio = found[0] if found else None
     if audio is None or audio.kind != "audio" or audio.port == "0":
         raise Refused("This call needs audio, and your program offers none as the first of its media.", 406)
-    if str(PCMU) not in audio.types:
+    if from_browser and str(PCMU) not in audio.types:
         raise Refused("This call's audio is PCMU (G.711 mu-law), which your program doesn't offer.", 406)
+    if not {"pcmu", *OTHERS} & {*audio.codecs()}:
+        raise Refused("This call's audio is PCMU, PCMA, G.722 or Opus, of which your program offers none.", 406)
     if from_browser and "rtcp-mux" not in audio.attributes:
         raise Refused("This call needs RTP and RTCP on one port (rtcp-mux), which your browser refuses.", 406)
     if from_browser and not any(one.startswith("fingerprint:") for one in audio.attributes):
@@ -57,6 +67,26 @@ def direction_of(section):
     return [*(one for one in ["sendrecv", *section.attributes] if one in ANSWERS)][-1]
 
 
+def has_pcmu(section):
+    return "pcmu" in section.codecs()
+
+
+def ways_of(section):
+    """What rtpengine is to make of a phone's encodings: PCMU stays, and is made of the first other one."""
+    if has_pcmu(section):
+        return {"strip": ["all"], "offer": ["PCMU", EVENTS]}
+    first = next(one for one in section.codecs() if one in OTHERS)
+    others = sorted({one for one in section.codecs() if one not in (first, EVENTS, "")})
+    return {"strip": others, "mask": [first], "transcode": ["PCMU"]}
+
+
+def events_in(text):
+    """The payload type of keys in rtpengine's offer, if it has them."""
+    first = sections(text)[0]
+    maps = [one[7:].split(None, 1) for one in first.attributes if one.startswith("rtpmap:")]
+    return next((int(type_) for type_, name in maps if name.strip() == f"{EVENTS}/8000"), None)
+
+
 def described(lines):
     return "".join(line + "\r\n" for line in lines)
 
@@ -65,11 +95,12 @@ def session(ip):
     return ["v=0", f"o=- {secrets.randbits(31)} 1 IN IP4 {ip}", "s=-", f"c=IN IP4 {ip}", "t=0 0"]
 
 
-def plain(address, protocol, attributes=(), types=(PCMU, VP8), direction="sendrecv"):
+def plain(address, protocol, attributes=(), types=(PCMU, VP8), direction="sendrecv", events=None):
     """A description of one stream that carries all types, for rtpengine. It passes on what it doesn't transcode."""
-    ip, port = address
+    (ip, port), names = address, NAMES | ({} if events is None else {events: f"{EVENTS}/8000"})
+    types = [*types, *([] if events is None else [events])]
     lines = [*session(ip), f"m=audio {port} {protocol} " + " ".join(map(str, types))]
-    lines += [f"a=rtpmap:{one} {NAMES[one]}" for one in types]
+    lines += [f"a=rtpmap:{one} {names[one]}" for one in types]
     return described([*lines, "a=rtcp-mux", f"a={direction}", *(f"a={one}" for one in attributes)])
 
 

@@ -32,6 +32,11 @@ class Targets:
         there."""
         return any(self.allows(ip) and ip != address_of(source) for ip in named(text) if ip != HOLD)
 
+    @staticmethod
+    def is_hold(text):
+        """Whether a description names no address, by which older phones hold a call."""
+        return HOLD in named(text)
+
     def names(self, ip):
         return any(ip in one for one in self.networks)
 

@@ -11,8 +11,10 @@ from refused import FAILED, Refused, words_of
 from rtpengine import UnknownCall
 
 
-# The seconds within which a phone's sound has to come after its INVITE.
-UNHEARD = 10
+# The seconds within which a phone's sound has to come after its INVITE, or the PIN of its room.
+UNHEARD, UNTYPED = 10, 45
+# How often the bridge is asked for the SSRC that rtpengine has drawn for a phone, at most.
+ASKED = 20
 
 
 class Watch:
@@ -20,6 +22,8 @@ class Watch:
         self.calls, self.settings = calls, calls.settings
         # What is wrong in words, and when rtpengine last answered.
         self.trouble, self.answered = "", time.monotonic()
+        # When the desk was last read.
+        self.read = time.monotonic()
 
     def run(self):
         """Looks at all calls each second, and more often at phones whose sound hasn't come yet."""
@@ -55,7 +59,11 @@ class Watch:
             if self.calls.fleet:
                 # The bridge may have ended, and its rooms gone to others: who was in them is told where.
                 self.follow(Rows())
+            if time.monotonic() - self.read > self.settings["away"]:
+                for call in list(self.calls.phones.values()):
+                    self.calls.end(call, "The bridge doesn't answer any more.")
             raise
+        self.read = time.monotonic()
         self.calls.end_empty_rooms(rows)
         if self.calls.fleet:
             self.follow(rows)
@@ -68,7 +76,10 @@ class Watch:
             raise
         self.answered = time.monotonic()
         for call in self.calls:
-            self.look_at(call)
+            if call.side == "phone" and self.is_removed(call, rows):
+                self.calls.end(call, "An operator has taken it out of the call.")
+            else:
+                self.look_at(call)
         return self.calls.fleet.see() if self.calls.fleet else ""
 
     def follow(self, rows):
@@ -90,14 +101,46 @@ class Watch:
             return
         if came.packets != call.packets:
             call.packets = came.packets
-            self.is_alive(call)
+            if call.ip in (None, came.ip):
+                self.is_alive(call)
         silence = self.patience(call)
         if time.monotonic() - call.alive > silence:
             self.calls.end(call, f"Nothing has come from your {call.side} for {silence} s. Press Join to come back.")
         elif call.waits_at is not None:
             self.calls.heard(call, came)
-        elif call.side == "phone" and call.member is not None and came.ssrc not in (None, call.voice):
-            self.learn(call, came.ssrc)
+        elif call.side == "phone" and call.member is not None:
+            ssrc = self.ssrc_of(call, came)
+            if ssrc not in (None, call.voice) and (call.voice is None or self.calls.is_certain(call)):
+                self.learn(call, ssrc, came.ssrc)
+            if self.calls.has_moved(call, came):
+                self.calls.learn_anew(call)
+
+    def is_removed(self, call, rows):
+        """Whether a phone's member has been away from the desk for as long as an operator may bring it back. A fleet
+        takes its time for a room that moves."""
+        is_there = call.member in rows.members if self.calls.fleet else rows.mixes.get(call.member) == call.mix
+        if call.member is None or is_there:
+            call.gone = None
+            return False
+        call.gone = call.gone or time.monotonic()
+        moves = self.calls.fleet and call.room not in rows.rooms
+        return time.monotonic() - call.gone > self.settings["away" if moves else "removed"]
+
+    def ssrc_of(self, call, came):
+        """The SSRC that a phone has at the bridge. Where rtpengine draws it, the bridge says what comes. So it does
+        where packets came from elsewhere, since rtpengine tells their SSRC too."""
+        is_alone, call.strange = came.strange == call.strange, came.strange
+        if came.ssrc is None or is_alone and not call.is_transcoded:
+            return came.ssrc
+        if call.is_transcoded and came.ssrc == call.sends:
+            return call.voice
+        seen, before = self.calls.desk.strangers(call.address), call.strangers
+        call.strangers, call.asked = seen, call.asked + 1
+        found = next((ssrc for ssrc, count in seen.items() if before and count > before.get(ssrc, 0)), None)
+        if call.asked > ASKED and call.voice:
+            # It has kept the one that it had.
+            call.sends, call.strangers, call.asked = came.ssrc, None, 0
+        return found or call.voice
 
     def is_alive(self, call):
         """A sign of life of who calls. Nothing but a join prolongs a call before it."""
@@ -109,25 +152,28 @@ class Watch:
         if call.side == "browser":
             return self.settings["silence"]
         if call.member is None:
-            return UNHEARD
+            return UNTYPED if call.room in self.calls.pins else UNHEARD
         return self.settings["hold" if call.is_held else "phone_silence"]
 
-    def learn(self, call, ssrc):
-        """Gives the desk the SSRC under which a phone sends, and a new one where the phone changes it."""
+    def learn(self, call, ssrc, sends):
+        """Gives the desk the SSRC of a phone at the bridge, and a new one where the phone changes that under which it
+        `sends`."""
         with self.calls.lock:
             rows = self.calls.desk.rows()
             if call.why or call.member not in rows.members:
                 return
+            has_muted = call.muted is not None and self.calls.last_mute(call.voice) == call.muted
             group = [] if call.voice is None else [f"remove-source {call.voice}"]
             group.append(f"add-source {ssrc} {call.member} audio")
             group += [f"mute {ssrc}"] if call.voice in rows.mutes else []
             refusal = self.calls.desk.group(group)
             if refusal is None:
-                call.voice = ssrc
+                call.voice, call.sends, call.strangers, call.asked = ssrc, sends, None, 0
+                call.muted = self.calls.last_mute(ssrc) if has_muted else None
             elif call.refused != ssrc:
                 # Another member has the SSRC. Once that one leaves, this one is heard.
                 call.refused = ssrc
-                log(f"phone {call.name!r} isn't heard: {in_words(refusal)}")
+                log(f"phone {call.name!r} isn't heard: {in_words(refusal, group)}")
 
     def state(self, call):
         """What a page shows: whose voices and pictures come, and what operators did to its own. Of the callers it names

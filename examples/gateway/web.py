@@ -116,7 +116,7 @@ class ForBrowsers(Handler):
 
     def carried_out(self, path, words):
         if path == "offer":
-            return self.calls.offer(room_of(words), words["name"], self.source(), words.get("again"))
+            return self.calls.offer(room_of(words, self.calls.names), words["name"], self.source(), words.get("again"))
         call = self.calls.pages.get(words["id"])
         if call is None:
             raise Refused(*self.calls.ended.get(words["id"], (RESTARTED, 410, True)))
@@ -132,6 +132,8 @@ class ForBrowsers(Handler):
         return told[0].rpartition(",")[2].strip() if told else ip
 
 
+# Tags of the gateway.
+TAGS = "texts", lambda one: isinstance(one, list) and all(map(is_text, one))
 # What a dialog is (RFC 3261 section 12): its Call-ID, the phone's tag and the gateway's.
 DIALOG = {"call": ID, "from": ID, "to": ID}
 
@@ -143,19 +145,24 @@ class ForKamailio(Handler):
         "phone": [DIALOG | {"room": ROOM, "name": NAME, "source": NAME, "sdp": SDP}, {"account": NAME}],
         "again": [DIALOG | {"source": NAME, "sdp": SDP}, {"account": NAME}],
         "hang-up": [DIALOG],
+        "over": [{"tags": TAGS}],
     }
 
     def carried_out(self, path, words):
         if path == "phone":
-            return self.calls.phone(room_of(words), words)
+            return self.calls.phone(room_of(words, self.calls.names), words)
+        if path == "over":
+            return self.calls.over(words["tags"])
         call = self.calls.of_phone(words)
         return self.calls.offers_again(call, words) if path == "again" else self.calls.end(call, "It has hung up.")
 
 
-def room_of(words):
-    if not re.fullmatch("[0-9]{1,9}", str(words["room"])):
+def room_of(words, names):
+    """A room by its number, or by a name that the settings give it."""
+    room = str(names.get(str(words["room"]).lower(), words["room"]))
+    if not re.fullmatch("[0-9]{1,9}", room):
         raise Refused("A room is a number of at most nine digits.", 404)
-    return int(words["room"])
+    return int(room)
 
 
 def served(handler, address, **parts):
