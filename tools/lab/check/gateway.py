@@ -9,6 +9,9 @@ It starts a bridge, rtpengine, Kamailio and the agent. Then come its parts, each
     pages      the same with Chromium, whose page comes again without a click
     gone       a bridge and rtpengine that are gone; then, in a call, they are started anew, and a browser is killed
     phones     two baresips in the room: one is muted, and one hangs up
+    sip        SIPp: a BYE for each call that is over, exchanges, sessions, TCP and TLS, rooms by name
+    sound      SIPp: hold, a NAT that gives another port, PCMA, G.722 and Opus, keys
+    recipes    a room is recorded, and music plays to who is alone in it
     browsers   three Chromiums: mutes, pins, the floor, removals and undos show in all; 2 percent of packets are lost
     firefox    Firefox joins them
     linphone   Linphone joins them
@@ -17,11 +20,12 @@ It starts a bridge, rtpengine, Kamailio and the agent. Then come its parts, each
 Where all parts run, all five callers are in one room. Each sends a tone, and each browser a colour, so that what is
 heard and seen is told apart. The check measures how long a new picture takes after an operator's line. What isn't
 installed is named, and its part is skipped. On Debian the packages are rtpengine-daemon, kamailio,
-kamailio-python3-modules, chromium, baresip-core, ffmpeg, firefox-esr, pulseaudio, linphone-cli and iptables.
+kamailio-python3-modules, kamailio-tls-modules, sip-tester, chromium, baresip-core, ffmpeg, firefox-esr, pulseaudio,
+linphone-cli and iptables.
 
 Each check prints a line, `ok` or `FAILED`. Each wait is bounded: where a step is late, its line says what it waited for
 and how long, and the next part begins with a bridge of its own. With --model a model without media stands in for the
-bridge, for the parts `again` and `pages`.
+bridge, for the parts `again`, `pages` and `sip`.
 """
 
 import pathlib
@@ -37,7 +41,7 @@ from lab.sip import kamailio_lacks
 from lab.waits import carried_out, within
 from operators.shared import add_program, fail
 
-NEEDS = "the program, rtpengine, and what it names where it skips; three minutes, ten on a loaded machine"
+NEEDS = "the program, rtpengine, and what it names where it skips; ten minutes, twenty on a loaded machine"
 
 # Of each part: its steps before a call, the callers that it needs where it runs alone, and its steps in the call.
 PARTS = {
@@ -64,6 +68,16 @@ PARTS = {
         [],
     ),
     "pages": ([], "", ["step_pages"]),
+    "sip": (
+        [
+            *("try_goodbyes", "try_gone_for_good", "try_acks", "try_requires", "try_trunk", "try_ways"),
+            *("try_room_names", "try_taken"),
+        ],
+        "",
+        [],
+    ),
+    "sound": (["try_music_on_hold", "try_rebinding", "try_codecs", "try_keys"], "", []),
+    "recipes": (["try_recording", "try_music_alone"], "", []),
     "phones": (["try_bad_phones", "try_holds"], "ADE", ["step_phones"]),
     "browsers": (
         [],
@@ -76,7 +90,9 @@ PARTS = {
     "nat": ([], "A", ["step_nat"]),
 }
 # The parts that need no media of the bridge.
-WITHOUT_MEDIA = ["again", "pages"]
+WITHOUT_MEDIA = ["again", "pages", "sip"]
+# Those in which SIPp calls.
+SIPPS = ["sip", "sound", "recipes"]
 # In seconds: the most that a step may take, and the callers of a part until all are in the room.
 STEP, GATHERING = 180, 300
 
@@ -88,7 +104,7 @@ def options(parser):
     parser.add_argument("--pictures", type=pathlib.Path, metavar="FOLDER", help="where pictures of the page go")
     text = f"this part alone, or several times these: {', '.join(PARTS)}"
     parser.add_argument("--only", action="append", choices=PARTS, metavar="PART", help=text)
-    parser.add_argument("--seconds", type=int, default=1200, help="how long all may take (%(default)s)")
+    parser.add_argument("--seconds", type=int, default=2400, help="how long all may take (%(default)s)")
 
 
 def callers_of(part, args):
@@ -101,8 +117,10 @@ def callers_of(part, args):
 
 def lacks(part, args):
     """What a part lacks here, in words."""
-    if part in ("phones", "linphone", "strangers") and kamailio_lacks():
+    if part in ("phones", "linphone", "strangers", *SIPPS) and kamailio_lacks():
         return f"there is no {kamailio_lacks()}"
+    if part in SIPPS:
+        return lacking("sipp")
     if part == "phones":
         return lacking("baresip")
     return lacking(args.browser, "ffmpeg") if PARTS[part][1] or part == "pages" else ""
@@ -119,6 +137,8 @@ def hold(trial, args):
     trial.start_parts()
     parts = args.only or (WITHOUT_MEDIA if args.model else list(PARTS))
     for part in parts:
+        if part in SIPPS and lacks(part, args):
+            continue
         steps = [(name, STEP, getattr(trial, name)) for name in PARTS[part][0]]
         carry_out(trial, part, steps)
     for part in parts:

@@ -10,9 +10,12 @@ from lab.gateway_call.callers import RATE, PhoneCaller
 from lab.gateway_call.lossy import Lossy
 from lab.gateway_call.others import Others
 from lab.gateway_call.parts import ACCOUNTS, Parts, until
+from lab.gateway_call.phoning import Phoning
+from lab.gateway_call.recipes import Recipes
 from lab.gateway_call.refusals import Refusals
 from lab.gateway_call.strangers import Strangers
 from lab.gateway_call.trial import BROWSERS
+from lab.gateway_call.trunks import Trunks
 from operators.serving import free_port
 
 SWITCHES = 12
@@ -20,7 +23,7 @@ SWITCHES = 12
 MOST_MS, LOST = 1000, 0.02
 
 
-class Call(Refusals, Strangers, Others, Again):
+class Call(Refusals, Strangers, Others, Again, Phoning, Trunks, Recipes):
     """The call of browsers and phones."""
 
     def gather(self, names):

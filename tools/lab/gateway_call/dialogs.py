@@ -15,7 +15,8 @@ class Answer:
         self.text = text
         head, _, self.body = text.partition("\r\n\r\n")
         self.first = head.partition("\r\n")[0].removeprefix("SIP/2.0 ") or "408 No answer"
-        self.status = int(self.first[:3])
+        # A request that comes is none.
+        self.status = int(self.first[:3]) if self.first[:3].isdigit() else 0
         tag = re.search(r"^To:.*;tag=(\S+)", head, re.MULTILINE)
         self.tag = tag[1] if tag else None
         count = re.search(r"^CSeq: (\d+)", head, re.MULTILINE)

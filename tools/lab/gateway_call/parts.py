@@ -33,6 +33,11 @@ PROXY = "127.0.0.9"
 TARGETS = ["127.0.0.0/8", "10.213.7.0/24", "192.168.213.0/24"]
 # The accounts of phones: baresip's, Linphone's, and two of tests.
 ACCOUNTS = {"D": "drop anchor", "E": "ever after", "L": "long ago", "test": "tell nobody", "other": "or else"}
+# The account of an exchange, whose callers have names of their own; a room with a name, and one with a PIN.
+ACCOUNTS |= {"pbx": "trunk line"}
+NAMED, NAME, LOCKED, PIN = 7, "team", 9, "2468"
+# The least seconds of a session, and those within which a removed phone may come back.
+SHORTEST, REMOVED = 2, 3
 
 
 def until(condition, seconds=10):
@@ -49,21 +54,32 @@ class Parts:
     """rtpengine, Kamailio and an agent, on ports of their own."""
 
     def __init__(
-        self, folder, udp, tcp, control=None, first_member=1000, fleet=None, outside="127.0.0.1", bridge_ip="127.0.0.1"
+        self,
+        folder,
+        udp,
+        tcp,
+        control=None,
+        first_member=1000,
+        fleet=None,
+        outside="127.0.0.1",
+        bridge_ip="127.0.0.1",
+        phones=(),
+        away=AWAY,
     ):
         self.folder, self.running = folder, {}
         stream, datagram = socket.SOCK_STREAM, socket.SOCK_DGRAM
         self.page_port, self.phones_port, self.sip_port = free_port(stream), free_port(stream), free_port(datagram)
-        self.control = control or free_port(datagram)
+        self.control, self.keys = control or free_port(datagram), free_port(datagram)
         self.engine = Rtpengine(("127.0.0.1", self.control))
         self.page, self.path = f"http://127.0.0.1:{self.page_port}", folder / f"gateway{first_member}.toml"
         # The page and SIP as callers see them who aren't on this machine.
         self.far_page, self.sip = f"http://{outside}:{self.page_port}", f"{outside}:{self.sip_port}"
-        low = 30000 + self.control % 25 * 100
+        low = self.low = 30000 + self.control % 25 * 100
         tables = {
             "bridge": {"udp": f"{bridge_ip}:{udp}", "tcp": f"127.0.0.1:{tcp}"},
             "rtpengine": {
                 "control": f"127.0.0.1:{self.control}",
+                "keys": f"127.0.0.1:{self.keys}",
                 "bridge": "127.0.0.1",
                 "outside": outside,
                 "ports": [low, low + 99],
@@ -78,15 +94,21 @@ class Parts:
                 "agent": f"127.0.0.1:{self.phones_port}",
                 "targets": TARGETS,
                 "proxies": [PROXY],
+                "trunks": ["pbx"],
+                "shortest_session": SHORTEST,
+                **dict(phones),
             },
             "phones.accounts": ACCOUNTS,
+            "names": {NAME: NAMED},
+            "pins": {str(LOCKED): PIN},
             "calls": {
                 "pictures": 3,
                 "open_rooms": fleet is None,
                 "first_member": first_member,
                 "silence": 6,
-                "away": AWAY,
+                "away": away,
                 "phone_silence": SILENCE,
+                "removed": REMOVED,
                 "most": 20,
             },
         }

@@ -195,7 +195,7 @@ class Refusals(Trial):
         voice = "m=audio 5000 RTP/AVP 0 8"
         for text, wanted, media in (
             ("a phone without audio", "488 This call needs audio", ["m=video 5000 RTP/AVP 96"]),
-            ("a phone with PCMA alone", "488 This call's audio is PCMU", ["m=audio 5000 RTP/AVP 8"]),
+            ("a phone with G.729 alone", "488 This call's audio is PCMU, PCMA, G.722", ["m=audio 5000 RTP/AVP 18"]),
             ("a phone with video before audio", "488", ["m=video 5002 RTP/AVP 96", voice]),
         ):
             self.refused(text, wanted, self.parts.invite(offer_of(media)))

@@ -76,6 +76,8 @@ class Trial:
     def last_member(self):
         """The number of the member that joined last."""
         members = [row.split()[1:3] for row in self.rows() if row.startswith("member ")]
+        if not members:
+            fail("nobody is a member")
         return max(members, key=lambda one: int(one[0]))[1]
 
     def do(self, line):

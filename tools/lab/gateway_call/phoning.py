@@ -1,0 +1,270 @@
+"""Phones as people use them, by SIPp: each scenario says which messages have to come, and how many came is counted."""
+
+import signal
+import time
+
+from lab.gateway_call.parts import LOCKED, NAME, NAMED, PIN, REMOVED, SILENCE, Parts, until
+from lab.gateway_call.refusals import answer_of, port_in
+from lab.gateway_call.sipps import Sipp, sdp
+from lab.gateway_call.sounds import KEY_TYPE, Sound
+from lab.gateway_call.trial import Trial, lacking
+from operators.models.desk import MOST_PARTS
+from operators.shared import fail
+
+# What a phone offers that has keys.
+WITH_KEYS = "a=rtpmap:0 PCMU/8000", f"a=rtpmap:{KEY_TYPE} telephone-event/8000", f"a=fmtp:{KEY_TYPE} 0-15"
+# A 200 that isn't confirmed comes again after half a second, then after one and two more.
+AGAIN = 5
+# After how many seconds without an agent or a bridge the calls of a test are over.
+SHORTLY = 6
+
+
+class Phoning(Trial):
+    """The steps of phones."""
+
+    def ringing(self, scenario, sound=None):
+        """Begins a scenario, and its sound once that knows where to."""
+        self.others.append(scenario.run())
+        self.comes(scenario.answer, f"{scenario.user} calls room {scenario.room}", scenario.said, 20)
+        if sound and scenario.answer():
+            sound.to = port_in(scenario.answer())
+        return scenario
+
+    def sipp(self, sound, room=1, user="test", more=(), types="0", lines=(), **words):
+        """A phone's scenario that has begun with an INVITE."""
+        one = Sipp(self.parts, self.folder, room, user, **words)
+        return one.asks("INVITE", sdp(sound.port, types, lines), more=more)
+
+    def sound(self, ssrc, **more):
+        one = Sound(ssrc, **more)
+        self.others.append(one)
+        return one
+
+    def is_in(self, ssrc, text="its sound makes it a member"):
+        self.comes(lambda: f"source {ssrc} " in " ".join(self.rows()), text, self.rows, 20)
+
+    def ends(self, scenario, text, seconds=30):
+        """Whether a scenario comes to its end, and each message came that it names."""
+        self.comes(lambda: scenario.process.poll() is not None, f"{text}: it comes to its end", seconds=seconds)
+        self.check(scenario.is_done(), f"{text}: all messages come that have to, and no others", scenario.said())
+
+    def gets_bye(self, text, ssrc, end, seconds=20, room=1, parts=None):
+        """Whether one BYE comes to a phone after something has ended its call."""
+        sound = self.sound(ssrc)
+        one = Sipp(parts or self.parts, self.folder, room).asks("INVITE", sdp(sound.port)).gets("BYE", 60).waits(2)
+        self.ringing(one, sound)
+        self.is_in(ssrc)
+        begun = time.monotonic()
+        end()
+        self.comes(lambda: one.counts("BYE "), f"{text}: a BYE comes", one.said, seconds)
+        print(f"      after {time.monotonic() - begun:.1f} s")
+        self.ends(one, text)
+        self.check(one.counts("BYE ") == 1, f"{text}: one BYE comes", one.counts("BYE "))
+        sound.close()
+
+    def try_goodbyes(self):
+        """A BYE goes to a phone whose call is over, whoever ended it."""
+        self.gets_bye("an operator removes a phone", 4001, lambda: self.do(f"remove-member {self.last_member()}"))
+        self.gets_bye("its room ends", 4002, lambda: self.do("remove-room 3"), room=3)
+        self.gets_bye("the agent is stopped", 4003, lambda: self.parts.stop("agent"))
+        self.parts.start("agent")
+        self.gets_bye("rtpengine is started anew", 4004, self.engine_anew)
+        sound = self.sound(4005)
+        one = self.ringing(self.sipp(sound).waits(REMOVED + 6).asks("BYE").waits(1), sound)
+        self.is_in(4005)
+        number = self.do(f"remove-member {self.last_member()}")
+        time.sleep(1)
+        self.undo(number)
+        self.ends(one, "a removal is undone in time, and no BYE comes")
+        self.check(one.counts("BYE ") == 0, "none is counted", one.said())
+        sound.close()
+
+    def engine_anew(self):
+        self.parts.stop("rtpengine", signal.SIGKILL)
+        self.parts.start("rtpengine")
+
+    def try_gone_for_good(self):
+        """An agent and a bridge that don't come back: after `away` a BYE goes to each phone."""
+        parts = Parts(self.folder, self.udp, self.tcp, self.parts.control, first_member=800_000, away=SHORTLY)
+        self.others.append(parts)
+        for part in "agent", "kamailio":
+            parts.start(part)
+        kill = lambda: parts.stop("agent", signal.SIGKILL)
+        self.gets_bye("the agent is killed", 4006, kill, SHORTLY + 20, parts=parts)
+        parts.start("agent")
+        self.comes(lambda: not self.rows(), "its member goes", self.rows, SHORTLY + SILENCE + 20)
+        self.gets_bye("the bridge is killed", 4007, self.bridge.kill, SHORTLY + 20, parts=parts)
+        parts.close()
+        self.bridge.wait()
+        self.start_bridge()
+
+    def try_acks(self):
+        """A 200 comes once where an ACK confirms it, and again where none does."""
+        sound = self.sound(4010)
+        one = self.ringing(self.sipp(sound).waits(AGAIN).asks("BYE").waits(1), sound)
+        self.ends(one, "a call is confirmed")
+        self.check(one.counts("SIP/2.0 200", "INVITE") == 1, "its 200 comes once", one.said())
+        two = Sipp(self.parts, self.folder).asks("INVITE", sdp(sound.port), ack=False).waits(3)
+        two.send("ACK").waits(3).asks("BYE").waits(1)
+        self.ends(self.ringing(two), "one is confirmed late")
+        count = two.counts("SIP/2.0 200", "INVITE")
+        self.check(count > 1, f"its 200 comes {count} times", two.said())
+        sound.close()
+
+    def try_music_on_hold(self):
+        """Who is held isn't heard, whatever plays to the room meanwhile. An operator's mute stays after it."""
+        held, other = self.sound(4020), self.sound(4021, hertz=700)
+        hold, again = sdp(held.port, more=["a=sendonly"]), sdp(held.port)
+        dead = sdp(held.port, more=["a=inactive"])
+        one = self.sipp(held).waits(8).asks("INVITE", hold).waits(12).asks("INVITE", again).waits(12)
+        one.asks("INVITE", dead).waits(6).asks("INVITE", again).waits(8).asks("BYE").waits(1)
+        two = self.ringing(self.sipp(other, user="other").waits(80), other)
+        self.ringing(one, held)
+        self.is_in(4020)
+        self.is_in(4021)
+        self.check(other.hears(1000), "a phone is heard", other.level(1000))
+        answers = lambda count: until(lambda: one.counts("SIP/2.0 200", "INVITE") == count, 30) is not None
+        self.check(answers(2) and "a=recvonly" in one.answer(), "its sendonly is answered recvonly", one.answer())
+        self.check(other.is_quiet(1000), "its music on hold isn't heard", other.level(1000))
+        number = self.do("mute 4020")
+        self.check(answers(3) and "a=sendrecv" in one.answer(), "it takes the call up again", one.answer())
+        self.check(other.is_quiet(1000), "an operator has muted it meanwhile: it isn't heard", other.level(1000))
+        self.undo(number)
+        self.check(other.hears(1000), "that is undone: it is heard", other.level(1000))
+        self.check(answers(4) and "a=inactive" in one.answer(), "its inactive is answered inactive", one.answer())
+        self.check(other.is_quiet(1000), "and nothing of it is heard", other.level(1000))
+        self.check(answers(5) and other.hears(1000), "it is heard again", other.level(1000))
+        self.ends(one, "it hangs up", 40)
+        two.close()
+        for sound in held, other:
+            sound.close()
+        self.comes(lambda: not self.rows(), "both are gone", self.rows, SILENCE + 10)
+
+    def try_rebinding(self):
+        """A NAT gives a phone another port. Who sends from elsewhere doesn't take its place."""
+        moved, other = self.sound(4030), self.sound(4031, hertz=700)
+        one = self.ringing(self.sipp(moved).waits(60).asks("BYE"), moved)
+        two = self.ringing(self.sipp(other, user="other").waits(60), other)
+        self.is_in(4030)
+        self.check(moved.hears(700) and other.hears(1000), "two phones hear each other", self.rows())
+        time.sleep(4)
+        stranger = self.sound(4032, hertz=1500, ip="127.0.0.66")
+        moved.sends, stranger.to = False, moved.to
+        time.sleep(6)
+        self.check(stranger.count == 0, "a stranger who sends while a phone is silent gets nothing", stranger.count)
+        moved.opens("127.0.0.1")
+        moved.sends = True
+        begun = time.monotonic()
+        self.check(moved.hears(700, 20), "at its new port the phone hears the other one", moved.level(700))
+        print(f"      after {time.monotonic() - begun:.1f} s")
+        self.check(other.hears(1000), "and is heard", other.level(1000))
+        good = stranger.count == 0 and other.level(1500) < 0.01
+        self.check(good, "the stranger gets nothing, and isn't heard", (stranger.count, other.level(1500)))
+        for each in moved, other, stranger, one, two:
+            each.close()
+        self.comes(lambda: not self.rows(), "all are gone", self.rows, SILENCE + 10)
+
+    def try_codecs(self):
+        """Phones without PCMU: rtpengine makes that of what they send, and the other way."""
+        if lacking("ffmpeg"):
+            print(f"skipped: phones without PCMU ({lacking('ffmpeg')})")
+            return
+        other = self.sound(4040, hertz=700)
+        two = self.ringing(self.sipp(other, user="other").waits(100), other)
+        self.is_in(4040)
+        for at, (encoding, type_, line) in enumerate(
+            (("PCMA", 8, "PCMA/8000"), ("G722", 9, "G722/8000"), ("opus", 111, "opus/48000/2"))
+        ):
+            phone = self.sound(4041 + at, encoding=encoding)
+            lines = [f"a=rtpmap:{type_} {line}", "a=rtpmap:18 G729/8000"]
+            one = self.ringing(self.sipp(phone, types=f"{type_} 18", lines=lines).waits(25).asks("BYE").waits(1), phone)
+            good = f"RTP/AVP {type_}\n" in one.answer()
+            self.check(good, f"a phone with {encoding} is answered {encoding} alone", one.answer())
+            self.check(other.hears(1000, 20), f"it is heard: {encoding}", (other.level(1000), self.rows()))
+            self.check(phone.types() == {type_} and phone.count > 5, f"and {encoding} comes to it", phone.types())
+            phone.close()
+            one.close()
+            self.comes(lambda: self.members() == 1, "it is gone", self.rows, SILENCE + 10)
+        other.close()
+        two.close()
+        self.comes(lambda: not self.rows(), "all are gone", self.rows, SILENCE + 10)
+
+    def try_keys(self):
+        """`*6` mutes who calls, and a PIN opens a room."""
+        phone = self.sound(4050)
+        types = f"0 {KEY_TYPE}"
+        one = self.ringing(self.sipp(phone, types=types, lines=WITH_KEYS).waits(40).asks("BYE").waits(1), phone)
+        self.is_in(4050)
+        muted = lambda: "mute 4050" in self.rows()
+        self.check("telephone-event/8000" in one.answer(), "a phone's keys are taken", one.answer())
+        phone.press("*6")
+        self.comes(muted, "*6 mutes it, and the desk shows so", self.rows)
+        phone.press("*6")
+        self.comes(lambda: not muted(), "*6 unmutes it", self.rows)
+        self.do("mute 4050")
+        phone.press("*6")
+        time.sleep(1)
+        self.check(muted(), "*6 doesn't undo an operator's mute", self.rows())
+        self.do("unmute 4050")
+        phone.press("*6")
+        self.comes(muted, "*6 mutes it again", self.rows)
+        self.do("unmute 4050")
+        self.do("mute 4050")
+        phone.press("*6")
+        time.sleep(1)
+        self.check(muted(), "nor the one by which an operator has taken its place", self.rows())
+        phone.close()
+        one.close()
+        self.comes(lambda: not self.rows(), "it is gone", self.rows, SILENCE + 10)
+        self.try_pins(types)
+
+    def try_pins(self, types):
+        phone = self.sound(4051)
+        call = self.sipp(phone, LOCKED, types=types, lines=WITH_KEYS).waits(20).asks("BYE").waits(1)
+        one = self.ringing(call, phone)
+        time.sleep(2)
+        self.check(not self.rows(), "without its PIN a room isn't joined", self.rows())
+        phone.press("1111#")
+        time.sleep(1)
+        self.check(not self.rows(), "nor with a wrong one", self.rows())
+        phone.press(f"{PIN}#")
+        self.is_in(4051, "its PIN opens it")
+        self.ends(one, "it hangs up", 40)
+        two = self.ringing(
+            self.sipp(phone, LOCKED, "other", types=types, lines=WITH_KEYS).gets("BYE", 30).waits(1), phone
+        )
+        time.sleep(1)
+        for _ in range(3):
+            phone.press("1357#")
+        self.comes(lambda: two.counts("BYE "), "three wrong ones end a call by a BYE", two.said)
+        self.check(not self.rows(), "and nobody is in the room", self.rows())
+        phone.close()
+
+    def try_room_names(self):
+        """A room by its name, of a phone and of a page."""
+        phone = self.sound(4060)
+        one = self.ringing(self.sipp(phone, NAME).waits(6).asks("BYE").waits(1), phone)
+        self.is_in(4060)
+        self.check(f"room {NAMED}" in self.rows(), f"sip:{NAME} is room {NAMED}", self.rows())
+        status, told = self.parts.ask("offer", room=NAME.upper(), name="page")
+        if status != 200:
+            fail(f"a page can't join room {NAME}: {told}")
+        said = self.parts.ask("answer", id=told["id"], sdp=answer_of(ssrc=4061))
+        rooms = {row.split()[3] for row in self.rows() if row.startswith("member ")}
+        good = said[0] == 200 and rooms == {str(NAMED)}
+        self.check(good, "so it is for a page", (said, self.rows()))
+        self.parts.ask("leave", id=told["id"])
+        self.ends(one, "it hangs up")
+        phone.close()
+
+    def try_taken(self):
+        """Who can't have an address is told so, and nothing of an SSRC."""
+        self.do("add-room 98")
+        parts = [f"add-member {5000 + at} 98 127.0.0.1:{self.parts.low + at} pcmu {900 + at} 0 0" for at in range(100)]
+        for at in range(0, 100, MOST_PARTS // 2):
+            self.do("group " + " / ".join(parts[at : at + MOST_PARTS // 2]))
+        status, told = self.parts.ask("offer", room=1, name="late")
+        said = self.parts.ask("answer", id=told["id"], sdp=answer_of(ssrc=4070))
+        good = status == 200 and said[0] == 503 and "number or the address" in said[1] and "SSRC" not in said[1]
+        self.check(good, "an address that another member has is told apart from an SSRC", said)
+        self.do("remove-room 98")
