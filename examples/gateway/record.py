@@ -6,6 +6,7 @@
 It takes a seat at the desk, where all see its member. Operators remove that like any other.
 """
 
+import contextlib
 import signal
 import subprocess
 import sys
@@ -34,9 +35,12 @@ def main():
         print(f"recording room {one.room} as member {one.member}", flush=True)
         while writer.poll() is None and not signal.sigtimedwait(ends, 1):
             pass
-        one.leaves()
+        # It heeds the signal at the next packet, or 10 s after the last one, and then writes the end of its file.
         writer.send_signal(signal.SIGINT)
-        writer.wait(10)
+        with contextlib.suppress(subprocess.TimeoutExpired):
+            writer.wait(1)
+        one.leaves()
+        writer.wait(20)
 
 
 if __name__ == "__main__":
