@@ -39,6 +39,13 @@ impl<A: Allocator + Copy> ReversibleRows<A> {
     {
         &self.rows
     }
+
+    /// The rows, for those who know that their edits fit.
+    pub fn into_rows(self) -> Rows<A>
+        ensures { result ≡ self }
+    {
+        self.rows
+    }
 }
 
 impl<A: Allocator + Copy> Reversible for ReversibleRows<A> {

@@ -75,6 +75,13 @@ impl<S> Listed<S> {
     {
         &self.inner
     }
+
+    /// The state, for edits that are no lists.
+    pub fn into_inner(self) -> S
+        ensures { result ≡ self }
+    {
+        self.inner
+    }
 }
 
 impl<S: Reversible> Reversible for Listed<S> {
