@@ -17,3 +17,4 @@ pub mod Placing
 pub mod Taking
 pub mod Relocating
 pub mod Outcomes
+pub mod Forcing

@@ -10,6 +10,7 @@ pub data CallOf : Type 0 where
   Group : (commands : List Command) → CallOf
   Undo : (last : ℕ) → CallOf
   Redo : (last : ℕ) → CallOf
+  Revert : (number : ℕ) → CallOf
 
 -- what a call asks
 abbrev pub asked_by : {A : Type 0} → Call A → CallOf
@@ -17,3 +18,4 @@ asked_by (calls.Apply command) = Apply command
 asked_by (calls.Group commands) = Group commands.items
 asked_by (calls.Undo last) = Undo last
 asked_by (calls.Redo last) = Redo last
+asked_by (calls.Revert number) = Revert number

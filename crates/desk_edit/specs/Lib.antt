@@ -6,5 +6,8 @@ pub mod Reasons
 pub mod Refusals
 pub mod Groups
 pub mod Asked
+pub mod AsIf
+pub mod InForce
+pub mod Reverts
 pub mod Calls
 pub mod inner

@@ -7,9 +7,12 @@ use Rattle.desk_edit.specs.declared.refusal.Refusal.TheVariants.{Exists, NoRoom,
 use Rattle.desk_edit.specs.declared.refusal.Refusal.TheVariants.{OtherRoom, SsrcTaken, BadValue, Already, NotThere}
 use Rattle.desk_edit.specs.declared.refusal.Refusal.TheVariants.{Full, OutOfMemory, NewerCommand, NothingToUndo}
 use Rattle.desk_edit.specs.declared.refusal.Refusal.TheVariants.{NothingToRedo, LogFull, EmptyGroup, GroupTooLong}
-use Rattle.desk_edit.specs.declared.refusal.Refusal.TheVariants.{PartRefused, RateMismatch}
+use Rattle.desk_edit.specs.declared.refusal.Refusal.TheVariants.{PartRefused, RateMismatch, NotInForce, TooFar}
+use Rattle.desk_edit.specs.declared.refusal.Refusal.TheVariants.{Conflict, Elsewhere}
+use Rattle.desk_edit.specs.declared.refusal.Standing.{Standing}
+use Rattle.desk_edit.specs.declared.refusal.Standing.TheVariants as standings
 use Rattle.desk_edit.specs.declared.refusal.Carried.{Carried}
-use Rattle.desk_edit.specs.declared.refusal.Carried.TheVariants.{Nothing, Limit, Last, Most, Part}
+use Rattle.desk_edit.specs.declared.refusal.Carried.TheVariants.{Nothing, Limit, Last, Most, Part, InCall, Row}
 use Rattle.desk_edit.specs.declared.refusal.RefusalRow.{RefusalRow}
 
 -- the name of what is full
@@ -20,6 +23,13 @@ table_text Sources = codes "sources"
 table_text Slots = codes "slots"
 table_text Gains = codes "gains"
 table_text RoomAudio = codes "room-audio"
+
+-- the name of a kind of row that others hang on
+abbrev pub standing_text : Standing → List ℕ
+standing_text standings.Room = codes "room"
+standing_text standings.Member = codes "member"
+standing_text standings.Source = codes "source"
+standing_text standings.Slot = codes "slot"
 
 -- how a refusal is told: its number, its name, and what it carries
 pub record Told : Type 0 where
@@ -50,6 +60,10 @@ told_of EmptyGroup = record { number = 18; name = codes "EmptyGroup"; carries = 
 told_of (GroupTooLong limit) = record { number = 19; name = codes "GroupTooLong"; carries = Most limit }
 told_of (PartRefused part why) = record { number = 20; name = codes "PartRefused"; carries = Part part why }
 told_of RateMismatch = record { number = 21; name = codes "RateMismatch"; carries = Nothing }
+told_of NotInForce = record { number = 23; name = codes "NotInForce"; carries = Nothing }
+told_of (TooFar limit) = record { number = 24; name = codes "TooFar"; carries = Most limit }
+told_of (Conflict call part why) = record { number = 25; name = codes "Conflict"; carries = InCall call part why }
+told_of (Elsewhere kind number) = record { number = 26; name = codes "Elsewhere"; carries = Row kind number }
 
 -- what a row of the code tells
 abbrev pub told_in : RefusalRow → Told

@@ -139,14 +139,19 @@ pub enum Call<A: Allocator + Copy = Global> {
     Apply(Command),
     /// Carries out 1 to 64 commands as one call: all of them or none.
     Group(Vec<Command, A>),
-    /// Takes the last command or group back.
+    /// Takes the last command, group or revert back.
     Undo {
         /// The number of the last accepted call of any kind. Another number is refused.
         last: u64,
     },
-    /// Carries out the command or group again that was undone last.
+    /// Does the entry again that was undone last.
     Redo {
         /// The number of the last accepted call of any kind. Another number is refused.
         last: u64,
+    },
+    /// Takes one call back alone: the desk is then as if it had never been made.
+    Revert {
+        /// The number of the call: a command, a group or a revert that is in force.
+        number: u64,
     },
 }

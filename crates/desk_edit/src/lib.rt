@@ -31,4 +31,4 @@ pub use self::command::{Call, Command, Form};
 pub use self::grouping::{MAX_GROUP, plan_group, size_refused};
 pub use self::laws::{dependent_rows_go, good_desks_stay_good};
 pub use self::planning::plan;
-pub use self::refusal::{Carried, GroupRefusal, Reason, Refusal, RefusalRow, Table};
+pub use self::refusal::{Carried, GroupRefusal, Reason, Refusal, RefusalRow, Standing, Table};

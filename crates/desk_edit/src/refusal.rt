@@ -2,7 +2,7 @@
 
 ghost use Rattle.std.specs.Prelude.{◌≡◌};
 ghost use Rattle.desk_edit.specs.Reasons.{refusal_for, refusal_of_group};
-ghost use Rattle.desk_edit.specs.Told.{table_text, told_in, told_of};
+ghost use Rattle.desk_edit.specs.Told.{table_text, standing_text, told_in, told_of};
 
 use crate::grouping::MAX_GROUP;
 use thiserror::Error;
@@ -17,6 +17,15 @@ pub enum Table {
     Gains,
     /// The audio sources of one room.
     RoomAudio,
+}
+
+/// A kind of row that others hang on: who is in the call, and where.
+#[derive(Clone, Copy, Debug, PartialEq, Eq)]
+pub enum Standing {
+    Room,
+    Member,
+    Source,
+    Slot,
 }
 
 /// A reason against a command. The first that holds is reported.
@@ -127,6 +136,19 @@ pub enum Refusal {
     PartRefused { part: u32, why: Reason },
     #[error("the room is at another clock rate")]
     RateMismatch,
+    /// A revert names no call that is in force: none of this number was accepted, it is an undo or a redo, or it was
+    /// undone or taken back.
+    #[error("no call of this number is in force")]
+    NotInForce,
+    /// A revert would go past more commands and reverts than it may.
+    #[error("more than {limit} commands lie behind it")]
+    TooFar { limit: u32 },
+    /// A command of a later call is refused without the call that a revert takes back. Commands count from 0.
+    #[error("command {part} of call {call} stands in the way")]
+    Conflict { call: u64, part: u32, why: Reason },
+    /// A revert would bring or take a row that neither the call nor any other out of force brought or took.
+    #[error("row {number} would come or go with it")]
+    Elsewhere { kind: Standing, number: u32 },
 }
 
 /// Why a group is refused.
@@ -172,17 +194,35 @@ pub enum Carried {
     Most(u32),
     /// The command of the group, from 0 on, and the reason against it.
     Part(u32, Reason),
+    /// The call, its command from 0 on, and the reason against that.
+    InCall(u64, u32, Reason),
+    /// The kind of a row, and its number.
+    Row(Standing, u32),
 }
 
 /// A refusal as its texts have it.
 #[derive(Clone, Copy)]
 pub struct RefusalRow {
-    /// The number, 1 to 21.
+    /// The number, 1 to 26.
     pub number: u16,
     /// The name.
     pub name: &'static [u8],
     /// The values behind the name.
     pub carried: Carried,
+}
+
+impl Standing {
+    /// The name of the kind in texts.
+    pub fn text(self) -> &'static [u8]
+        ensures { result.now ≡ standing_text self }
+    {
+        match self {
+            Standing::Room => b"room",
+            Standing::Member => b"member",
+            Standing::Source => b"source",
+            Standing::Slot => b"slot",
+        }
+    }
 }
 
 impl Table {
@@ -246,6 +286,14 @@ impl Refusal {
             Refusal::GroupTooLong { limit } => row(19, b"GroupTooLong", Carried::Most(limit)),
             Refusal::PartRefused { part, why } => row(20, b"PartRefused", Carried::Part(part, why)),
             Refusal::RateMismatch => bare(21, b"RateMismatch"),
+            Refusal::NotInForce => bare(23, b"NotInForce"),
+            Refusal::TooFar { limit } => row(24, b"TooFar", Carried::Most(limit)),
+            Refusal::Conflict { call, part, why } => {
+                row(25, b"Conflict", Carried::InCall(call, part, why))
+            }
+            Refusal::Elsewhere { kind, number } => {
+                row(26, b"Elsewhere", Carried::Row(kind, number))
+            }
         }
     }
 }
