@@ -1,0 +1,11 @@
+pub mod Words
+pub mod Spans
+pub mod Exchanging
+pub mod Merging
+pub mod Same
+pub mod Idle
+pub mod Following
+pub mod Presence
+pub mod Telling
+pub mod Numbered
+pub mod Goodness

@@ -1,0 +1,4 @@
+pub mod Follows
+pub mod Spans
+pub mod Moving
+pub mod Sound
