@@ -2,6 +2,7 @@
 use Rattle.std.proofs.Common.{◌≡◌, ℕ, List, [], ◌∷◌, ◌++◌, refl, sym, ap, ◌∙◌}
 use Rattle.desk_edit.specs.Asked.CallOf.{Undo, Redo}
 use Rattle.desk_edit.specs.Calls.{front, final}
+use Rattle.call_history.specs.AcceptedCall.{AcceptedOf}
 use Rattle.call_history.specs.Lists.{ListsOf, with_call}
 
 front_push : {X : Type 0} (xs : List X) (x : X) → front (xs ++ x ∷ []) ≡ xs
@@ -15,14 +16,14 @@ final_push (y ∷ []) x = refl
 final_push (y ∷ z ∷ xs) x = final_push (z ∷ xs) x
 
 -- both lists
-abbrev of_both : {X : Type 0} → List X → List X → ListsOf X
+abbrev of_both : List AcceptedOf → List AcceptedOf → ListsOf
 of_both done undone = record { done = done; undone = undone }
 
-both : {X : Type 0} (a b c d : List X) → a ≡ b → c ≡ d → of_both a c ≡ of_both b d
+both : (a b c d : List AcceptedOf) → a ≡ b → c ≡ d → of_both a c ≡ of_both b d
 both a b c d e f = cc
 
 -- what an undo leaves
-pub undone_one : {X : Type 0} (l : ListsOf X) (less more : List X) (x made : X) (last : ℕ)
+pub undone_one : (l : ListsOf) (less more : List AcceptedOf) (x made : AcceptedOf) (last : ℕ)
     → l.done ≡ less ++ x ∷ [] → more ≡ l.undone ++ x ∷ []
     → record { done = less; undone = more } ≡ with_call l (Undo last) made
 undone_one l less more x made last popped pushed =
@@ -32,7 +33,7 @@ undone_one l less more x made last popped pushed =
     both less (front l.done) more (l.undone ++ final l.done) rest all
 
 -- what a redo leaves
-pub redone_one : {X : Type 0} (l : ListsOf X) (less more : List X) (x made : X) (last : ℕ)
+pub redone_one : (l : ListsOf) (less more : List AcceptedOf) (x made : AcceptedOf) (last : ℕ)
     → l.undone ≡ less ++ x ∷ [] → more ≡ l.done ++ x ∷ []
     → record { done = more; undone = less } ≡ with_call l (Redo last) made
 redone_one l less more x made last popped pushed =

@@ -1,2 +1,3 @@
 pub mod DeskLists
 pub mod Ends
+pub mod Newest

@@ -17,5 +17,6 @@ AreAccepted h (call ∷ calls) = (refusal_of h call ≡ None) × AreAccepted (af
 abbrev pub AcceptsInTurn : DeskOf → List Call → DeskOf → Type 0
 AcceptsInTurn first [] last = last ≡ first
 AcceptsInTurn first (call ∷ calls) last =
-    (next : DeskOf) × (call_refused first call ≡ None) × Does first next call × (next.version ≡ first.version + 1)
+    (next : DeskOf) × (call_refused first call ≡ None) × Does first next call
+    × (next.version ≡ first.version + 1) × (next.history ≡ after_call first.history call)
     × AcceptsInTurn next calls last

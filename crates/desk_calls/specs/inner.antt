@@ -1,2 +1,4 @@
 pub mod Sound
 pub mod Memory
+pub mod Kept
+pub mod Touching

@@ -14,13 +14,22 @@
 //! `carries_out_the_first_call` of worked_bridge makes these calls, with the desk afterwards proved.
 #![tactic(auto)]
 
+mod carrying;
 mod desk;
+mod entries;
+mod entry;
 mod judging;
 mod laws;
 mod prepared;
 mod reply;
+mod reverting;
+mod striking;
+mod touching;
+mod walking;
 
 pub use self::desk::Desk;
+pub use self::entry::DeskEntry;
 pub use self::laws::{accepted_calls_are_legal, edits_lead_back};
 pub use self::prepared::Prepared;
 pub use self::reply::Reply;
+pub use self::walking::MAX_REVERTED;

@@ -1,18 +1,26 @@
-use Rattle.std.proofs.Common.{ap, ◌∙◌, length, arith}
-use Rattle.std.proofs.lemmas.List.{length_push}
-use Rattle.desk_rows.specs.Desk.{good}
-use Rattle.desk_calls.specs.Edits.{inverse}
+use Rattle.std.specs.Prelude.{◌+◌, ◌<◌}
+use Rattle.std.proofs.Common.{◌≡◌, refl, sym, subst}
+use Rattle.desk_edit.specs.Calls.{call_limit, with_undo}
 use Rattle.desk_calls.specs.Desk.{DeskOf}
-use Rattle.desk_calls.specs.laws.EditLaws.{still_good}
+use Rattle.desk_calls.specs.inner.Sound.{desk_seen}
 use Rattle.desk_calls.proofs.Planned.{of_ok}
+use Rattle.desk_calls.proofs.Sounding.{sound_undone}
 use Rattle.desk_calls.proofs.desk.Desk.undo.Goals as goal
 
 pub invariant_of-self : goal.invariant_of-self
 invariant_of-self g c =
     let was = c.self.inside in
+    let old : DeskOf = desk_seen was.version was.history was.entries in
+    let new : DeskOf = desk_seen (was.version + 1) c.undo.new.self c.undo-2.new.self in
     let does = of_ok _ c.undo.result c.if-is_err.ensures.value c.undo.ensures.ok in
+    let is : old ≡ c.args.self.now = c.self.view_is in
+    let turns : new.history ≡ with_undo old.history =
+    λ i.
     record {
-      good = ap good does.3 ∙ still_good was.history.state (inverse does.0) c.self.invariant.good;
-      fewer = omega (arith, ap length does.1 ∙ length_push c.undo.new.self.done does.0, c.self.invariant.fewer);
-      limit = omega (arith, c.requires.some.1, ap (λ (d : DeskOf). d.version) c.self.view_is);
-    }
+      start = c.undo.ensures.start i;
+      done = c.undo-2.ensures.done i;
+      undone = c.undo-2.ensures.undone i;
+      accepted = was.version + 1;
+    } in
+    sound_undone old new c.self.invariant (subst (λ (d : DeskOf). d.version < call_limit) (sym is) c.requires.some.1)
+    refl turns (does.0, does.1, does.2, does.4, does.3)
