@@ -10,10 +10,10 @@ use Rattle.desk_rows.specs.Desk.{Desk}
 use Rattle.desk_rows.specs.Edit.{EditOf}
 use Rattle.desk_calls.specs.Edits.{fits, after, inverse}
 use Rattle.desk_calls.specs.laws.EditLaws.{undoes, rewound_one_more}
-use Rattle.desk_calls.specs.Desk.{Does, DoesEdit, UndoesEdit, RedoesEdit}
+use Rattle.desk_calls.specs.Desk.{history_of, Does, DoesEdit, UndoesEdit, RedoesEdit}
 use Rattle.desk_edit.specs.Asked.{CallOf as Call}
-use Rattle.desk_edit.specs.Asked.CallOf.{Apply, Group, Undo, Redo}
-use Rattle.desk_edit.specs.Calls.{call_limit, refusal_at}
+use Rattle.desk_edit.specs.Asked.CallOf.{Apply, Group, Undo, Redo, Revert}
+use Rattle.desk_edit.specs.Calls.{CallHistory, call_limit, refusal_at}
 use Rattle.desk_calls.specs.declared.reply.Reply.{Reply}
 use Rattle.desk_calls.specs.declared.reply.Reply.TheVariants.{Accepted, Refused}
 use Rattle.bridge_core.specs.Steps.{CoreOf, core_desk}
@@ -23,13 +23,13 @@ use Rattle.bridge_core.specs.UndoRuns.{redos, all_accepted}
 
 -- ---- one call
 
-free_undo : (version done undone : ℕ) (d : Desk) → 0 < done → version < call_limit
-    → refusal_at version d done undone (Undo version) ≡ None
-free_undo version done undone d some free = grind arith
+free_undo : (h : CallHistory) (done undone : ℕ) (d : Desk) → 0 < done → h.accepted < call_limit
+    → refusal_at h d done undone (Undo h.accepted) ≡ None
+free_undo h done undone d some free = grind arith
 
-free_redo : (version done undone : ℕ) (d : Desk) → 0 < undone → version < call_limit
-    → refusal_at version d done undone (Redo version) ≡ None
-free_redo version done undone d some free = grind arith
+free_redo : (h : CallHistory) (done undone : ℕ) (d : Desk) → 0 < undone → h.accepted < call_limit
+    → refusal_at h d done undone (Redo h.accepted) ≡ None
+free_redo h done undone d some free = grind arith
 
 undo_accepted : (old new : CoreOf) (reply : Reply) → Answers old new (Undo old.version) reply → 0 < length old.done
     → old.version < call_limit
@@ -38,7 +38,7 @@ undo_accepted : (old new : CoreOf) (reply : Reply) → Answers old new (Undo old
 undo_accepted old new (Accepted number) by some free = (ap Accepted by.0, by.1 ∙ by.0, by.4)
 undo_accepted old new (Refused at why) by some free =
     let no : None ≡ Some why =
-    sym (free_undo old.version (length old.done) (length old.undone) old.desk some free) ∙ by.2 in
+    sym (free_undo (history_of (core_desk old)) (length old.done) (length old.undone) old.desk some free) ∙ by.2 in
     absurd cc
 
 redo_accepted : (old new : CoreOf) (reply : Reply) → Answers old new (Redo old.version) reply → 0 < length old.undone
@@ -48,7 +48,7 @@ redo_accepted : (old new : CoreOf) (reply : Reply) → Answers old new (Redo old
 redo_accepted old new (Accepted number) by some free = (ap Accepted by.0, by.1 ∙ by.0, by.4)
 redo_accepted old new (Refused at why) by some free =
     let no : None ≡ Some why =
-    sym (free_redo old.version (length old.done) (length old.undone) old.desk some free) ∙ by.2 in
+    sym (free_redo (history_of (core_desk old)) (length old.done) (length old.undone) old.desk some free) ∙ by.2 in
     absurd cc
 
 -- ---- lists with the same end
@@ -162,6 +162,7 @@ does_edit old new (Apply command) has does = does.1
 does_edit old new (Group commands) has does = does.1
 does_edit old new (Undo last) has does = absurd has
 does_edit old new (Redo last) has does = absurd has
+does_edit old new (Revert number) has does = does.1
 
 commands_done : (first last : CoreOf) (cs : List Call) → AcceptsAll first cs last
     → (es : List (List EditOf)) × HasDone first last (length cs) es

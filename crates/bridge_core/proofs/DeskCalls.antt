@@ -1,7 +1,7 @@
 -- What a call does to a core follows from what its two halves do to the core's desk.
 use Rattle.std.proofs.Common.{◌≡◌, ℕ, ◌+◌, List, None, refl, ap, subst, ◌∙◌}
 use Rattle.desk_edit.specs.Asked.{CallOf as Call}
-use Rattle.desk_edit.specs.Asked.CallOf.{Apply, Group, Undo, Redo}
+use Rattle.desk_edit.specs.Asked.CallOf.{Apply, Group, Undo, Redo, Revert}
 use Rattle.desk_edit.specs.declared.refusal.Refusal.{Refusal}
 use Rattle.desk_edit.specs.Calls.{CallHistory, refusal_of, after_call}
 use Rattle.desk_calls.specs.Desk.{DeskOf, call_refused, Does, IsReason, IsReady}
@@ -17,7 +17,15 @@ use Rattle.bridge_core.specs.Following.{HasCalled, IsAnswered}
 -- a core with this desk
 abbrev pub core_with : DeskOf → List LaneOf → IngressOf → CoreOf
 core_with d lanes ingress =
-    record { version = d.version; desk = d.desk; done = d.done; undone = d.undone; lanes = lanes; ingress = ingress }
+    record {
+      version = d.version;
+      history = d.history;
+      desk = d.desk;
+      done = d.done;
+      undone = d.undone;
+      lanes = lanes;
+      ingress = ingress;
+    }
 
 -- ---- how much memory a desk has makes no difference
 
@@ -27,6 +35,7 @@ does_same old new (Apply command) does = does
 does_same old new (Group commands) does = does
 does_same old new (Undo last) does = does
 does_same old new (Redo last) does = does
+does_same old new (Revert number) does = does
 
 reason_same : (d : DeskOf) (call : Call) (why : Refusal) → IsReason d call why
     → IsReason (record d { spare = 0 }) call why
@@ -34,31 +43,45 @@ reason_same d (Apply command) why reason = reason
 reason_same d (Group commands) why reason = reason
 reason_same d (Undo last) why reason = reason
 reason_same d (Redo last) why reason = reason
+reason_same d (Revert number) why reason = reason
 
 called_core : (d : DeskOf) (lanes : List LaneOf) (ingress : IngressOf) (h : CallHistory) → DeskHasCalled d h
     → HasCalled (core_with d lanes ingress) h
 called_core d lanes ingress h called =
-    record { version = called.version; desk = called.desk; follows = called.follows; ahead = called.ahead }
+    record {
+      version = called.version;
+      history = called.history;
+      desk = called.desk;
+      follows = called.follows;
+      ahead = called.ahead;
+    }
 
 called_desk : (d : DeskOf) (lanes : List LaneOf) (ingress : IngressOf) (h : CallHistory)
     → HasCalled (core_with d lanes ingress) h → DeskHasCalled d h
 called_desk d lanes ingress h called =
-    record { version = called.version; desk = called.desk; follows = called.follows; ahead = called.ahead }
+    record {
+      version = called.version;
+      history = called.history;
+      desk = called.desk;
+      follows = called.follows;
+      ahead = called.ahead;
+    }
 
 -- ---- an accepted call
 
 pub accepted_answer : {A : Type 0} (was ready is : DeskOf) (lanes : List LaneOf) (ingress : IngressOf) (call : Call)
     (prepared : Prepared A) (number : ℕ)
     → ready ≡ record was { spare = ready.spare } → IsReady ready call prepared → Does ready is call
-    → (number ≡ ready.version + 1) × (is.version ≡ number)
+    → (number ≡ ready.version + 1) × (is.version ≡ number) → is.history ≡ after_call ready.history call
     → Answers (core_with was lanes ingress) (core_with is lanes ingress) call (Accepted number)
-accepted_answer was ready is lanes ingress call prepared number same free does version = (
+accepted_answer was ready is lanes ingress call prepared number same free does version turns = (
   version.0 ∙ ap (λ (d : DeskOf). d.version + 1) same,
   version.1,
   refl,
   subst (λ (d : DeskOf). call_refused d call ≡ None) same free.0,
   subst (λ (d : DeskOf). Does (record d { spare = 0 }) (record is { spare = 0 }) call) same
       (does_same ready is call does),
+  turns ∙ ap (λ (d : DeskOf). after_call d.history call) same,
 )
 
 pub accepted_history : (was ready is : DeskOf) (lanes : List LaneOf) (ingress : IngressOf) (call : Call) (number : ℕ)

@@ -15,21 +15,22 @@ use Rattle.bridge_core.specs.Headline.{AreGood}
 use Rattle.bridge_core.specs.Events.{Event, Listens, Plays, steps_of, calls_among}
 
 -- an item leaves the calls
-called_still : (old new : CoreOf) (h : CallHistory) → new.version ≡ old.version → new.desk ≡ old.desk
-    → new.done ≡ old.done → new.undone ≡ old.undone → HasCalled old h → HasCalled new h
-called_still old new h version desk done undone called = record {
+called_still : (old new : CoreOf) (h : CallHistory) → new.version ≡ old.version → new.history ≡ old.history
+    → new.desk ≡ old.desk → new.done ≡ old.done → new.undone ≡ old.undone → HasCalled old h → HasCalled new h
+called_still old new h version history desk done undone called = record {
   version = version ∙ called.version;
+  history = history ∙ called.history;
   desk = desk ∙ called.desk;
-  follows = subst (Follows h.start h.done) (sym done) called.follows;
+  follows = subst (Follows h.start [] h.done) (sym done) called.follows;
   ahead =
-      subst (λ (es : List (List EditOf)). Follows (desk_now h) (reverse h.undone) (reverse es)) (sym undone)
+      subst (λ (es : List (List EditOf)). Follows h.start h.done (reverse h.undone) (reverse es)) (sym undone)
       called.ahead;
 }
 
 -- what the receive side does leaves the calls
 still_called : (old new : CoreOf) (h : CallHistory) → Listens old new → HasCalled old h → HasCalled new h
 still_called old new h listens called =
-    called_still old new h listens.version listens.desk listens.done listens.undone called
+    called_still old new h listens.version listens.history listens.desk listens.done listens.undone called
 
 -- and the steps
 still_taken : (old new : CoreOf) (start : Desk) (steps : List Step) → Listens old new → HasTaken old start steps
@@ -87,7 +88,7 @@ played start before h (Event.item lane input ∷ events) sent first last taken c
     let step = sends.takes start before (still_taken first ready start before listens taken) in
     let rest =
     played start (before ++ Step.item lane input ∷ []) h events later next last step.1
-    (called_still ready next h sends.version sends.desk sends.done sends.undone
+    (called_still ready next h sends.version sends.history sends.desk sends.done sends.undone
     (still_called first ready h listens called))
     plays in (
       is ∙ ap (λ (es : List (List Sent)). es ++ later) step.0
@@ -118,7 +119,7 @@ calls_legal first last h (Event.called call ∷ events) sent called (ready, next
 calls_legal first last h (Event.item lane input ∷ events) sent called
     (ready, next, now, later, is, listens, sends, plays) =
     calls_legal next last h events later
-    (called_still ready next h sends.version sends.desk sends.done sends.undone
+    (called_still ready next h sends.version sends.history sends.desk sends.done sends.undone
     (still_called first ready h listens called))
     plays
 

@@ -1,6 +1,7 @@
 -- How the core answers calls of the desk (own).
 use Rattle.std.specs.Prelude.{◌≡◌, ℕ, ◌+◌, not, ◌||◌, nat_lt, nat_eq, if◌then◌else◌, List, Option, None, Some}
 use Rattle.desk_edit.specs.Asked.{CallOf as Call}
+use Rattle.desk_edit.specs.Calls.{after_call}
 use Rattle.desk_calls.specs.Desk.{call_refused, Does, IsReason}
 use Rattle.ingress.specs.Names.{is_name}
 use Rattle.bridge_core.specs.declared.fault.CoreFault.{CoreFault}
@@ -24,6 +25,7 @@ abbrev pub Answers : CoreOf → CoreOf → Call → Reply → Type 0
 Answers old new call (Accepted number) =
     (number ≡ old.version + 1) × (new.version ≡ number) × (new.lanes ≡ old.lanes)
     × (call_refused (core_desk old) call ≡ None) × Does (core_desk old) (core_desk new) call
+    × (new.history ≡ after_call old.history call)
 Answers old new call (Refused at why) = (at ≡ old.version) × (new ≡ old) × IsReason (core_desk old) call why
 
 -- the fact holds where the call was accepted

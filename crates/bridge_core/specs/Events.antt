@@ -42,6 +42,7 @@ pub record Accepts (old new : CoreOf) (call : Call) : Type 0 where
 pub record Sends (old new : CoreOf) (lane : ℕ) (input : Input) (sent : List Sent) : Type 0 where
   pub takes : Takes old new (Step.item lane input) (sent ∷ [])
   pub version : new.version ≡ old.version
+  pub history : new.history ≡ old.history
   pub desk : new.desk ≡ old.desk
   pub done : new.done ≡ old.done
   pub undone : new.undone ≡ old.undone
@@ -51,6 +52,7 @@ pub record Sends (old new : CoreOf) (lane : ℕ) (input : Input) (sent : List Se
 -- At most the receive side changed: datagrams were taken in, or receiver reports were asked for.
 pub record Listens (old new : CoreOf) : Type 0 where
   pub version : new.version ≡ old.version
+  pub history : new.history ≡ old.history
   pub desk : new.desk ≡ old.desk
   pub done : new.done ≡ old.done
   pub undone : new.undone ≡ old.undone

@@ -3,6 +3,7 @@ use Rattle.std.specs.Prelude.{◌≡◌, ℕ, ◌+◌, ◌-◌, ◌^◌, nat_eq,
 use Rattle.std.specs.Prelude.{List, [], ◌∷◌, ◌++◌, length, Some, slice_get}
 use Rattle.desk_rows.specs.Edit.{EditOf}
 use Rattle.desk_rows.specs.Desk.{Desk}
+use Rattle.desk_edit.specs.Calls.{CallHistory}
 use Rattle.desk_calls.specs.Desk.{DeskOf}
 use Rattle.sender_feedback.specs.Upstream.{Asker}
 use Rattle.media_items.specs.Inputs.{Input}
@@ -66,10 +67,11 @@ sent_at who lanes start before (Step.item lane input) =
 abbrev pub sends : Asker → ℕ → Desk → List Step → List (List Sent)
 sends who lanes start steps = along (sent_at who lanes start) [] steps
 
--- the core: how many calls were accepted, the desk with the edits done and those undone, the lanes, and the receive
--- side
+-- the core: how many calls were accepted, their history, the desk with the edits done and those undone, the lanes, and
+-- the receive side
 pub record CoreOf : Type 0 where
   pub version : ℕ
+  pub history : CallHistory
   pub desk : Desk
   pub done : List (List EditOf)
   pub undone : List (List EditOf)
@@ -78,7 +80,14 @@ pub record CoreOf : Type 0 where
 
 -- the desk of a core, with its calls; how much memory it has is not told
 abbrev pub core_desk : CoreOf → DeskOf
-core_desk core = record { version = core.version; desk = core.desk; done = core.done; undone = core.undone; spare = 0 }
+core_desk core = record {
+  version = core.version;
+  history = core.history;
+  desk = core.desk;
+  done = core.done;
+  undone = core.undone;
+  spare = 0;
+}
 
 -- The core has taken these steps, from this desk on.
 pub record HasTaken (core : CoreOf) (start : Desk) (steps : List Step) : Type 0 where

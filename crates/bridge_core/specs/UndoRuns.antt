@@ -1,7 +1,7 @@
 -- Calls in a row: commands, as many undos, and as many redos (own).
 use Rattle.std.specs.Prelude.{◌≡◌, ℕ, zero, suc, ◌+◌, ◌≤◌, List, [], ◌∷◌}
 use Rattle.desk_edit.specs.Asked.{CallOf as Call}
-use Rattle.desk_edit.specs.Asked.CallOf.{Apply, Group, Undo, Redo}
+use Rattle.desk_edit.specs.Asked.CallOf.{Apply, Group, Undo, Redo, Revert}
 use Rattle.desk_calls.specs.declared.reply.Reply.{Reply}
 use Rattle.desk_calls.specs.declared.reply.Reply.TheVariants.{Accepted}
 use Rattle.desk_edit.specs.Calls.{call_limit}
@@ -15,12 +15,13 @@ AnswersAll first (call ∷ calls) replies last =
     (next : CoreOf) × (reply : Reply) × (later : List Reply) ×
     (replies ≡ reply ∷ later) × Answers first next call reply × AnswersAll next calls later last
 
--- a call that asks for a command or a group of commands
+-- a call that is done and can be undone: a command, a group of commands, or a revert
 abbrev pub HasCommands : Call → Type 0
 HasCommands (Apply command) = Unit {0}
 HasCommands (Group commands) = Unit {0}
 HasCommands (Undo last) = ⊥
 HasCommands (Redo last) = ⊥
+HasCommands (Revert number) = Unit {0}
 
 -- from the first core to the last, each accepts one of the calls, which all ask for commands
 abbrev pub AcceptsAll : CoreOf → List Call → CoreOf → Type 0

@@ -51,6 +51,7 @@ impl<A: Allocator + Copy> Model for Core<A> {
 
     ghost view = { λ c. record {
       version = c.desk.version;
+      history = c.desk.history;
       desk = c.desk.desk;
       done = c.desk.done;
       undone = c.desk.undone;
@@ -157,7 +158,8 @@ impl<A: Allocator + Copy> Core<A> {
         ensures err { OnErr result (self.new ≡ self.old) }
         ensures lanes { length self.new.lanes ≡ length self.old.lanes }
         ensures desk { (self.new.version ≡ self.old.version) × (self.new.desk ≡ self.old.desk) }
-        ensures history { (self.new.done ≡ self.old.done) × (self.new.undone ≡ self.old.undone) }
+        ensures history { (self.new.done ≡ self.old.done) × (self.new.undone ≡ self.old.undone)
+            × (self.new.history ≡ self.old.history) }
         ensures ingress { self.new.ingress ≡ self.old.ingress }
     {
         let rows = self.desk.rows();
@@ -180,7 +182,7 @@ impl<A: Allocator + Copy> Core<A> {
             (λ r. record { desk = self.old.desk; from = from.now; moment = moment; reading = r })) }
         ensures others { (self.new.version ≡ self.old.version) × (self.new.desk ≡ self.old.desk)
             × (self.new.done ≡ self.old.done) × (self.new.undone ≡ self.old.undone)
-            × (self.new.lanes ≡ self.old.lanes) }
+            × (self.new.lanes ≡ self.old.lanes) × (self.new.history ≡ self.old.history) }
         ensures asker { self.new.ingress.asker ≡ self.old.ingress.asker }
         ensures err { OnErr result (self.new ≡ self.old) }
     {
@@ -204,7 +206,7 @@ impl<A: Allocator + Copy> Core<A> {
             self.old.desk (record { address = from.now; ssrc = ssrc }) moment) }
         ensures others { (self.new.version ≡ self.old.version) × (self.new.desk ≡ self.old.desk)
             × (self.new.done ≡ self.old.done) × (self.new.undone ≡ self.old.undone)
-            × (self.new.lanes ≡ self.old.lanes) }
+            × (self.new.lanes ≡ self.old.lanes) × (self.new.history ≡ self.old.history) }
         ensures asker { self.new.ingress.asker ≡ self.old.ingress.asker }
         ensures err { OnErr result (self.new ≡ self.old) }
     {
@@ -225,7 +227,7 @@ impl<A: Allocator + Copy> Core<A> {
             (λ up. TellsSenders self.old.ingress self.new.ingress (map datagram_of up.items) self.old.desk moment) }
         ensures others { (self.new.version ≡ self.old.version) × (self.new.desk ≡ self.old.desk)
             × (self.new.done ≡ self.old.done) × (self.new.undone ≡ self.old.undone)
-            × (self.new.lanes ≡ self.old.lanes) }
+            × (self.new.lanes ≡ self.old.lanes) × (self.new.history ≡ self.old.history) }
         ensures asker { self.new.ingress.asker ≡ self.old.ingress.asker }
         ensures err { OnErr result (self.new ≡ self.old) }
     {

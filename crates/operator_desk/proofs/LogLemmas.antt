@@ -10,7 +10,7 @@ use Rattle.logbook.specs.Pages.{Book}
 use Rattle.desk_rows.specs.Desk.{Desk}
 use Rattle.desk_rows.specs.Edit.{EditOf}
 use Rattle.desk_edit.specs.Asked.{CallOf}
-use Rattle.desk_edit.specs.Asked.CallOf.{Apply, Group, Undo, Redo}
+use Rattle.desk_edit.specs.Asked.CallOf.{Apply, Group, Undo, Redo, Revert}
 use Rattle.desk_edit.specs.Calls.{CallHistory, no_calls, after_call, desk_now, refusal_of}
 use Rattle.desk_calls.specs.Accepted.{after_calls, AreAccepted}
 use Rattle.desk_calls.specs.Edits.{after}
@@ -47,6 +47,7 @@ accepted_one h (Apply command) = refl
 accepted_one h (Group commands) = refl
 accepted_one h (Undo last) = refl
 accepted_one h (Redo last) = refl
+accepted_one h (Revert number) = refl
 
 accepted_all : (h : CallHistory) (calls : List CallOf) → (after_calls h calls).accepted ≡ h.accepted + length calls
 accepted_all h [] = omega arith

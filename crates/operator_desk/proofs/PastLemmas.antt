@@ -32,10 +32,10 @@ lists-push log e m is =
     let next = made (1 + length log) e in
     let place : length log + 1 ≡ 1 + length log = omega arith in
     let same : m ≡ next = is ∙ ap (λ (n : ℕ). made n e) place in
-    let step = λ (l : ListsOf AcceptedOf) (x : AcceptedOf). with_call l x.call x in
+    let step = λ (l : ListsOf) (x : AcceptedOf). with_call l x.call x in
     ap (λ (x : AcceptedOf). with_call (lists_in log) e.call x) same
     ∙ (sym (fold_push step no_lists (made_of log) next)
-    ∙ ap (lists_of (λ (x : AcceptedOf). x.call)) (sym (made-append 1 log (e ∷ []))))
+    ∙ ap lists_of (sym (made-append 1 log (e ∷ []))))
 
 pub length-made : (first : ℕ) (log : List EntryOf) → length (made_from first log) ≡ length log
 length-made first [] = omega arith

@@ -2,7 +2,7 @@
 use Rattle.std.specs.Prelude.{◌≡◌, ℕ, ◌+◌, List, [], ◌∷◌}
 use Rattle.desk_rows.specs.Desk.{Desk}
 use Rattle.call_history.specs.AcceptedCall.{AcceptedOf}
-use Rattle.call_history.specs.Lists.{ListsOf, lists_of, last_few}
+use Rattle.call_history.specs.Lists.{ListsOf, lists_of, in_force, last_few}
 use Rattle.operator_desk.specs.Entry.{EntryOf}
 use Rattle.operator_desk.specs.LegalLogs.{IsLegal}
 
@@ -15,9 +15,9 @@ made_from first (e ∷ es) = record { number = first; op = e.op; call = e.call }
 abbrev pub made_of : List EntryOf → List AcceptedOf
 made_of log = made_from 1 log
 
--- those of them that are in force, and those that can be redone
-abbrev pub lists_in : List EntryOf → ListsOf AcceptedOf
-lists_in log = lists_of (λ (m : AcceptedOf). m.call) (made_of log)
+-- those of them that are done, and those that can be redone
+abbrev pub lists_in : List EntryOf → ListsOf
+lists_in log = lists_of (made_of log)
 
 -- a log, and calls of it: those that are in force, and those that can be redone
 pub record PastOf : Type 0 where
@@ -28,5 +28,5 @@ pub record PastOf : Type 0 where
 -- the log is legal, and the calls are its last ones: at most so many of each
 pub record IsPast (start : Desk) (most : ℕ) (p : PastOf) : Type 0 where
   pub legal : IsLegal start p.log
-  pub done : p.done ≡ last_few most (lists_in p.log).done
+  pub done : p.done ≡ last_few most (in_force (lists_in p.log).done)
   pub undone : p.undone ≡ last_few most (lists_in p.log).undone

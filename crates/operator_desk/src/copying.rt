@@ -37,8 +37,8 @@ impl<'a, H: DeskBrand> DeskInner<'a, H> {
         ensures log { IfOk result (λ past. past.log ≡ self.now.log) }
         ensures past { IfOk result (λ past. IsPast H.start most past) }
     {
-        let done = self.lists.done(most);
+        let done = self.lists.in_force(alloc, most)?;
         let undone = self.lists.undone(most);
-        Past::new(alloc, self.log, &self.entries, done, undone)
+        Past::new(alloc, self.log, &self.entries, &done, undone)
     }
 }

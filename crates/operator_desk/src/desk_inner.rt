@@ -22,7 +22,7 @@ use crate::fault::CallFault;
 use crate::log::Log;
 use crate::seat::Seat;
 use crate::tokens::{agree, catch_up, none_of};
-use call_history::{AcceptedCall, CallLists};
+use call_history::CallLists;
 use desk_calls::{Desk, Prepared};
 use desk_edit::{Call, Refusal};
 use desk_rows::Edit;
@@ -47,8 +47,8 @@ pub struct DeskInner<'a, H: DeskBrand> {
     pub desk: Desk,
     /// Publishes each version of its rows.
     pub publisher: Publisher,
-    /// The calls of the log that are in force, and those that can be redone.
-    pub lists: CallLists<AcceptedCall<'a>>,
+    /// The calls of the log that are done, and those that can be redone.
+    pub lists: CallLists<'a>,
     /// Counts the accepted calls.
     pub calls: Book<H>,
     /// The desk's own share of the ledger. It is empty: the seats have all parts, and have counted all calls.

@@ -85,5 +85,6 @@ fn copied(alloc: Global, call: &Call) -> Result<Call, AllocError>
         }
         Call::Undo { last } => Ok(Call::Undo { last: *last }),
         Call::Redo { last } => Ok(Call::Redo { last: *last }),
+        Call::Revert { number } => Ok(Call::Revert { number: *number }),
     }
 }

@@ -21,12 +21,14 @@ only_undo last (calls.Apply command) is = absurd cc
 only_undo last (calls.Group commands) is = absurd cc
 only_undo last (calls.Undo other) is = cc
 only_undo last (calls.Redo other) is = absurd cc
+only_undo last (calls.Revert number) is = absurd cc
 
 pub only_command : {A : Type 0} (command : Command) → Only {A = A} (calls.Apply command) (Apply command)
 only_command command (calls.Apply other) is = cc
 only_command command (calls.Group commands) is = absurd cc
 only_command command (calls.Undo last) is = absurd cc
 only_command command (calls.Redo last) is = absurd cc
+only_command command (calls.Revert number) is = absurd cc
 
 -- a text whose first word is another than `group` wants no memory
 pub needs_none : {A : Type 0} (r : Result (Call A) ParseFault) (text is_text : List ℕ)

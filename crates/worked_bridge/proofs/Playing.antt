@@ -5,4 +5,5 @@ use Rattle.bridge_core.specs.Events.{Listens}
 
 -- a core that is left alone
 pub at_rest : (core : CoreOf) → Listens core core
-at_rest core = record { version = refl; desk = refl; done = refl; undone = refl; lanes = refl; who = refl }
+at_rest core =
+    record { version = refl; history = refl; desk = refl; done = refl; undone = refl; lanes = refl; who = refl }

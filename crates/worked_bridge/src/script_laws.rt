@@ -153,7 +153,7 @@ pub fn others_are_printed_otherwise()
 /// A call that is refused is told the first reason that holds.
 pub fn tells_the_first_reason(alloc: Global, core: &mut Core, call: Call) -> Reply
     ensures { (at : ℕ) (why : RefusalOf) → result ≡ Reply.Refused at why → why ≢ RefusalOf.OutOfMemory
-        → first_case (call_cases core.old.version core.old.desk
+        → first_case (call_cases (record core.old.history { accepted = core.old.version }) core.old.desk
         (length core.old.done) (length core.old.undone) (asked_by call)) ≡ Some why }
 {
     refusal_words();

@@ -33,6 +33,7 @@ returns-in-Ok-item c =
       takes = c.in-Ok-item.ensures.takes;
       version = c.in-Ok-item.ensures.desk.0;
       desk = c.in-Ok-item.ensures.desk.1;
+      history = c.in-Ok-item.ensures.history.2;
       done = c.in-Ok-item.ensures.history.0;
       undone = c.in-Ok-item.ensures.history.1;
       lanes = c.in-Ok-item.ensures.lanes;

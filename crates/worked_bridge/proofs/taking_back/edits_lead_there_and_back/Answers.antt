@@ -3,7 +3,7 @@ use Rattle.desk_rows.specs.Desk.{Desk}
 use Rattle.desk_calls.specs.Edits.{after}
 use Rattle.desk_edit.specs.Calls.{CallHistory, after_call}
 use Rattle.desk_edit.specs.Asked.{CallOf, asked_by}
-use Rattle.desk_edit.specs.Asked.CallOf.{Apply, Group, Undo, Redo}
+use Rattle.desk_edit.specs.Asked.CallOf.{Apply, Group, Undo, Redo, Revert}
 use Rattle.worked_bridge.proofs.taking_back.edits_lead_there_and_back.Goals as goal
 
 -- a call leaves the first desk as it is
@@ -13,6 +13,7 @@ start h (Apply command) = refl
 start h (Group commands) = refl
 start h (Undo last) = refl
 start h (Redo last) = refl
+start h (Revert number) = refl
 
 pub returns-in-Accepted-clause-leads : goal.returns-in-Accepted-clause-leads
 returns-in-Accepted-clause-leads c = λ called h from.

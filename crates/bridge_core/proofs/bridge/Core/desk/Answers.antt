@@ -16,7 +16,8 @@ returns-in-Ok-clause-answer g c =
     let new = core_with c.commit.new.self was.lanes.items was.ingress in
     subst (λ (core : CoreOf). Answers core new call (Accepted c.commit.result)) c.self.view_is
     (accepted_answer was.desk c.prepare.new.self c.commit.new.self was.lanes.items was.ingress call c.in-Ok.prepared
-    c.commit.result c.prepare.ensures.same c.in-Ok.ensures.ready c.commit.ensures.does c.commit.ensures.version)
+    c.commit.result c.prepare.ensures.same c.in-Ok.ensures.ready c.commit.ensures.does c.commit.ensures.version
+    c.commit.ensures.turns)
 
 pub returns-in-Ok-clause-takes : goal.returns-in-Ok-clause-takes
 returns-in-Ok-clause-takes g c =

@@ -32,6 +32,7 @@ returns-clause-takes g c =
     let old : CoreOf =
     record {
       version = was.desk.version;
+      history = was.desk.history;
       desk = was.desk.desk;
       done = was.desk.done;
       undone = was.desk.undone;
@@ -41,6 +42,7 @@ returns-clause-takes g c =
     let new : CoreOf =
     record {
       version = was.desk.version;
+      history = was.desk.history;
       desk = was.desk.desk;
       done = was.desk.done;
       undone = was.desk.undone;
@@ -84,6 +86,7 @@ returns-clause-err g c =
     let k : CoreOf =
     record {
       version = was.desk.version;
+      history = was.desk.history;
       desk = was.desk.desk;
       done = was.desk.done;
       undone = was.desk.undone;

@@ -1,7 +1,6 @@
 use Rattle.std.proofs.Common.{◌≡◌, true, false, ◌<◌, ◌+◌, ◌++◌, ◌∷◌, [], length, vec_len, vec_capacity, rules, sym, ap}
 use Rattle.std.proofs.Common.{subst, ◌∙◌, arith, refl, None, Some, length-append}
 use Rattle.std.specs.Prelude.{slice_get}
-use Rattle.call_history.specs.AcceptedCall.{AcceptedOf}
 use Rattle.call_history.specs.Lists.{ListsOf, with_call}
 use Rattle.desk_edit.specs.Asked.{CallOf, asked_by}
 use Rattle.desk_edit.specs.declared.refusal.Refusal.TheVariants.{OutOfMemory}
@@ -178,7 +177,7 @@ noted g c =
     let same : c.reserve.new.self.lists ≡ lists_in log = c.reserve.ensures.same ∙ c.self.invariant.6 in
     c.note.ensures.lists
     ∙ (ap (λ (k : CallOf). with_call c.reserve.new.self.lists k c.accepted.result) call
-    ∙ (ap (λ (l : ListsOf AcceptedOf). with_call l entry.call c.accepted.result) same
+    ∙ (ap (λ (l : ListsOf). with_call l entry.call c.accepted.result) same
     ∙ (lists-push log entry c.accepted.result told ∙ ap lists_in (sym (longer g c)))))
 
 pub invariant_of-self-in-Ok : goal.invariant_of-self-in-Ok
