@@ -4,7 +4,7 @@ use Rattle.std.proofs.Common.{map, take, codes}
 use Rattle.std.specs.List.{join_with_byte, slice_split}
 use Rattle.desk_edit.specs.declared.command.Command.{Command}
 use Rattle.desk_edit.specs.Asked.{CallOf}
-use Rattle.desk_edit.specs.Asked.CallOf.{Apply, Group, Undo, Redo}
+use Rattle.desk_edit.specs.Asked.CallOf.{Apply, Group, Undo, Redo, Revert}
 use Rattle.desk_text.specs.declared.value.Field.TheVariants as fields
 use Rattle.desk_text.specs.declared.value.Value.{Value}
 use Rattle.desk_text.specs.declared.value.Value.TheVariants as values
@@ -67,6 +67,7 @@ call_spelt (Group []) h = absurd h
 call_spelt (Group (c ∷ cs)) h = (group_words (c ∷ cs), refl, group_spelt c cs h)
 call_spelt (Undo last) h = refl
 call_spelt (Redo last) h = refl
+call_spelt (Revert number) h = refl
 
 -- words that spell a command begin no other call
 command_begins : (base : ℕ) (words : List (List ℕ)) (c : Command) → SpellCommand words c
@@ -85,6 +86,7 @@ call_again base words (Group (c ∷ cs)) spelt h =
     rw (spelt.1, commands_again (base + 1 + 1) (slice_split is_slash spelt.0) (c ∷ cs) spelt.2 h) refl
 call_again base words (Undo last) spelt h = rw (spelt, last_again (base + 1 + 1) last h) refl
 call_again base words (Redo last) spelt h = rw (spelt, last_again (base + 1 + 1) last h) refl
+call_again base words (Revert number) spelt h = rw (spelt, last_again (base + 1 + 1) number h) refl
 
 -- words spell a call, whose numbers are in range
 abbrev IsOf : List (List ℕ) → CallOf → Type 0
@@ -110,6 +112,12 @@ headed_back heads.Redo place behind c e =
     let is : Redo l.0 ≡ c = cc (l.2) in
     let b = last_back (place + 1) behind l.0 l.1 in
     subst (IsOf (head_text heads.Redo ∷ behind)) is (ap (λ (t : List (List ℕ)). head_text heads.Redo ∷ t) b.0, b.1)
+headed_back heads.Revert place behind c e =
+    let l = bind_ok (last_of (place + 1) behind) _ c e in
+    let is : Revert l.0 ≡ c = cc (l.2) in
+    let b = last_back (place + 1) behind l.0 l.1 in
+    subst (IsOf (head_text heads.Revert ∷ behind)) is
+    (ap (λ (t : List (List ℕ)). head_text heads.Revert ∷ t) b.0, b.1)
 headed_back heads.Group place behind c e =
     let cs = bind_ok (commands_of (place + 1) (slice_split is_slash behind)) _ c e in
     let is : Group cs.0 ≡ c = cc (cs.2) in
@@ -147,6 +155,8 @@ words_free (Undo last) h =
     (free_test 32 (head_text heads.Undo) (head_free heads.Undo), free_values (values.U64 last ∷ []) (h, tt))
 words_free (Redo last) h =
     (free_test 32 (head_text heads.Redo) (head_free heads.Redo), free_values (values.U64 last ∷ []) (h, tt))
+words_free (Revert number) h =
+    (free_test 32 (head_text heads.Revert) (head_free heads.Revert), free_values (values.U64 number ∷ []) (h, tt))
 
 -- a call has a first word
 first_word : (c : CallOf) → (w : List ℕ) × (ws : List (List ℕ)) × (call_words c ≡ w ∷ ws)
@@ -154,6 +164,7 @@ first_word (Apply c) = (name_text (fields_of c).name, map value_text (fields_of 
 first_word (Group cs) = (head_text heads.Group, group_words cs, refl)
 first_word (Undo last) = (head_text heads.Undo, value_text (values.U64 last) ∷ [], refl)
 first_word (Redo last) = (head_text heads.Redo, value_text (values.U64 last) ∷ [], refl)
+first_word (Revert number) = (head_text heads.Revert, value_text (values.U64 number) ∷ [], refl)
 
 words_again : (c : CallOf) → IsCall c → words_of (call_line c) ≡ call_words c
 words_again c h =

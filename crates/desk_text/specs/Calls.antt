@@ -9,7 +9,7 @@ use Rattle.desk_rows.specs.declared.key.Kind.{Kind}
 use Rattle.desk_rows.specs.declared.key.Kind.TheVariants as kinds
 use Rattle.desk_rows.specs.Values.{row_values, row_with}
 use Rattle.desk_edit.specs.Asked.{CallOf}
-use Rattle.desk_edit.specs.Asked.CallOf.{Apply, Group, Undo, Redo}
+use Rattle.desk_edit.specs.Asked.CallOf.{Apply, Group, Undo, Redo, Revert}
 use Rattle.desk_edit.specs.declared.command.Command.{Command}
 use Rattle.desk_edit.specs.declared.command.Command.TheVariants.{AddRoom, RemoveRoom, AddMember, RemoveMember}
 use Rattle.desk_edit.specs.declared.command.Command.TheVariants.{MoveMember, AddSource, RemoveSource, AddSlot}
@@ -231,11 +231,12 @@ AreCommands (command ∷ commands) = IsCommand command × AreCommands commands
 abbrev pub head_text : Head → List ℕ
 head_text heads.Undo = codes "undo"
 head_text heads.Redo = codes "redo"
+head_text heads.Revert = codes "revert"
 head_text heads.Group = codes "group"
 
 -- all of these
 abbrev pub all_heads : List Head
-all_heads = heads.Undo ∷ heads.Redo ∷ heads.Group ∷ []
+all_heads = heads.Undo ∷ heads.Redo ∷ heads.Revert ∷ heads.Group ∷ []
 
 -- the one that a word is
 abbrev pub head_of : List ℕ → Option Head
@@ -256,6 +257,9 @@ headed heads.Undo place behind = do
 headed heads.Redo place behind = do
   last ← last_of (place + 1) behind
   Ok (Redo last)
+headed heads.Revert place behind = do
+  number ← last_of (place + 1) behind
+  Ok (Revert number)
 headed heads.Group place behind = do
   commands ← commands_of (place + 1) (slice_split is_slash behind)
   Ok (Group commands)
@@ -283,6 +287,7 @@ call_words (Apply command) = command_words command
 call_words (Group commands) = head_text heads.Group ∷ group_words commands
 call_words (Undo last) = head_text heads.Undo ∷ value_text (U64 last) ∷ []
 call_words (Redo last) = head_text heads.Redo ∷ value_text (U64 last) ∷ []
+call_words (Revert number) = head_text heads.Revert ∷ value_text (U64 number) ∷ []
 
 -- words spell a call: they are its words, where a room's rate of 8000 Hz may be left out
 abbrev pub SpellCall : List (List ℕ) → CallOf → Type 0
@@ -292,6 +297,7 @@ SpellCall words (Group commands) =
     × SpellCommands (slice_split is_slash behind) commands
 SpellCall words (Undo last) = words ≡ call_words (Undo last)
 SpellCall words (Redo last) = words ≡ call_words (Redo last)
+SpellCall words (Revert number) = words ≡ call_words (Revert number)
 
 -- the line of a call: its words with spaces (32) between them
 abbrev pub call_line : CallOf → List ℕ
@@ -304,6 +310,7 @@ IsCall (Group []) = ⊥
 IsCall (Group (command ∷ commands)) = AreCommands (command ∷ commands)
 IsCall (Undo last) = Fits (U64 last)
 IsCall (Redo last) = Fits (U64 last)
+IsCall (Revert number) = Fits (U64 number)
 
 -- the words of a text that is a call and nothing else: the empty text has none
 abbrev pub spoken_words : List ℕ → List (List ℕ)

@@ -4,11 +4,11 @@ use Rattle.std.specs.List.{join_with_byte}
 use Rattle.std.specs.Fmt.{signed_decimal}
 use Rattle.hex.specs.Hex.{encode_lower}
 use Rattle.desk_edit.specs.declared.refusal.Carried.{Carried}
-use Rattle.desk_edit.specs.declared.refusal.Carried.TheVariants.{Nothing, Limit, Last, Most, Part}
+use Rattle.desk_edit.specs.declared.refusal.Carried.TheVariants.{Nothing, Limit, Last, Most, Part, InCall, Row}
 use Rattle.desk_edit.specs.declared.refusal.Reason.{Reason}
 use Rattle.desk_edit.specs.declared.refusal.Reason.TheVariants as reasons
 use Rattle.desk_edit.specs.Reasons.{refusal_for}
-use Rattle.desk_edit.specs.Told.{Told, table_text, told_of}
+use Rattle.desk_edit.specs.Told.{Told, table_text, standing_text, told_of}
 use Rattle.desk_calls.specs.declared.reply.Reply.{Reply}
 use Rattle.desk_calls.specs.declared.reply.Reply.TheVariants.{Accepted, Refused}
 use Rattle.desk_text.specs.declared.fault.Fault.{Fault}
@@ -77,6 +77,8 @@ carried_words (Limit table limit) = fixed (table_text table) ∷ value (U32 limi
 carried_words (Last last) = value (U64 last) ∷ []
 carried_words (Most limit) = value (U32 limit) ∷ []
 carried_words (Part part why) = value (U32 part) ∷ reason_words why
+carried_words (InCall call part why) = value (U64 call) ∷ value (U32 part) ∷ reason_words why
+carried_words (Row kind number) = fixed (standing_text kind) ∷ value (U32 number) ∷ []
 
 -- the words of what is told
 abbrev pub told_words : Told → List Word

@@ -93,6 +93,10 @@ fn headed<A: Allocator + Copy>(
             let last = last(place + 1, behind)?;
             Ok(Call::Redo { last })
         }
+        Head::Revert => {
+            let number = last(place + 1, behind)?;
+            Ok(Call::Revert { number })
+        }
         Head::Group => {
             let commands = commands(alloc, place + 1, behind)?;
             Ok(Call::Group(commands))

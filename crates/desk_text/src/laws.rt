@@ -1,6 +1,6 @@
 //! Laws of the definitions, in the words of a line's grammar.
 
-ghost use Rattle.std.specs.Prelude.{◌≡◌, ℕ, ℤ, pos, ◌^◌, ◌<◌, ◌≤◌, List, ◌∷◌, map, Some, Ok, codes};
+ghost use Rattle.std.specs.Prelude.{◌≡◌, ℕ, ℤ, pos, ◌^◌, ◌<◌, ◌≤◌, List, ◌∷◌, ◌++◌, map, Some, Ok, codes};
 ghost use Rattle.std.specs.Fmt.{decimal, signed_decimal};
 ghost use Rattle.std.specs.List.{join_with_byte, All};
 ghost use Rattle.rtp_codec.specs.declared.address.Address.{Address};
@@ -9,14 +9,18 @@ ghost use Rattle.desk_edit.specs.declared.refusal.Reason.{Reason};
 ghost use Rattle.desk_edit.specs.Reasons.{refusal_for};
 ghost use Rattle.desk_edit.specs.Told.{told_of};
 ghost use Rattle.desk_edit.specs.Refusals.{first_case};
-ghost use Rattle.desk_edit.specs.Calls.{refusal_at};
-ghost use Rattle.desk_text.specs.Judged.{part_cases, call_cases, case_numbers, turn_of, Rises, IsSingle};
+ghost use Rattle.desk_edit.specs.AsIf.{moved_keys};
+ghost use Rattle.desk_edit.specs.InForce.{desk_in_force, kept, again};
+ghost use Rattle.desk_edit.specs.Reverts.{as_if};
+ghost use Rattle.desk_edit.specs.Calls.{CallHistory, refusal_at};
+ghost use Rattle.desk_text.specs.Judged.{conflict_cases, elsewhere_cases, part_cases, call_cases, case_numbers};
+ghost use Rattle.desk_text.specs.Judged.{turn_of, Rises, IsSingle};
 ghost use Rattle.desk_text.specs.Text.{told_words, reason_words};
 ghost use Rattle.desk_text.specs.Words.{words_of, Lacks};
 ghost use Rattle.desk_text.specs.Numbers.{decimal_of, ext_of, FitsExt, SpellsExt};
 ghost use Rattle.desk_text.specs.Addresses.{address_of, address_text, IsAddress};
 ghost use Rattle.desk_edit.specs.Asked.{CallOf};
-ghost use Rattle.desk_edit.specs.Asked.CallOf.{Group};
+ghost use Rattle.desk_edit.specs.Asked.CallOf.{Group, Revert};
 ghost use Rattle.desk_edit.specs.declared.command.Command.{Command};
 ghost use Rattle.desk_text.specs.Calls.{call_of, call_line, SpellCall, IsCall};
 ghost use Rattle.desk_text.specs.Lines.{parts_of};
@@ -64,14 +68,21 @@ pub fn call_lines()
 
 /// A call is refused for the first reason that holds. Reasons are checked in the order of the refusals' numbers, but
 /// RateMismatch (21) behind Full (12). A group's size is checked first (18, 19), then the log (17), then each command
-/// (20). A command in a group is refused in the words of the command alone.
+/// (20). Of a revert it is checked that the call was made and isn't too far back (23, 24), then the log (17), that the
+/// call is in force (23), each command that is carried out again (25), and then who would come or go (26). A command
+/// in a group, or one that stands in the way, is refused in the words of the command alone.
 pub fn refusal_words()
-    ensures first { (version done undone : ℕ) (d : Rows) (call : CallOf)
-        → refusal_at version d done undone call ≡ first_case (call_cases version d done undone call) }
-    ensures rising { (version done undone : ℕ) (d : Rows) (call : CallOf) → IsSingle call
-        → Rises (map turn_of (case_numbers (call_cases version d done undone call))) }
-    ensures group { (version done undone : ℕ) (d : Rows) (commands : List Command)
-        → case_numbers (call_cases version d done undone (Group commands))
+    ensures first { (h : CallHistory) (d : Rows) (done undone : ℕ) (call : CallOf)
+        → refusal_at h d done undone call ≡ first_case (call_cases h d done undone call) }
+    ensures rising { (h : CallHistory) (d : Rows) (done undone : ℕ) (call : CallOf) → IsSingle call
+        → Rises (map turn_of (case_numbers (call_cases h d done undone call))) }
+    ensures group { (h : CallHistory) (d : Rows) (done undone : ℕ) (commands : List Command)
+        → case_numbers (call_cases h d done undone (Group commands))
         ≡ 18 ∷ 19 ∷ 17 ∷ map (λ c. 20) (part_cases 0 d commands) }
+    ensures revert { (h : CallHistory) (d : Rows) (done undone number : ℕ)
+        → case_numbers (call_cases h d done undone (Revert number))
+        ≡ 23 ∷ 24 ∷ 17 ∷ 23
+        ∷ (map (λ c. 25) (conflict_cases (desk_in_force h.start (kept number h.done)) (again number h.done))
+        ++ map (λ c. 26) (elsewhere_cases h.start number h.done (moved_keys d (as_if h.start h.done number)))) }
     ensures part { (why : Reason) → reason_words why ≡ told_words (told_of (refusal_for why)) }
 {}

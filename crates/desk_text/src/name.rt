@@ -85,6 +85,7 @@ fn parse_setting(word: &[u8]) -> Option<Name>
 pub(crate) enum Head {
     Undo,
     Redo,
+    Revert,
     Group,
 }
 
@@ -96,6 +97,8 @@ pub(crate) fn parse_head(word: &[u8]) -> Option<Head>
         Some(Head::Undo)
     } else if word == b"redo".as_slice() {
         Some(Head::Redo)
+    } else if word == b"revert".as_slice() {
+        Some(Head::Revert)
     } else if word == b"group".as_slice() {
         Some(Head::Group)
     } else {

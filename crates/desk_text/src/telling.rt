@@ -132,5 +132,6 @@ pub(crate) fn append_call<A: Allocator, C: Allocator + Copy>(
         Call::Group(commands) => append_group(commands, out),
         Call::Undo { last } => append_last(b"undo ", *last, out),
         Call::Redo { last } => append_last(b"redo ", *last, out),
+        Call::Revert { number } => append_last(b"revert ", *number, out),
     }
 }

@@ -5,7 +5,7 @@ use Rattle.std.proofs.lemmas.List.{append-nil}
 use Rattle.std.specs.Result.{OnOk}
 use Rattle.desk_rows.specs.Desk.{Desk}
 use Rattle.desk_edit.specs.Asked.{CallOf}
-use Rattle.desk_edit.specs.Asked.CallOf.{Apply, Group, Undo, Redo}
+use Rattle.desk_edit.specs.Asked.CallOf.{Apply, Group, Undo, Redo, Revert}
 use Rattle.desk_edit.specs.declared.refusal.Refusal.{Refusal}
 use Rattle.desk_edit.specs.declared.refusal.Refusal.TheVariants.{OutOfMemory}
 use Rattle.desk_edit.specs.Calls.{no_calls, desk_now, refusal_of, after_call as history_after}
@@ -54,6 +54,7 @@ told_why bridge (Apply command) at why by told = by.0 (not_memory at why told)
 told_why bridge (Group commands) at why by told = by.0 (not_memory at why told)
 told_why bridge (Undo last) at why by told = by
 told_why bridge (Redo last) at why by told = by
+told_why bridge (Revert number) at why by told = by.0 (not_memory at why told)
 
 -- the desk that a step publishes is the one that the calls leave
 accepted : (old new : CoreOf) (bridge : Bridge) (call : CallOf) → Stands old bridge
@@ -98,9 +99,10 @@ first_same x y e = cc
 
 pub item_answered : (old new : CoreOf) (bridge : Bridge) (item : Input) (out : List Sent) → Stands old bridge
     → Takes old new (Step.item 0 item) (out ∷ []) → new.version ≡ old.version → new.desk ≡ old.desk
-    → new.done ≡ old.done → new.undone ≡ old.undone → length new.lanes ≡ length old.lanes → new.ingress ≡ old.ingress
+    → new.history ≡ old.history → new.done ≡ old.done → new.undone ≡ old.undone
+    → length new.lanes ≡ length old.lanes → new.ingress ≡ old.ingress
     → Stands new (after_item bridge item) × (out ≡ item_sent bridge item)
-item_answered old new bridge item out s takes version desk done undone lanes ingress =
+item_answered old new bridge item out s takes version desk history done undone lanes ingress =
     let start = first_desk bridge.who in
     let t = takes start bridge.steps s.taken in
     let sends : List Sent =
@@ -114,6 +116,7 @@ item_answered old new bridge item out s takes version desk done undone lanes ing
         called =
             record {
               version = version ∙ s.called.version;
+              history = history ∙ s.called.history;
               desk = desk ∙ s.called.desk;
               follows = rw done s.called.follows;
               ahead = rw undone s.called.ahead;
@@ -171,7 +174,7 @@ hands_more old mid new items item before text now h k bridge s =
 abbrev pub IsElse : CoreOf → CoreOf → Type 0
 IsElse old new =
     (new.version ≡ old.version) × (new.desk ≡ old.desk) × (new.done ≡ old.done) × (new.undone ≡ old.undone)
-    × (new.lanes ≡ old.lanes)
+    × (new.lanes ≡ old.lanes) × (new.history ≡ old.history)
 
 now_knows : (old new : CoreOf) (bridge : Bridge) (sources : Sources) → IsElse old new
     → new.ingress.asker ≡ old.ingress.asker → Knows new.ingress sources → Stands old bridge
@@ -186,6 +189,7 @@ now_knows old new bridge sources others asker knows s = record {
   called =
       record {
         version = others.0 ∙ s.called.version;
+        history = others.5 ∙ s.called.history;
         desk = others.1 ∙ s.called.desk;
         follows = rw others.2 s.called.follows;
         ahead = rw others.3 s.called.ahead;

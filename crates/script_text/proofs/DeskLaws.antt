@@ -4,7 +4,7 @@ use Rattle.std.proofs.Common.{map, append_assoc, codes, decimal}
 use Rattle.std.specs.List.{join_with_byte}
 use Rattle.std.proofs.lemmas.List.Splits.{join_with_byte-slice_split}
 use Rattle.desk_edit.specs.Asked.{CallOf}
-use Rattle.desk_edit.specs.Asked.CallOf.{Apply, Group, Undo, Redo}
+use Rattle.desk_edit.specs.Asked.CallOf.{Apply, Group, Undo, Redo, Revert}
 use Rattle.call_history.specs.AcceptedCall.{AcceptedOf}
 use Rattle.desk_text.specs.declared.fault.Fault.TheVariants.{UnknownWord}
 use Rattle.desk_text.specs.declared.value.Field.TheVariants as fields
@@ -140,3 +140,4 @@ desk_joined m = by m.op m.call
     by op (Group commands) = apart op (Group commands)
     by op (Undo last) = apart op (Undo last)
     by op (Redo last) = apart op (Redo last)
+    by op (Revert number) = apart op (Revert number)

@@ -31,7 +31,7 @@ ghost use Rattle.script_text.specs.Packets.{SpellPackets, packet_of, packet_text
 
 use crate::script::{BRIDGE_SSRC, CNAME};
 use bridge_core::streams_have_no_gap;
-use desk_edit::good_desks_stay_good;
+use desk_revert::histories_stay_sound;
 use ingress::{datagrams_are_read, voices_are_there};
 
 /// The words of an operator's line are its call, and what is read as an operator's call is spelled by its line, in
@@ -166,6 +166,6 @@ pub fn script_streams_have_no_gap()
         → HaveNoGap (numbers
         (firsts (speaker_of input) 1 (first_desk (speaker_of input)) name (steps_of decoding input))) }
 {
-    good_desks_stay_good();
+    histories_stay_sound();
     streams_have_no_gap();
 }

@@ -10,7 +10,7 @@ use Rattle.desk_rows.specs.declared.row.Media.{Media}
 use Rattle.desk_edit.specs.declared.command.Command.{Command}
 use Rattle.desk_edit.specs.declared.command.Command.TheVariants as commands
 use Rattle.desk_edit.specs.Asked.{CallOf}
-use Rattle.desk_edit.specs.Asked.CallOf.{Apply, Group, Undo, Redo}
+use Rattle.desk_edit.specs.Asked.CallOf.{Apply, Group, Undo, Redo, Revert}
 use Rattle.desk_text.specs.declared.fault.Fault.{Fault}
 use Rattle.desk_text.specs.Kinds.{codec_text, media_text}
 use Rattle.desk_text.specs.Lines.{limit_of, is_printable}
@@ -117,6 +117,7 @@ call_visible (Group []) h = absurd h
 call_visible (Group (c ∷ cs)) h = (visible_test (codes "group") refl, group_visible (c ∷ cs) h)
 call_visible (Undo last) h = (visible_test (codes "undo") refl, (long last h, tt))
 call_visible (Redo last) h = (visible_test (codes "redo") refl, (long last h, tt))
+call_visible (Revert number) h = (visible_test (codes "revert") refl, (long number h, tt))
 
 -- ---- the line of an operator's call
 

@@ -13,7 +13,7 @@ use Rattle.desk_rows.specs.declared.row.Media.{Media}
 use Rattle.desk_edit.specs.declared.command.Command.{Command}
 use Rattle.desk_edit.specs.declared.command.Command.TheVariants as commands
 use Rattle.desk_edit.specs.Asked.{CallOf}
-use Rattle.desk_edit.specs.Asked.CallOf.{Apply, Group, Undo, Redo}
+use Rattle.desk_edit.specs.Asked.CallOf.{Apply, Group, Undo, Redo, Revert}
 use Rattle.desk_edit.specs.declared.refusal.Refusal.{Refusal}
 use Rattle.desk_edit.specs.declared.refusal.GroupRefusal.{GroupRefusal}
 use Rattle.desk_edit.specs.declared.refusal.GroupRefusal.TheVariants.{Empty, TooLong}
@@ -156,6 +156,7 @@ call_few (Group []) h within = absurd h
 call_few (Group (c ∷ cs)) h within = omega (arith, group_few (c ∷ cs) h, within)
 call_few (Undo last) h within = omega (arith, long last h)
 call_few (Redo last) h within = omega (arith, long last h)
+call_few (Revert number) h within = omega (arith, long number h)
 
 pub desk_few : (op : ℕ) (c : CallOf) → op ≤ 15 → IsCall c → IsWithin c → length (desk_line op c) ≤ 65536
 unfolding total
@@ -187,6 +188,7 @@ accepted_within h (Apply c) is = tt
 accepted_within h (Group cs) is = size_within (length cs) (none_of (size_refused (length cs)) _ is)
 accepted_within h (Undo last) is = tt
 accepted_within h (Redo last) is = tt
+accepted_within h (Revert number) is = tt
 
 pub all_within : (h : CallHistory) (ms : List AcceptedOf) → AreAccepted h (asked_calls ms) → AreWithin ms
 all_within h [] ok = tt

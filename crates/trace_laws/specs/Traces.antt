@@ -2,7 +2,7 @@
 use Rattle.std.specs.Prelude.{◌≡◌, ℕ, ◌≤◌, true, false, List, [], ◌∷◌, ◌++◌, length, map, max}
 use Rattle.std.specs.List.{flat_map, list_all, AllByRecursion}
 use Rattle.desk_edit.specs.Asked.{CallOf}
-use Rattle.desk_edit.specs.Asked.CallOf.{Apply, Group, Undo, Redo}
+use Rattle.desk_edit.specs.Asked.CallOf.{Apply, Group, Undo, Redo, Revert}
 use Rattle.desk_edit.specs.Reasons.{group_limit}
 use Rattle.sender_feedback.specs.Upstream.{Asker}
 use Rattle.bridge_core.specs.Sent.{Sent}
@@ -37,6 +37,7 @@ IsWithin (Apply command) = Unit {0}
 IsWithin (Group commands) = length commands ≤ group_limit
 IsWithin (Undo last) = Unit {0}
 IsWithin (Redo last) = Unit {0}
+IsWithin (Revert number) = Unit {0}
 
 -- an item whose numbers are in range, and whose line isn't too long
 pub record IsToldItem (x : Versioned) : Type 0 where

@@ -1,4 +1,4 @@
-use Rattle.desk_text.proofs.JudgedLaws.{asked, rising, group, part}
+use Rattle.desk_text.proofs.JudgedLaws.{asked, rising, group, revert, part}
 use Rattle.desk_text.proofs.laws.refusal_words.Goals as goal
 
 pub returns-clause-first : goal.returns-clause-first
@@ -12,3 +12,6 @@ returns-clause-group c = group
 
 pub returns-clause-part : goal.returns-clause-part
 returns-clause-part c = part
+
+pub returns-clause-revert : goal.returns-clause-revert
+returns-clause-revert c = revert
