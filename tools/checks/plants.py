@@ -74,8 +74,8 @@ PLANTS = {
     ),
     "operators_go_on_after_quit": (
         "operator_connection/src/talking.rt",
-        "Next::Quit if !self.outgoing.is_over() => Standing::Ending,",
-        "Next::Quit if !self.outgoing.is_over() => Standing::Open,",
+        "Next::Quit if !self.outgoing.is_over() => LinkState::Ending,",
+        "Next::Quit if !self.outgoing.is_over() => LinkState::Open,",
     ),
     "operators_keep_a_seat": (
         "operator_threads/src/seats.rt",

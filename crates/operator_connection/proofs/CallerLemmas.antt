@@ -5,8 +5,8 @@ use Rattle.std.proofs.Common.{◌≡◌, ◌<◌, ◌-◌, ◌∙◌, ℕ, nat_l
 use Rattle.std.proofs.Common.{arith, rules, false, map, Option, Some, None, is_some, Result, Ok, Err, OnErr, refl, sym}
 use Rattle.std.proofs.Common.{ap, subst, Bool, not}
 use Rattle.operator_lines.specs.Operators.{Replying, Showing}
-use Rattle.operator_connection.specs.declared.talking.Standing.{Standing}
-use Rattle.operator_connection.specs.declared.talking.Standing.TheVariants.{Open, Ending, Lost, Stopping}
+use Rattle.operator_connection.specs.declared.talking.LinkState.{LinkState}
+use Rattle.operator_connection.specs.declared.talking.LinkState.TheVariants.{Open, Ending, Lost, Stopping}
 use Rattle.operator_lines.specs.declared.feeding.Fed.{Fed}
 use Rattle.std.specs.declared.alloc.Global.{Global}
 use Rattle.operator_connection.specs.Connection.{Connection, heeded_of}
@@ -49,7 +49,7 @@ both_false true e n = sym e
 both_false false e n = sym n
 
 -- where there was no line, nothing was told
-pub same_by_none : (lines : List (List ℕ)) (g : Greeted) (before after : List ℕ) (from to : Standing) (none : Bool)
+pub same_by_none : (lines : List (List ℕ)) (g : Greeted) (before after : List ℕ) (from to : LinkState) (none : Bool)
     → none ≡ has_none g → not none ≡ false → GreetsFirst lines g before after from to → after ≡ before
 same_by_none lines greeted.Nothing before after from to none is goes h = h.1
 same_by_none lines greeted.Good before after from to none is goes h =
@@ -67,7 +67,7 @@ pub positive : (n k : ℕ) → 0 < n → n ≡ k → nat_lt 0 k ≡ true
 positive n k some same = grind (arith, nat_tests)
 
 -- a stop that is noted when octets came just now changes no moment
-pub stopped_at : (s : Standing) (now since : ℕ) → since ≡ now → since_stop s now since ≡ now
+pub stopped_at : (s : LinkState) (now since : ℕ) → since ≡ now → since_stop s now since ≡ now
 stopped_at Open now since e = refl
 stopped_at Ending now since e = refl
 stopped_at Lost now since e = e

@@ -28,8 +28,8 @@ use Rattle.operator_connection.specs.declared.greeting.Greeted.{Greeted}
 use Rattle.operator_connection.specs.declared.greeting.Greeted.TheVariants as greeted
 use Rattle.operator_connection.specs.declared.talking.Came.{Came}
 use Rattle.operator_connection.specs.declared.talking.Came.TheVariants as came
-use Rattle.operator_connection.specs.declared.talking.Standing.{Standing}
-use Rattle.operator_connection.specs.declared.talking.Standing.TheVariants.{Open, Ending, Lost, Stopping}
+use Rattle.operator_connection.specs.declared.talking.LinkState.{LinkState}
+use Rattle.operator_connection.specs.declared.talking.LinkState.TheVariants.{Open, Ending, Lost, Stopping}
 
 -- ---- what is done is one thing more
 
@@ -80,19 +80,19 @@ pub grown_behind : (ws ws' xs ys : List ℕ) → ws' ≡ ws → Grown xs ys → 
 grown_behind ws ws' xs ys e g = (g.0, ap (λ l. l ++ ys) e ∙ (ap (λ l. ws ++ l) g.1 ∙ sym (append_assoc ws xs g.0)))
 
 pub lines_grow : {D : Type 0} (replies : Replying D) (shows : Showing D) (lines : List (List ℕ)) (old new : D)
-    (before after : List ℕ) (from to : Standing)
+    (before after : List ℕ) (from to : LinkState)
     → AnswersLines replies shows lines old new before after from to → Grown before after
 lines_grow replies shows [] old new before after from to h = grown_none before after h.1
 lines_grow replies shows (line ∷ lines) old new before after from to h =
     grown_both before h.2 after (h.4.0, h.4.1) (lines_grow replies shows lines h.1 new h.2 after _ to h.5)
 
-pub refusal_grows : (b : Bool) (before after : List ℕ) (from to : Standing) → Refuses b before after from to
+pub refusal_grows : (b : Bool) (before after : List ℕ) (from to : LinkState) → Refuses b before after from to
     → Grown before after
 refusal_grows true before after from to h = (_, h.0)
 refusal_grows false before after from to h = grown_none before after h.0
 
 pub all_grow : {D : Type 0} (replies : Replying D) (shows : Showing D) (lines : List (List ℕ)) (long : Bool)
-    (old new : D) (before after : List ℕ) (to : Standing) (stopped : Bool)
+    (old new : D) (before after : List ℕ) (to : LinkState) (stopped : Bool)
     → AnswersAll replies shows lines long old new before after to stopped → Grown before after
 all_grow replies shows lines long old new before after to stopped h =
     grown_both before h.0 after (lines_grow replies shows _ old new before h.0 _ h.1 h.2.1)
@@ -104,7 +104,7 @@ pub some_grow : {D : Type 0} (replies : Replying D) (shows : Showing D) (lines :
 some_grow replies shows lines old before after h = lines_grow replies shows _ old h.1 before after _ h.2 h.3
 
 pub octets_grow : {D : Type 0} (replies : Replying D) (shows : Showing D) (stream octets : List ℕ) (old new : D)
-    (before after : List ℕ) (to : Standing) (stopped : Bool)
+    (before after : List ℕ) (to : LinkState) (stopped : Bool)
     → AnswersOctets replies shows stream octets old new before after to stopped → Grown before after
 octets_grow replies shows stream octets old new before after to stopped h =
     all_grow replies shows h.0 h.1 old new before after to stopped h.3
@@ -122,7 +122,7 @@ taken k most xs few =
     (sym (take-append-le k (take most xs) (drop most xs) few) ∙ ap (take k) (take-append-drop most xs))
     ∙ take-append-drop k xs
 
-first_greeting_grows : (lines : List (List ℕ)) (g : Greeted) (before after : List ℕ) (from to : Standing)
+first_greeting_grows : (lines : List (List ℕ)) (g : Greeted) (before after : List ℕ) (from to : LinkState)
     → GreetsFirst lines g before after from to → Grown before after
 first_greeting_grows lines greeted.Nothing before after from to h = grown_none before after h.1
 first_greeting_grows lines greeted.Good before after from to h = grown_none before after h.3.1
@@ -130,7 +130,7 @@ first_greeting_grows lines greeted.Faulty before after from to h = (greeting_of 
 first_greeting_grows lines greeted.Stopped before after from to h = grown_none before after h.0
 
 pub all_greetings_grow : (lines : List (List ℕ)) (long : Bool) (g : Greeted) (before after : List ℕ)
-    (from to : Standing)
+    (from to : LinkState)
     → GreetsAll lines long g before after from to → Grown before after
 all_greetings_grow lines long g before after from to h =
     grown_both before h.0 after (first_greeting_grows lines g before h.0 from h.1 h.2)
@@ -138,10 +138,10 @@ all_greetings_grow lines long g before after from to h =
 
 -- ---- one thing that is done
 
-not_open : (s : Standing) → s ≡ Open → s ≡ Lost → {X : Type 0} → X
+not_open : (s : LinkState) → s ≡ Open → s ≡ Lost → {X : Type 0} → X
 not_open s opened lost = absurd (let e : Open ≡ Lost = sym opened ∙ lost in (search rules))
 
-after_stop_ends : (s : Standing) → after_stop s ≡ Open → {X : Type 0} → X
+after_stop_ends : (s : LinkState) → after_stop s ≡ Open → {X : Type 0} → X
 after_stop_ends Open h = absurd (search rules)
 after_stop_ends Ending h = absurd (search rules)
 after_stop_ends Lost h = absurd (search rules)
@@ -194,7 +194,7 @@ same_goes_on old new s e =
 pub goes_on_both : (a b c : Connection) → GoesOn a b → GoesOn b c → GoesOn a c
 goes_on_both a b c g h = record { stream = h.stream; grown = grown_both _ _ _ g.grown h.grown }
 
-ends_not_open : (c : Came) (s : Standing) → after_read c s ≡ Open → s ≡ Open
+ends_not_open : (c : Came) (s : LinkState) → after_read c s ≡ Open → s ≡ Open
 ends_not_open (came.Octets n) s h = h
 ends_not_open came.End s h = absurd (search rules)
 ends_not_open came.Later s h = h
@@ -335,7 +335,7 @@ refuses_goes_on moment old new s r = cases (is_open old.standing) r.told
     (λ e q.
     quiet old new s (λ still. sym q.1 ∙ still) r.kept (ap all_read r.acts) (ap all_written r.acts) (grown_none _ _ q.0))
 
-write_not_open : (c : Came) (s : Standing) → after_write c s ≡ Open → s ≡ Open
+write_not_open : (c : Came) (s : LinkState) → after_write c s ≡ Open → s ≡ Open
 write_not_open (came.Octets n) s h = h
 write_not_open came.End s h = absurd (search rules)
 write_not_open came.Later s h = h
@@ -415,13 +415,13 @@ seated_go_on replies shows (deed ∷ deeds) old new s h =
 
 -- ---- after the end
 
-ended_by_stop : (s : Standing) → is_open (after_stop s) ≡ false
+ended_by_stop : (s : LinkState) → is_open (after_stop s) ≡ false
 ended_by_stop Open = refl
 ended_by_stop Ending = refl
 ended_by_stop Lost = refl
 ended_by_stop Stopping = refl
 
-ended_by_write : (c : Came) (s : Standing) → is_open s ≡ false → is_open (after_write c s) ≡ false
+ended_by_write : (c : Came) (s : LinkState) → is_open s ≡ false → is_open (after_write c s) ≡ false
 ended_by_write (came.Octets n) s e = e
 ended_by_write came.End s e = refl
 ended_by_write came.Later s e = e
@@ -431,7 +431,7 @@ ended_by_write came.Failed s e = refl
 closed : (c : Connection) → is_open c.standing ≡ false → c.ready.readable && is_heard c ≡ true → {X : Type 0} → X
 closed c e h = absurd (search rules)
 
-ended_as : (old new : Connection) (s : Standing) → new.standing ≡ s → is_open s ≡ false
+ended_as : (old new : Connection) (s : LinkState) → new.standing ≡ s → is_open s ≡ false
     → all_read new.acts ≡ all_read old.acts → StaysEnded old new
 ended_as old new s same e got = record { ended = ap is_open same ∙ e; read = got }
 

@@ -6,12 +6,12 @@ use Rattle.std.proofs.lemmas.List.{take-map, map_more}
 use Rattle.operator_lines.specs.Operators.{Replying, Showing, AnswersLine}
 use Rattle.operator_lines.specs.declared.answering.Next.{Next}
 use Rattle.operator_connection.specs.Talking.{AnswersLines, after_line, is_open}
-use Rattle.operator_connection.specs.declared.talking.Standing.{Standing}
-use Rattle.operator_connection.specs.declared.talking.Standing.TheVariants.{Open, Ending, Lost, Stopping}
+use Rattle.operator_connection.specs.declared.talking.LinkState.{LinkState}
+use Rattle.operator_connection.specs.declared.talking.LinkState.TheVariants.{Open, Ending, Lost, Stopping}
 
 -- one line more, while the connection is open
 pub answers_more : {D : Type 0} (replies : Replying D) (shows : Showing D) (lines : List (List ℕ)) (line : List ℕ)
-    (old mid new : D) (before between after : List ℕ) (from : Standing) (becomes : Next)
+    (old mid new : D) (before between after : List ℕ) (from : LinkState) (becomes : Next)
     → AnswersLines replies shows lines old mid before between from Open
     → AnswersLine replies shows mid new line between after becomes
     → AnswersLines replies shows (lines ++ line ∷ []) old new before after from (after_line becomes after)
@@ -42,7 +42,7 @@ taken_more f xs i x less is =
 
 -- one line more, of a list that holds lines
 pub answers_step : {D X : Type 0} (replies : Replying D) (shows : Showing D) (f : X → List ℕ) (xs : List X) (i : ℕ)
-    (x : X) (line : List ℕ) (old mid new : D) (before between after : List ℕ) (becomes : Next) (to : Standing)
+    (x : X) (line : List ℕ) (old mid new : D) (before between after : List ℕ) (becomes : Next) (to : LinkState)
     → i < length xs → x ≡ get_or xs i x → line ≡ f x
     → AnswersLines replies shows (take i (map f xs)) old mid before between Open Open
     → AnswersLine replies shows mid new line between after becomes
@@ -51,12 +51,12 @@ pub answers_step : {D X : Type 0} (replies : Replying D) (shows : Showing D) (f 
 answers_step replies shows f xs i x line old mid new before between after becomes to less is same h k e =
     subst (λ (ls : List (List ℕ)). AnswersLines replies shows ls old new before after Open to)
     (sym (taken_more f xs i x less is))
-    (subst (λ (st : Standing). AnswersLines replies shows (take i (map f xs) ++ f x ∷ []) old new before after Open st)
+    (subst (λ (st : LinkState). AnswersLines replies shows (take i (map f xs) ++ f x ∷ []) old new before after Open st)
     (sym e)
     (answers_more replies shows (take i (map f xs)) (f x) old mid new before between after Open becomes h
     (subst (λ (l : List ℕ). AnswersLine replies shows mid new l between after becomes) same k)))
 
-pub open_is : (s : Standing) → is_open s ≡ true → s ≡ Open
+pub open_is : (s : LinkState) → is_open s ≡ true → s ≡ Open
 open_is Open h = refl
 open_is Ending h = search rules
 open_is Lost h = search rules

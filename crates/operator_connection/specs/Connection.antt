@@ -5,8 +5,8 @@ use Rattle.operator_lines.specs.Fed.{Kept, StandsFor, texts}
 use Rattle.operator_lines.specs.declared.feeding.Fed.{Fed}
 use Rattle.std.specs.declared.alloc.Global.{Global}
 use Rattle.operator_connection.specs.declared.talking.Came.{Came}
-use Rattle.operator_connection.specs.declared.talking.Standing.{Standing}
-use Rattle.operator_connection.specs.declared.talking.Standing.TheVariants.{Open, Lost}
+use Rattle.operator_connection.specs.declared.talking.LinkState.{LinkState}
+use Rattle.operator_connection.specs.declared.talking.LinkState.TheVariants.{Open, Lost}
 use Rattle.operator_connection.specs.declared.talking.Talk.{Talk}
 use Rattle.operator_connection.specs.declared.readiness.Readiness.{Readiness}
 use Rattle.operator_connection.specs.Acts.{Act, waited, looked, read, octet_count}
@@ -24,7 +24,7 @@ pub record Connection : Type 0 where
   pub acts : List Act
   pub kept : Kept
   pub waiting : List ℕ
-  pub standing : Standing
+  pub standing : LinkState
   pub since : ℕ
   pub ready : Readiness
   pub heeded : Option Heeded
@@ -136,7 +136,7 @@ pub record HasRead (came : Came) (octets : List ℕ) (moment : ℕ) (old new : C
   pub silent : IsSilent old new
 
 -- after lines were dealt with: the state is this, unless the bridge was found to be stopped
-abbrev pub unless_stopped : Bool → Standing → Standing
+abbrev pub unless_stopped : Bool → LinkState → LinkState
 unless_stopped stopped standing = if stopped then after_stop standing else standing
 
 -- Nothing was done meanwhile but with the stream: its last change is this moment.

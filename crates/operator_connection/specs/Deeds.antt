@@ -9,8 +9,8 @@ use Rattle.operator_lines.specs.DeskAsk.{news}
 use Rattle.operator_lines.specs.Operators.{Replying, Showing, AppendsReply, busy_line}
 use Rattle.operator_lines.specs.declared.answering.Next.TheVariants.{Stay}
 use Rattle.operator_connection.specs.declared.talking.Came.{Came}
-use Rattle.operator_connection.specs.declared.talking.Standing.{Standing}
-use Rattle.operator_connection.specs.declared.talking.Standing.TheVariants.{Ending, Lost}
+use Rattle.operator_connection.specs.declared.talking.LinkState.{LinkState}
+use Rattle.operator_connection.specs.declared.talking.LinkState.TheVariants.{Ending, Lost}
 use Rattle.operator_connection.specs.declared.greeting.Greeted.{Greeted}
 use Rattle.operator_connection.specs.declared.greeting.Greeted.TheVariants as greeted
 use Rattle.operator_connection.specs.Acts.{wrote, octet_count}
@@ -56,7 +56,7 @@ pub record GreetsPiece (octets : List ℕ) (old new : Connection) : Type 0 where
   pub greeted : Greeted
   pub lines : List (List ℕ)
   pub too_long : Bool
-  pub standing : Standing
+  pub standing : LinkState
   pub brings : (before : List ℕ) → StandsFor old.kept before → Brings before octets lines too_long
   pub stands : (before : List ℕ) → StandsFor old.kept before → StandsFor new.kept (before ++ octets)
   pub greets : GreetsAll lines too_long greeted old.waiting new.waiting old.standing standing
@@ -133,7 +133,7 @@ AreDeeds deeds old new = FoldsTo IsDeed old deeds new
 pub record AnswersPiece {D : Type 0} (replies : Replying D) (shows : Showing D) (octets : List ℕ) (d d' : D)
     (old new : Connection) : Type 0 where
   pub stopped : Bool
-  pub standing : Standing
+  pub standing : LinkState
   pub answers : (before : List ℕ) → StandsFor old.kept before
       → AnswersOctets replies shows before octets d d' old.waiting new.waiting standing stopped
   pub stands : (before : List ℕ) → StandsFor old.kept before → StandsFor new.kept (before ++ octets)
@@ -173,7 +173,7 @@ HasHeard replies shows moment d d' old new =
 abbrev pub AnswersHeeded :
     {D : Type 0} → Replying D → Showing D → Heeded → (d d' : D) → Connection → Connection → Type 0
 AnswersHeeded replies shows heeded d d' old new =
-    ((stopped : Bool) × (standing : Standing)
+    ((stopped : Bool) × (standing : LinkState)
     × AnswersAll replies shows heeded.lines heeded.too_long d d' old.waiting new.waiting standing stopped
     × (new.standing ≡ unless_stopped stopped standing))
     ⊎ (AnswersSome replies shows heeded.lines d old.waiting new.waiting × (new.standing ≡ Lost))

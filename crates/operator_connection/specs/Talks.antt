@@ -3,7 +3,7 @@ use Rattle.std.specs.Prelude.{◌≡◌, ◌⊎◌, ℕ, Bool, true, false, List
 use Rattle.std.specs.List.{AllByRecursion, flat_map}
 use Rattle.operator_lines.specs.Fed.{StandsFor}
 use Rattle.operator_lines.specs.Operators.{Replying, Showing}
-use Rattle.operator_connection.specs.declared.talking.Standing.TheVariants.{Open}
+use Rattle.operator_connection.specs.declared.talking.LinkState.TheVariants.{Open}
 use Rattle.operator_connection.specs.Acts.{all_read, all_written}
 use Rattle.operator_connection.specs.Connection.{Heeded, Connection}
 use Rattle.operator_connection.specs.Deeds.{Deed, SeatedDeed, AreDeeds, AreSeatedDeeds}

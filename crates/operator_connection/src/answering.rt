@@ -7,7 +7,7 @@ ghost use Rattle.operator_lines.specs.Operators.{AnswersLine, AppendsReply};
 ghost use Rattle.operator_connection.specs.Talking.{after_line, refuses, Refuses};
 ghost use Rattle.operator_connection.specs.Talking.{AnswersFirst, AnswersAll, AnswersOctets, AnswersSome, BreaksOff};
 
-use crate::talking::{Standing, Talk};
+use crate::talking::{LinkState, Talk};
 use operator_lines::{Fed, LineDesk, Next, answer, print_too_long};
 use std::alloc::{AllocError, Global};
 use std::sync::atomic::{AtomicBool, Ordering};
@@ -44,7 +44,7 @@ impl Talk {
         text: &mut Vec<u8>,
         stopped: &AtomicBool,
     ) -> Result<bool, AllocError>
-        requires open { self.old.standing ≡ Standing.Open }
+        requires open { self.old.standing ≡ LinkState.Open }
         ensures first { IfOk result (λ stops. AnswersFirst D.replies D.shows (texts lines.now)
             desk.old desk.new self.old.outgoing self.new.outgoing self.new.standing stops) }
         ensures broke { OnErr result
@@ -82,7 +82,7 @@ impl Talk {
             text.clear();
             print_too_long(alloc, text)?;
             self.outgoing.append(text)?;
-            self.standing = Standing::Ending;
+            self.standing = LinkState::Ending;
         }
         Ok(())
     }
@@ -98,7 +98,7 @@ impl Talk {
         text: &mut Vec<u8>,
         stopped: &AtomicBool,
     ) -> Result<bool, AllocError>
-        requires stands { self.old.standing ≡ Standing.Open }
+        requires stands { self.old.standing ≡ LinkState.Open }
         ensures all { IfOk result (λ stops. AnswersAll D.replies D.shows (texts lines.now) is_too_long
             desk.old desk.new self.old.outgoing self.new.outgoing self.new.standing stops) }
         ensures broke { OnErr result
@@ -121,14 +121,14 @@ impl Talk {
         now: u64,
         stopped: &AtomicBool,
     ) -> Result<bool, AllocError>
-        requires stands { self.old.standing ≡ Standing.Open }
+        requires stands { self.old.standing ≡ LinkState.Open }
         ensures heard { IfOk result (λ stops. (before : List ℕ) → StandsFor self.old.lines before
             → AnswersOctets D.replies D.shows before octets.now desk.old desk.new self.old.outgoing self.new.outgoing
             self.new.standing stops) }
         ensures kept { IfOk result (λ stops. (before : List ℕ) → StandsFor self.old.lines before
             → StandsFor self.new.lines (before ++ octets.now)) }
         ensures since { self.new.since ≡ now }
-        ensures lost { OnErr result (self.new.standing ≡ Standing.Lost) }
+        ensures lost { OnErr result (self.new.standing ≡ LinkState.Lost) }
         ensures broke { OnErr result ((before : List ℕ) → StandsFor self.old.lines before
             → BreaksOff D.replies D.shows before octets.now desk.old self.old.outgoing self.new.outgoing) }
     {
@@ -176,11 +176,11 @@ impl Talk {
         text: &mut Vec<u8>,
         stopped: &AtomicBool,
     ) -> Result<bool, AllocError>
-        requires stands { self.old.standing ≡ Standing.Open }
+        requires stands { self.old.standing ≡ LinkState.Open }
         ensures all { IfOk result (λ stops. AnswersAll D.replies D.shows (texts heard.now.lines.items)
             heard.now.too_long desk.old desk.new self.old.outgoing self.new.outgoing self.new.standing stops) }
         ensures lines { self.new.lines ≡ self.old.lines }
-        ensures lost { OnErr result (self.new.standing ≡ Standing.Lost) }
+        ensures lost { OnErr result (self.new.standing ≡ LinkState.Lost) }
         ensures broke { OnErr result (AnswersSome D.replies D.shows (texts heard.now.lines.items)
             desk.old self.old.outgoing self.new.outgoing) }
     {

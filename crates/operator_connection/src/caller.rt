@@ -8,7 +8,7 @@ ghost use Rattle.operator_connection.specs.Talks.{IsTurn};
 
 use crate::line::CallerLine;
 use crate::readiness::Readiness;
-use crate::talking::{Standing, Talk};
+use crate::talking::{LinkState, Talk};
 use operator_lines::{Fed, LineDesk};
 use std::alloc::Global;
 use std::io;
@@ -86,7 +86,7 @@ impl<L: CallerLine + Drop> Caller<L> {
 
     /// Whether the bridge is to be stopped, by its operator or another.
     pub fn is_stopping(&self) -> bool {
-        self.talk.standing == Standing::Stopping
+        self.talk.standing == LinkState::Stopping
     }
 
     /// Whether a connection with a seat is to be closed, at the last moment that its clock told.
@@ -120,7 +120,7 @@ impl<L: CallerLine + Drop> Caller<L> {
                 Some(now)
             }
             Err(_) => {
-                self.talk.standing = Standing::Lost;
+                self.talk.standing = LinkState::Lost;
                 None
             }
         }
@@ -138,7 +138,7 @@ impl<L: CallerLine + Drop> Caller<L> {
                 Some(any)
             }
             Err(_) => {
-                self.talk.standing = Standing::Lost;
+                self.talk.standing = LinkState::Lost;
                 None
             }
         }

@@ -5,7 +5,7 @@ ghost use Rattle.operator_lines.specs.Fed.{Brings, StandsFor, texts};
 ghost use Rattle.operator_lines.specs.Operators.{busy_line};
 ghost use Rattle.operator_connection.specs.Greeting.{GreetsLine, GreetsFirst, GreetsAll, has_none};
 
-use crate::talking::{Standing, Talk};
+use crate::talking::{LinkState, Talk};
 use operator_lines::{Fed, Next, Opening, busy, greet};
 use std::alloc::{AllocError, Global};
 use std::sync::atomic::{AtomicBool, Ordering};
@@ -135,7 +135,7 @@ impl Talk {
         ensures kept { IfOk result (λ heard. (before : List ℕ) → StandsFor self.old.lines before
             → StandsFor self.new.lines (before ++ octets.now)) }
         ensures since { self.new.since ≡ now }
-        ensures lost { OnErr result (self.new.standing ≡ Standing.Lost) }
+        ensures lost { OnErr result (self.new.standing ≡ LinkState.Lost) }
         ensures err { OnErr result (self.new.outgoing ≡ self.old.outgoing) }
     {
         match self.lines.feed(alloc, octets) {
@@ -157,14 +157,14 @@ impl Talk {
     /// Tells a connection that no seat is free for its first good line, and ends it. An `Err` loses it.
     pub fn refuse_seat(&mut self, now: u64) -> Result<(), AllocError>
         ensures told { OnOk result (self.new.outgoing ≡ self.old.outgoing ++ busy_line) }
-        ensures ends { OnOk result (self.new.standing ≡ Standing.Ending) }
+        ensures ends { OnOk result (self.new.standing ≡ LinkState.Ending) }
         ensures since { self.new.since ≡ now }
-        ensures lost { OnErr result (self.new.standing ≡ Standing.Lost) }
+        ensures lost { OnErr result (self.new.standing ≡ LinkState.Lost) }
         ensures err { OnErr result (self.new.outgoing ≡ self.old.outgoing) }
         ensures lines { self.new.lines ≡ self.old.lines }
     {
         self.since = now;
-        self.standing = Standing::Ending;
+        self.standing = LinkState::Ending;
         let told = self.outgoing.append(busy());
         self.or_lost(told)
     }

@@ -9,7 +9,7 @@ ghost use Rattle.operator_connection.specs.Deeds.{HearsPiece, HasHeard, AnswersH
 use crate::caller::Caller;
 use crate::greeting::{Brought, Greeted};
 use crate::line::CallerLine;
-use crate::talking::{Came, Standing};
+use crate::talking::{Came, LinkState};
 use operator_lines::{Fed, LineDesk};
 use std::alloc::Global;
 use std::sync::atomic::AtomicBool;
@@ -43,7 +43,7 @@ impl<L: CallerLine + Drop> Caller<L> {
         now: u64,
         stopped: &AtomicBool,
     )
-        requires stands { self.old.connection.standing ≡ Standing.Open }
+        requires stands { self.old.connection.standing ≡ LinkState.Open }
         requires few { count ≤ length self.old.chunk }
         ensures { HearsPiece D.replies D.shows now (take count self.old.chunk) desk.old desk.new
             self.old.connection self.new.connection }
@@ -84,7 +84,7 @@ impl<L: CallerLine + Drop> Caller<L> {
     /// Deals with the first line that ends in so many octets of what was read last. A good one and those behind it wait
     /// for a seat.
     fn hear_without_seat(&mut self, alloc: Global, count: usize, now: u64, stopped: &AtomicBool)
-        requires stands { self.old.connection.standing ≡ Standing.Open }
+        requires stands { self.old.connection.standing ≡ LinkState.Open }
         requires few { count ≤ length self.old.chunk }
         ensures { GreetsOctets now (take count self.old.chunk) self.old.connection self.new.connection }
     {
@@ -126,7 +126,7 @@ impl<L: CallerLine + Drop> Caller<L> {
         now: u64,
         stopped: &AtomicBool,
     )
-        requires open { self.old.connection.standing ≡ Standing.Open }
+        requires open { self.old.connection.standing ≡ LinkState.Open }
         ensures said { AnswersHeeded D.replies D.shows (heeded_in heard) desk.old desk.new
             self.old.connection self.new.connection }
         ensures since { self.new.connection.since ≡ now }

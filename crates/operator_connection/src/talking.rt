@@ -21,7 +21,7 @@ const STOPPING_TIME: u64 = 1_000_000_000;
 
 /// The state of a connection.
 #[derive(Clone, Copy, Debug, PartialEq, Eq)]
-pub(crate) enum Standing {
+pub(crate) enum LinkState {
     /// Its lines are read and answered.
     Open,
     /// Nothing more is read, and it is closed once all is written, or after 5 s in which nothing was.
@@ -90,7 +90,7 @@ pub fn meaning(answer: &io::Result<usize>) -> Came
 pub(crate) struct Talk {
     pub lines: Lines,
     pub outgoing: Outgoing,
-    pub standing: Standing,
+    pub standing: LinkState,
     /// When octets came last, or its state changed. Of one that ends: when it took octets last.
     pub since: u64,
 }
@@ -100,13 +100,13 @@ impl Talk {
     pub fn new(alloc: Global, now: u64) -> Self
         ensures lines { StandsFor result.lines [] }
         ensures outgoing { result.outgoing ≡ [] }
-        ensures standing { result.standing ≡ Standing.Open }
+        ensures standing { result.standing ≡ LinkState.Open }
         ensures since { result.since ≡ now }
     {
         Self {
             lines: Lines::new(alloc),
             outgoing: Outgoing::new(alloc),
-            standing: Standing::Open,
+            standing: LinkState::Open,
             since: now,
         }
     }
@@ -116,8 +116,8 @@ impl Talk {
         ensures { result ≡ is_open self.now.standing }
     {
         match self.standing {
-            Standing::Open => true,
-            Standing::Ending | Standing::Lost | Standing::Stopping => false,
+            LinkState::Open => true,
+            LinkState::Ending | LinkState::Lost | LinkState::Stopping => false,
         }
     }
 
@@ -127,10 +127,10 @@ impl Talk {
     {
         let passed = now.saturating_sub(self.since);
         match self.standing {
-            Standing::Open => !seated && passed >= LONGEST_SILENCE,
-            Standing::Ending => self.outgoing.is_empty() || passed >= ENDING_TIME,
-            Standing::Lost => true,
-            Standing::Stopping => self.outgoing.is_empty() || passed >= STOPPING_TIME,
+            LinkState::Open => !seated && passed >= LONGEST_SILENCE,
+            LinkState::Ending => self.outgoing.is_empty() || passed >= ENDING_TIME,
+            LinkState::Lost => true,
+            LinkState::Stopping => self.outgoing.is_empty() || passed >= STOPPING_TIME,
         }
     }
 
@@ -142,23 +142,23 @@ impl Talk {
         ensures lines { self.new.lines ≡ self.old.lines }
     {
         match self.standing {
-            Standing::Open | Standing::Ending => {
-                self.standing = Standing::Stopping;
+            LinkState::Open | LinkState::Ending => {
+                self.standing = LinkState::Stopping;
                 self.since = now;
             }
-            Standing::Lost | Standing::Stopping => {}
+            LinkState::Lost | LinkState::Stopping => {}
         }
     }
 
     /// Its state after an answered line.
-    pub fn after(&self, next: Next) -> Standing
+    pub fn after(&self, next: Next) -> LinkState
         ensures { result ≡ after_line next self.now.outgoing }
     {
         match next {
-            Next::Stop => Standing::Stopping,
-            Next::Quit if !self.outgoing.is_over() => Standing::Ending,
-            Next::Stay if !self.outgoing.is_over() => Standing::Open,
-            Next::Stay | Next::Quit => Standing::Lost,
+            Next::Stop => LinkState::Stopping,
+            Next::Quit if !self.outgoing.is_over() => LinkState::Ending,
+            Next::Stay if !self.outgoing.is_over() => LinkState::Open,
+            Next::Stay | Next::Quit => LinkState::Lost,
         }
     }
 
@@ -166,13 +166,13 @@ impl Talk {
     pub fn or_lost<T: Drop>(&mut self, said: Result<T, AllocError>) -> Result<T, AllocError>
         ensures same { result ≡ said }
         ensures ok { OnOk result (self.new ≡ self.old) }
-        ensures lost { OnErr result (self.new.standing ≡ Standing.Lost) }
+        ensures lost { OnErr result (self.new.standing ≡ LinkState.Lost) }
         ensures lines { self.new.lines ≡ self.old.lines }
         ensures outgoing { self.new.outgoing ≡ self.old.outgoing }
         ensures since { self.new.since ≡ self.old.since }
     {
         if said.is_err() {
-            self.standing = Standing::Lost;
+            self.standing = LinkState::Lost;
         }
         said
     }
@@ -187,10 +187,10 @@ impl Talk {
         match came {
             Came::Octets(_) | Came::Later | Came::Again => {}
             Came::End => {
-                self.standing = Standing::Ending;
+                self.standing = LinkState::Ending;
                 self.since = now;
             }
-            Came::Failed => self.standing = Standing::Lost,
+            Came::Failed => self.standing = LinkState::Lost,
         }
     }
 
@@ -204,13 +204,13 @@ impl Talk {
         match came {
             Came::Octets(count) => {
                 // One that ends has its time anew.
-                if self.standing == Standing::Ending {
+                if self.standing == LinkState::Ending {
                     self.since = now;
                 }
                 self.outgoing.took(count);
             }
             Came::Later | Came::Again => {}
-            Came::End | Came::Failed => self.standing = Standing::Lost,
+            Came::End | Came::Failed => self.standing = LinkState::Lost,
         }
     }
 }

@@ -1,7 +1,7 @@
 use Rattle.std.proofs.Common.{ℕ, List, take, sym, ap, subst}
 use Rattle.operator_lines.specs.Fed.{texts}
 use Rattle.operator_connection.specs.Talking.{AnswersLines, AnswersSome}
-use Rattle.operator_connection.specs.declared.talking.Standing.TheVariants.{Open}
+use Rattle.operator_connection.specs.declared.talking.LinkState.TheVariants.{Open}
 use Rattle.operator_connection.specs.declared.talking.Talk.{Talk}
 use Rattle.operator_connection.proofs.CallerLemmas.{on_err}
 use Rattle.operator_connection.proofs.talking.Talk.answer_all.Goals as goal

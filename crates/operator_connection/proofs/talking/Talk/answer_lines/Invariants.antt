@@ -1,7 +1,7 @@
 use Rattle.std.proofs.Common.{◌≡◌, take}
 use Rattle.operator_lines.specs.Fed.{texts}
 use Rattle.operator_connection.specs.Talking.{AnswersLines}
-use Rattle.operator_connection.specs.declared.talking.Standing.TheVariants.{Open}
+use Rattle.operator_connection.specs.declared.talking.LinkState.TheVariants.{Open}
 use Rattle.operator_connection.proofs.talking.Talk.answer_lines.Given as goal
 
 -- the lines so far were answered one after another, and the connection is still open

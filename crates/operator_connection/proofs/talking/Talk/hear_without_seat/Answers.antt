@@ -2,7 +2,7 @@ use Rattle.std.proofs.Common.{List, ℕ, IfOk, sym, ap, subst, ◌∙◌}
 use Rattle.operator_lines.specs.Fed.{texts}
 use Rattle.operator_connection.specs.Greeting.{GreetsAll}
 use Rattle.operator_connection.specs.declared.greeting.Greeted.{Greeted}
-use Rattle.operator_connection.specs.declared.talking.Standing.{Standing}
+use Rattle.operator_connection.specs.declared.talking.LinkState.{LinkState}
 use Rattle.operator_connection.proofs.talking.Talk.hear_without_seat.Goals as goal
 
 pub returns-in-Ok-or_lost-clause-heard : goal.returns-in-Ok-or_lost-clause-heard
@@ -19,7 +19,7 @@ returns-in-Ok-or_lost-clause-heard c =
     GreetsAll (texts c.deref.result.now) is_too_long g before said.outgoing from said.standing))
     (sym c.or_lost.ensures.same ∙ c.in-Ok-or_lost.is) c.greet_all-said.ensures.all in
     subst
-    (λ (st : Standing).
+    (λ (st : LinkState).
     GreetsAll (texts c.in-Ok.fed.lines.items) is_too_long greeted before c.or_lost.new.self.outgoing from st)
     (sym (ap (λ t. t.standing) same))
     (subst
