@@ -72,11 +72,13 @@ class Operator:
         self.chance, self.cast = chance, cast
 
     def line(self):
-        kind = self.chance.randrange(12)
+        kind = self.chance.randrange(13)
         if kind == 0:
             return self.chance.choice(["add-room x", "remove-room", "nonsense", "quit", "show", "show"])
         if kind < 4:
             return "redo @" if kind == 3 else "undo @"
+        if kind == 12:
+            return f"revert @{self.chance.randrange(30)}"
         if kind == 4:
             return f"group {self.command()} / {self.command()}"
         return self.command()

@@ -77,3 +77,10 @@ impl<'t> Act<'t> {
         Some(act)
     }
 }
+
+/// The number of the call that stands so many calls before this version. Instead of the first call, which makes the
+/// beat, it is 0.
+pub fn number_back(version: u64, back: &str) -> u64 {
+    let number = version.saturating_sub(back.parse().unwrap_or(0));
+    if number > 1 { number } else { 0 }
+}

@@ -9,7 +9,7 @@
 //! ```text
 //! connect WHO          one of three operators connects
 //! say WHO TEXT         it says a line; an `@` at the end stands for the number of the last accepted call, and for 0
-//!                      where nobody is there but the two members of the beat
+//!                      where nobody is there but the two members of the beat; `@5` for the fifth call before that
 //! turn WHO OCTETS      a round of its connection, which reads and writes so many octets at most
 //! hang WHO, fail WHO   it says nothing more; its connection fails
 //! rx ADDRESS HEX       a datagram waits

@@ -1,5 +1,6 @@
 //! Operators' connections, at the bridge and at the model.
 
+use crate::act::number_back;
 use crate::difference::Difference;
 use crate::line::ScriptLine;
 use crate::one_thread::OneThread;
@@ -156,7 +157,7 @@ impl<'b, 'a, H: DeskBrand, R: Wait> Talker<'b, 'a, H, R> {
         Ok(())
     }
 
-    /// It says a line. An `@` at the end stands for this version.
+    /// It says a line. An `@` stands for this version, and a number behind it for how many calls to go back.
     pub fn say(
         &self,
         place: &Place<'b, 'a, H, R>,
@@ -167,8 +168,8 @@ impl<'b, 'a, H: DeskBrand, R: Wait> Talker<'b, 'a, H, R> {
             return Ok(());
         };
         let alloc = place.alloc;
-        let line = match text.strip_suffix("@") {
-            Some(start) => format!(in alloc; "{start}{version}\n")?,
+        let line = match text.split_once("@") {
+            Some((start, back)) => format!(in alloc; "{start}{}\n", number_back(version, back))?,
             None => format!(in alloc; "{text}\n")?,
         };
         link.caller.line().exchange.say(place.rt, line.as_str())
