@@ -1,5 +1,6 @@
 """A session at the page, driven by two browsers: clicks, forms and a drag."""
 
+import json
 import re
 import time
 
@@ -205,6 +206,86 @@ def walks(browser, shown, told):
     browser.run(f"press('walk {calls[-1]}'), true")
 
 
+# What another operator does before reverts, and what of it the last ones tie together.
+REVERTED = [
+    "add-room 8", "add-room 88", "add-member 80 8 10.8.0.80:5000 pcmu 9080 0 0", "add-source 280 80 audio", "mute 280",
+    "move-member 80 88", "remove-room 8",
+]  # fmt: skip
+
+
+def reverts(browser, shown, told, ask):
+    """A call that isn't the newest one is taken back alone, and so is that revert. What stands in the way is told, and
+    a button leads to it. Undos go back past what reverts took back."""
+    version, rows, last = browser.run("[version(), desk.rows, past.done[past.done.length - 1].number]")
+    for line in REVERTED:
+        version += 1
+        if ask(line) != f"ok {version}":
+            fail(f"another operator's `{line}` is refused")
+    settles(browser, version)
+    _, _, member, source, mute, move, _ = range(version + 1 - len(REVERTED), version + 1)
+    operator = browser.run(f"past.done.find(({{ number }}) => number === {mute}).operator")
+    presses_revert(browser, mute, f"Revert: mute 280, by operator {operator}")
+    turns(browser, version + 1, mute, "reverted mute 280", "Undo: the revert of mute 280")
+    is_refused(browser, move, "it would also take member 80 out.", None)
+    is_refused(browser, member, f"call {source}, add-source 280 80 audio by operator {operator}, needs it "
+               "(no such member).", source)  # fmt: skip
+    revert, version = version + 1, version + 2
+    time.sleep(MEANT)
+    browser.run("fill('add-room', { room: '9', rate: '8000' }), true")
+    settles(browser, version)
+    own = browser.run("past.done[past.done.length - 1].operator")
+    presses_revert(browser, revert, f"Revert: the revert of mute 280, by operator {own}")
+    turns(browser, version + 1, revert, "brought back mute 280", "Undo: the return of mute 280")
+    is_refused(browser, source, f"call {mute}, mute 280 by operator {operator}, needs it (no such source).", mute)
+    time.sleep(MEANT)
+    browser.press("z", 90, modifiers=2)
+    settles(browser, version + 2)
+    is_told(browser, [("buttons()", ["Undo: add-room 9 8000", "Redo: the return of mute 280"])])
+    compare(browser, version + 2, shown(), "the undo of a revert")
+    undos = len(REVERTED) + 2
+    browser.run(f"walked = {last}, renderHistory(), press('go {last}'), true")
+    settles(browser, version + 2 + undos)
+    is_told(browser, [("desk.rows", rows), ("past.done[past.done.length - 1].number", last)])
+    names_what_goes(browser, told)
+
+
+def presses_revert(browser, number, words):
+    """Clicks on a call of the history, and presses by a key what takes it back alone."""
+    browser.run(f"walked = null, renderHistory(), press('walk {number}'), true")
+    button = f"document.querySelector('[data-key=\"revert {number}\"]')"
+    is_told(browser, [(f"{button}.textContent", words)])
+    browser.run(f"{button}.focus(), true")
+    browser.press("Enter", 13)
+
+
+def turns(browser, version, number, words, button):
+    """A revert is accepted: the history leaves its call out, and says so."""
+    settles(browser, version)
+    is_told(browser, [
+        ("document.querySelector('#calls li code').textContent", words),
+        ("buttons()[0]", button),
+        (f"document.querySelector('[data-key=\"walk {number}\"]')", None),
+        (f"document.querySelector('[data-key=\"walk {version}\"]') !== null", True),
+        ("document.activeElement.matches('#calls button')", True),
+    ])  # fmt: skip
+
+
+def is_refused(browser, number, why, at):
+    """A revert is refused, and the call that stands in the way is shown where there is one."""
+    version = browser.run("version()")
+    presses_revert(browser, number, browser.run(
+        f"`Revert: ${{saidOf({number})}}, by operator ${{past.done.find((one) => one.number === {number}).operator}}`"
+    ))  # fmt: skip
+    browser.wait(f"document.getElementById('notice').textContent.endsWith({json.dumps(why)})")
+    is_told(browser, [("version()", version), ("document.getElementById('show-call').hidden", at is None)])
+    if at is not None:
+        browser.click("#show-call")
+        is_told(browser, [
+            ("document.activeElement.dataset.key", f"walk {at}"),
+            ("document.querySelector('#calls [aria-expanded=\"true\"]').dataset.key", f"walk {at}"),
+        ])  # fmt: skip
+
+
 def is_told(browser, looks):
     """Each of these scripts has the value beside it."""
     for script, wanted in looks:
@@ -290,6 +371,7 @@ def drive(command, folder, address, shown, told, ask):
         by_keys(one, shown)
         undoes_others(one, shown, told, ask)
         walks(one, shown, told)
+        reverts(one, shown, told, ask)
     finally:
         one.close()
         two.close()

@@ -184,16 +184,17 @@ class Desk(threading.Thread):
             [
                 f"mute {200 + at}",
                 f"unmute {200 + at}",
-                f"gain {10 + at} {200 + other} {self.draw.choice([0, 128, 256, 512])}",
+                f"set-gain {10 + at} {200 + other} {self.draw.choice([0, 128, 256, 512])}",
                 f"subscribe {out} {100 + other}",
                 f"unsubscribe {out}",
-                f"floor 1 {10 + at}",
+                f"give-floor 1 {10 + at}",
                 f"pin 1 {100 + at}",
                 f"remove-slot {out}",
                 f"add-slot {out} {10 + at} {out % 10} 100 200",
                 f"group remove-source {200 + at} / add-source {200 + at} {10 + at} audio",
                 f"undo {self.version}",
                 f"redo {self.version}",
+                f"revert {self.version - self.draw.randrange(8)}",
             ]
         )
 

@@ -328,6 +328,16 @@ def check_desks():
     found, it = found_in(written([one for one in spoken if one[0] >= BEGIN + 50 * GAP]))
     told = [(one.kind, one.about) for one in found]
     check(told == 2 * [("muted", 202)] and not it.run.odd, f"by a history in the capture it is told: {found}")
+    # Reverts: where a history has one, or a call isn't known that one takes back, the desk is told once more.
+    says = {30: "mute 202", 40: "pin 1 101", 60: "revert 9", 80: "revert 11", 90: "history", 110: "revert 10"}
+    spoken = Call(says={at: [line] for at, line in says.items()}).packets
+    past = [*calls, "9 0 mute 202", "10 0 pin 1 101", "end 10"]
+    for begin, mutes, lacks in (0, 2, []), (50, 1, [9, 10]), (85, 1, [10]):
+        given = given_by("\n".join(past)) if begin == 50 else None
+        found, it = found_in(written([one for one in spoken if one[0] >= BEGIN + begin * GAP]), given=given)
+        told, odd = [(one.kind, one.about) for one in found], [text.split("`")[1] for text, _ in it.run.odd]
+        wanted = mutes * [("muted", 202)], [f"revert {number}" for number in lacks]
+        check((told, odd) == wanted, f"of reverts from {begin} on it is told: {told} {it.run.odd}")
     # What is said in one segment.
     for question, answer in (
         (["mute 202", "show"], ["ok 9", *rows]), (["show", "mute 202"], [*rows[:-2], "end 8", "ok 9"]),

@@ -1,10 +1,10 @@
 """Has operators call at once while media flows, replays the list of their calls, and stops a bridge in mid-work.
 
-Two, four and sixteen operators make random calls, undos and redos among them. Behind it the accepted calls have the
-numbers from 1 to the desk's version, each once. The bridge says how many calls of each operator it accepted, and these
-are the calls that it told that operator. The list is then replayed in the order of its numbers, each call by its
-operator: each line is accepted with the same number, and the rows are those that `show` showed. Meanwhile two members
-send audio, and each hears packets without a gap.
+Two, four and sixteen operators make random calls, undos, redos and reverts among them. Behind it the accepted calls
+have the numbers from 1 to the desk's version, each once. The bridge says how many calls of each operator it accepted,
+and these are the calls that it told that operator. The list is then replayed in the order of its numbers, each call by
+its operator: each line is accepted with the same number, and the rows are those that `show` showed. Meanwhile two
+members send audio, and each hears packets without a gap.
 
 Last, one of sixteen operators stops a bridge with a full desk. Another leaves `show` unread, one has sent half a line,
 and the others go on calling. The bridge has to end with status 0 within four seconds of the line `stop`: what waits to
@@ -35,6 +35,8 @@ SEATS = 16
 ALLOWED = 4
 # How many seconds an answer may take.
 PATIENCE = 60
+# How many of an operator's last calls it may revert.
+REVERTED = 20
 # A call that is refused: it gives a connection its seat, and changes nothing.
 REFUSED = "remove-room 4294967295"
 
@@ -46,8 +48,8 @@ def options(parser):
     add_program(parser)
 
 
-def call_of(one, last):
-    """A random call of an operator who was told this version last."""
+def call_of(one, last, made):
+    """A random call of an operator who was told this version last, and has made these calls."""
     room, member, source, slot = one.randint(1, 6), one.randint(1, 12), one.randint(100, 115), one.randint(500, 507)
     kinds = [
         f"add-room {room}",
@@ -64,6 +66,7 @@ def call_of(one, last):
         f"undo {last}",
         f"undo {last}",
         f"redo {last}",
+        f"revert {one.choice(made[-REVERTED:])}" if made else f"redo {last}",
     ]
     return one.choice(kinds)
 
@@ -85,8 +88,8 @@ class Caller(threading.Thread):
         self.operator = seated(port)
         self.random = random.Random(seed)
         self.calls = calls
-        # The accepted calls, undos taken off.
-        self.accepted, self.done = {}, 0
+        # The accepted calls, those made at random by their numbers, and how many there are, undos taken off.
+        self.accepted, self.made, self.done = {}, [], 0
         self.odd = []
 
     def next_call(self, last):
@@ -94,7 +97,8 @@ class Caller(threading.Thread):
         stays."""
         return next(
             call
-            for call in iter(lambda: call_of(self.random, last), None) if self.done > 0 or not call.startswith("undo ")
+            for call in iter(lambda: call_of(self.random, last, self.made), None)
+            if self.done > 0 or not call.startswith("undo ")
         )
 
     def run(self):
@@ -106,6 +110,7 @@ class Caller(threading.Thread):
                 last = int(told[1])
             if told[:1] == ["ok"]:
                 self.accepted[last] = call
+                self.made.append(last)
                 self.done += -1 if call.startswith("undo ") else 1
             elif told[:1] != ["no"]:
                 self.odd.append((call, told))

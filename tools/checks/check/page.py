@@ -1,14 +1,14 @@
 """Goes through a call at the page, over HTTP, against a bridge that runs.
 
-An operator adds rooms, one of them for music, and members, subscribes, mutes, moves a member, undoes three times and
-does one again. After each line the page's desk is what the bridge's `show` says. A second operator's change is there
-within half a second. Bad requests are refused by name and change nothing. A silent bridge keeps nobody waiting, and a
-bridge that comes back is found again. In node, the page's functions choose the lines of clicks as they should. In
-chromium, two browsers go through a call by clicks, forms and a drag: after each step both draw what `show` says, and
-the second one within half a second. Sliders, keys, names, many members at once, a bridge that is gone, a room of 64 and
-64 rooms of 16 are tried by hand. Names are kept in a file, and bad ones are told. With --http-only neither node nor
-chromium is needed, and nothing tries the page's script. With --model no program is needed: the page is served over the
-plain desk of the models, and what a bridge counts is handed to it, too.
+An operator adds rooms, one of them for music, and members, subscribes, mutes, moves a member, reverts, undoes four
+times and does one again. After each line the page's desk is what the bridge's `show` says. A second operator's change
+is there within half a second. Bad requests are refused by name and change nothing. A silent bridge keeps nobody
+waiting, and a bridge that comes back is found again. In node, the page's functions choose the lines of clicks as they
+should. In chromium, two browsers go through a call by clicks, forms and a drag: after each step both draw what `show`
+says, and the second one within half a second. Sliders, keys, names, many members at once, a bridge that is gone, a room
+of 64 and 64 rooms of 16 are tried by hand. Names are kept in a file, and bad ones are told. With --http-only neither
+node nor chromium is needed, and nothing tries the page's script. With --model no program is needed: the page is served
+over the plain desk of the models, and what a bridge counts is handed to it, too.
 """
 
 import concurrent.futures
@@ -65,6 +65,8 @@ REFUSED = [
     ("add-room 4 16000", "9 BadValue"),
     ("move-member 11 3", "21 RateMismatch"),
     ("add-member 13 3 127.0.0.1:6006 pcmu 9004 0 0", "21 RateMismatch"),
+    ("revert 99", "23 NotInForce"),
+    ("revert 3", "25 Conflict 5 0 3 NoMember"),
 ]
 
 
@@ -236,13 +238,18 @@ def go_through(page, operator):
     for line, refusal in REFUSED:
         told = page.call(line)
         check(told == (200, f"no {version} {refusal}"), f"`{line}` is told as {told}")
-    for word in "undo", "undo", "undo", "redo":
+    version += 1
+    mute = CALLS.index("mute 201") + 1
+    check(page.call(f"revert {mute}") == (200, f"ok {version}"), "a revert is refused")
+    numbers = [line.split()[0] for line in is_as_told(page, operator, "revert")]
+    check(str(mute) not in numbers and numbers[-2] == str(version), f"after a revert the page's history is {numbers}")
+    for word in "undo", "undo", "undo", "undo", "redo":
         version += 1
         check(page.call(f"{word} {version - 1}") == (200, f"ok {version}"), f"`{word}` is refused")
         past = is_as_told(page, operator, word)
     numbers = [line.split()[0] for line in past]
-    accepted = [str(number) for number in range(1, len(CALLS) + 1)]
-    wanted = [*accepted[:-2], "undone", accepted[-1], accepted[-2], "end"]
+    accepted = [str(number) for number in range(1, len(CALLS) + 2)]
+    wanted = [*accepted[:-3], "undone", *accepted[:-4:-1], "end"]
     check(numbers == wanted and past[0].endswith(" add-room 1 8000"), f"the page's history is {past}")
     return version
 

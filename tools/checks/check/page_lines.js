@@ -66,7 +66,7 @@ same(lines.addSlot({ ssrc: "504", member: "10", index: "1" }), "add-slot 504 10 
 same(lines.addSource({ ssrc: "104", member: "10", kind: "video" }), "add-source 104 10 video");
 same(lines.setGain(11, 201, 512), "set-gain 11 201 512");
 same(lines.group(["mute 201", "unpin 1"]), "group mute 201 / unpin 1");
-same(lines.undo(17), "undo 17");
+same([lines.undo(17), lines.revert(7)], ["undo 17", "revert 7"]);
 same(page.free(desk, "ssrc", 101), 104);
 same(page.free(desk, "room", 1), 3);
 same(page.suggested(desk)[0], ["add-room", "room", 3]);
@@ -166,9 +166,11 @@ end 6
 `);
 same(past, { version: 6, done: [{ number: 1, operator: 0, line: "add-room 1 8000" },
   { number: 2, operator: 1, line: "group mute 201 / move-member 10 1" }],
-  undone: [{ number: 4, operator: 0, line: "unmute 202" }, { number: 3, operator: 15, line: "mute 202" }] });
+  undone: [{ number: 4, operator: 0, line: "unmute 202" }, { number: 3, operator: 15, line: "mute 202" }],
+  known: new Map([[1, "add-room 1 8000"], [2, "group mute 201 / move-member 10 1"], [4, "unmute 202"],
+    [3, "mute 202"]]) });
 same([page.parseHistory("end 0\n"), page.parseHistory("1 0 mute 201\nend 1\n").undone],
-  [{ version: 0, done: [], undone: [] }, []]);
+  [{ version: 0, done: [], undone: [], known: new Map() }, []]);
 
 // Undos lead to the desk behind an earlier call, and redos to that behind an undone one.
 const way = (number) => {
@@ -192,6 +194,65 @@ same(told("add-member 10 1 127.0.0.1:6000 pcmu 201 0 0"),
 same(told("add-slot 201 10 0 0 0"), "add-slot 201 Bob (10) 0 0 0");
 same(told("mute 201", { "source 201": "n".repeat(200) }), `mute ${"n".repeat(24)}\u2026 (201)`);
 same(page.worded({ "member 10": "\u0628" }, desk, "mute 201"), "mute \u2068\u0628\u2069 (201)");
+
+// A revert: the history leaves out what it took back. The page knows that call from the history before, and says what
+// was reverted, or brought back by the revert of a revert.
+const before = page.parseHistory("7 0 mute 201\n8 1 mute 202\n9 1 unmute 202\nend 9\n");
+const reverted = page.parseHistory("8 1 mute 202\n9 1 unmute 202\n10 2 revert 7\nend 10\n", before);
+const back = page.parseHistory("7 0 mute 201\n8 1 mute 202\n9 1 unmute 202\n11 2 revert 10\nend 11\n", reverted);
+const again = page.parseHistory("8 1 mute 202\n9 1 unmute 202\n10 2 revert 7\n12 2 revert 11\nend 12\n", back);
+const plain = (words) => words.replace(/[\u2068\u2069]/g, "");
+const saidLast = ({ done, undone, known }) => {
+  const { number, line } = [...undone, ...done].pop();
+  return [page.worded(named.names, desk, line, known), page.callWords(named.names, desk, number, known)].map(plain);
+};
+same([...reverted.known.keys()], [8, 9, 10, 7]);
+same(saidLast(before), ["unmute 202", "unmute 202"]);
+same(saidLast(reverted), ["reverted mute Bob (201)", "the revert of mute Bob (201)"]);
+same(saidLast(back), ["brought back mute Bob (201)", "the return of mute Bob (201)"]);
+same(saidLast(again), ["reverted mute Bob (201)", "the revert of mute Bob (201)"]);
+same([...again.known.keys()].sort((a, b) => a - b), [7, 8, 9, 10, 11, 12]);
+same(saidLast(page.parseHistory("10 2 revert 7\nend 10\n")), ["reverted call 7", "the revert of call 7"]);
+same(["revert 7", "revert 99", "revert x"].map((line) => told(line)),
+  ["reverted call 7", "reverted call 99", "revert x"]);
+same(plain(page.callWords(named.names, desk, 7, reverted.known)), "mute Bob (201)");
+const long = `mute \u2068${"\u0628".repeat(50)}\u2069 (201)`;
+same(["mute 201", long, "n".repeat(33)].map(page.begun),
+  ["mute 201", `mute \u2068${"\u0628".repeat(26)}\u2069\u2026`, `${"n".repeat(32)}\u2026`]);
+// One that was undone is known, too. What another bridge says under the same numbers isn't mixed with it.
+same(saidLast(page.parseHistory("undone\n10 2 revert 7\nend 11\n", reverted)), saidLast(reverted));
+same([...page.parseHistory("8 1 mute 101\n10 2 revert 7\nend 10\n", before).known.keys()], [8, 10]);
+// A faulty bridge, whose reverts name themselves or each other, keeps nobody waiting.
+same(saidLast(page.parseHistory("9 0 revert 9\nend 9\n")), ["reverted call 9", "the revert of call 9"]);
+same(saidLast(page.parseHistory("8 0 revert 9\n9 0 revert 8\nend 9\n")), ["reverted call 8", "the revert of call 8"]);
+
+// The way to an earlier desk goes back past what reverts took back, which the history leaves out.
+const numbersTo = (told, number) => page.wayTo(told, number)?.calls.map((one) => one.number);
+same([8, 9, 10].map((number) => numbersTo(reverted, number)), [[10, 9], [10], []]);
+same(numbersTo(page.parseHistory("1 0 mute 201\n3 0 mute 202\n4 0 revert 2\nend 4\n"), 1), [4, 3, 2]);
+same(page.wayWords(page.wayTo(reverted, 8), false), "2 undos lead to the desk right behind it: 10, 9.");
+
+// Why a revert is refused: the call that needs it, and who else would come or go.
+const inTheWay = page.parseHistory("8 2 set-gain 11 201 128\n9 0 group mute 202 / subscribe 502 102\nend 20\n");
+const refusedFor = (told, knows = { names: named.names, desk, past: inTheWay }) =>
+  plain(page.inWords(`no 20 ${told}`, knows).text);
+same(refusedFor("23 NotInForce"), "refused (23 NotInForce): it isn't in force any more.");
+same(refusedFor("24 TooFar 256"), "refused (24 TooFar): it lies too far back: over 256 commands came since.");
+same(["8 0 4 NoSource", "9 1 12 Full sources 2048", "3 0 1 Exists", "3 0 99 Odd"].map((told) =>
+  refusedFor(`25 Conflict ${told}`).replace("refused (25 Conflict): ", "")), [
+  "call 8, set-gain 11 Bob (201) 128 by operator 2, needs it (no such source).",
+  "call 9, subscribe 502 camera (102) in a group by operator 0, needs it (the table would be full).",
+  "call 3 needs it (what it adds would be there already).", "call 3 needs it (Odd)."]);
+same(["member 10", "member 20", "room 1", "room 3", "source 201", "slot 501", "slot 9"].map((told) =>
+  refusedFor(`26 Elsewhere ${told}`).replace("refused (26 Elsewhere): it would also ", "")),
+  ["take member Bob (10) out.", "bring member 20 back.", "take room Sales (1) out.", "bring room 3 back.",
+    "take source Bob (201) out.", "take slot 501 out.", "bring slot 9 back."]);
+same(["26 Elsewhere member 20", "25 Conflict 8 0 4 NoSource"].map((told) => refusedFor(told, {})),
+  ["refused (26 Elsewhere): it would also change whether member 20 is there.",
+    "refused (25 Conflict): call 8 needs it (no such source)."]);
+same(page.replyInWords(200, "no 20 23 NotInForce", {}), page.inWords("no 20 23 NotInForce"));
+same(["no 20 25 Conflict 37 0 4 NoSource", "no 20 26 Elsewhere member 20", "ok 25"].map(page.callInTheWay),
+  [37, null, null]);
 
 // A saved desk makes its rows again, as `tools/bridge keep` does.
 const kept = page.keptText(desk).trimEnd().split("\n");
@@ -255,8 +316,8 @@ same(["member 0 10 1 127.0.0.1:6000 pcmu 9001 0 0", "source 101 10 video", "slot
   [["member 10", "room 1"], ["source 101", "member 10"], ["slot 501", "member 11"], ["slot 502"], ["source 202"],
     ["gain 11 201"], ["pin 1"], ["floor 1"], ["room 2"]]);
 same(["mute 201", "set-gain 11 201 512", "group unmute 202 / give-floor 1 10", "undo 17", "move-member 10 2",
-  "unsubscribe 502"].map(page.objectsOfLine), [["source 201"], ["gain 11 201"], ["source 202", "floor 1"], ["history"],
-  ["member 10"], ["slot 502"]]);
+  "unsubscribe 502", "revert 7"].map(page.objectsOfLine), [["source 201"], ["gain 11 201"], ["source 202", "floor 1"],
+  ["history"], ["member 10"], ["slot 502"], ["call 7"]]);
 const muted = ["+ mute 201"], others = (before, now, rows, mine, sent, waiting) =>
   page.othersObjects(before, now, rows, new Set(mine), sent, waiting);
 same(others(17, 18, muted, [], [], 0), ["history", "source 201"]);

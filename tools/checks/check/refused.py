@@ -112,7 +112,7 @@ def status_of(bridge, wanted, what):
 
 
 # Each request for a line behind `! ` is refused in turn. An `undo` and a `redo` get the number of the last accepted
-# call.
+# call, and a `revert` that of the first call with its words.
 LINES = """
 ! add-room 1
 add-room 2
@@ -141,6 +141,7 @@ undo
 ! undo
 ! group unmute 201 / set-gain 11 201 256 / unpin 1
 ! undo
+! revert mute 201
 ! add-room 3 44100
 ! add-member 12 3 127.0.0.1:6004 l16 9003 0 0
 ! show
@@ -194,7 +195,10 @@ class Desk:
         operator.lines.close()
 
     def whole(self, line):
-        """A line, with the number of the last accepted call where it needs one."""
+        """A line, with the number of the call that it takes back or does again."""
+        word, _, words = line.partition(" ")
+        if word == "revert":
+            return f"revert {next(number for (number, _, made), _ in self.log.done if ' '.join(made) == words)}"
         return f"{line} {self.log.version}" if line in ("undo", "redo") else line
 
     def call(self, line):

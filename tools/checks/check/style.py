@@ -235,6 +235,14 @@ def parameters(signature):
     return sum(bool(one.strip()) and not re.match(r"\s*(&?('\w+ )?(mut )?self\b|(rt|alloc):)", one) for one in found)
 
 
+def wrapped(body):
+    """How many lines the layout adds to arms of a match that are one expression, too long for their pattern's line."""
+    arms = zip(body, body[1:], body[2:])
+    return 2 * sum(
+        first.endswith(" => {") and last == re.match(r" *", first).group() + "}" for first, _, last in arms
+    )
+
+
 def functions(lines):
     """The name of each function with a body, how many lines that has, and how many parameters."""
     for first, line in enumerate(lines):
@@ -245,7 +253,8 @@ def functions(lines):
         opened = body_of(lines, first, indent)
         if opened is not None:
             closed = lines.index(indent + "}", opened)
-            yield name, closed - opened - 1, parameters("\n".join(lines[first : opened + 1])[begun.end() :])
+            count = closed - opened - 1 - wrapped(lines[opened + 1 : closed])
+            yield name, count, parameters("\n".join(lines[first : opened + 1])[begun.end() :])
 
 
 def print_longest(found):

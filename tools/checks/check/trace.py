@@ -1,8 +1,8 @@
 """Replays the trace of a call, and compares it with the wire.
 
 Members send tones and video over sockets, with packets lost, late and twice; they report, and ask for packets again and
-for pictures. Operators mute, group, move and undo meanwhile. The bridge writes its trace to this tool. Of each lane the
-lines of the trace are a script: it is replayed, by the program or, where there is none, by the models in
+for pictures. Operators mute, group, move, undo and revert meanwhile. The bridge writes its trace to this tool. Of each
+lane the lines of the trace are a script: it is replayed, by the program or, where there is none, by the models in
 tools/operators/models. Each datagram that the members got is compared with what the scripts send: none differs, none is
 missing, none is over, and each stream is in order.
 

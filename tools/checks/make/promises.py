@@ -88,8 +88,10 @@ def sections():
 
 def ten():
     """The carriers of the ten promises, by their numbers."""
-    found = re.findall(r"^ten (\d+): (.*)$", LIST.read_text(), re.M)
-    return {int(number): carrier_of("  " + rest) for number, rest in found}
+    found = collections.defaultdict(list)
+    for number, rest in re.findall(r"^ten (\d+): (.*)$", LIST.read_text(), re.M):
+        found[int(number)].append(carrier_of("  " + rest))
+    return found
 
 
 # What the sources have
@@ -164,7 +166,7 @@ def left_out():
 def faults():
     """What the list says and the sources don't have, and which laws and conditions it doesn't name."""
     for kind in ("ensures", "requires"):
-        for one in [*named_under(kind), *(ten().values() if kind == "ensures" else ())]:
+        for one in [*named_under(kind), *(itertools.chain(*ten().values()) if kind == "ensures" else ())]:
             if fault := fault_of(one, kind):
                 yield f"promises.txt: {one.file} {one.name}: {fault}"
     yield from unnamed("ensures", is_law)
@@ -244,8 +246,13 @@ def amount(definitions):
     return f"{count} definitions, {lines:,} lines, in {where}"
 
 
-def read_for(carrier):
+def read_for(carriers):
     """What one has to read for one of the ten."""
+    return set().union(*map(read_by, carriers))
+
+
+def read_by(carrier):
+    """What one has to read for the clauses of a function."""
     names = [] if "-" in carrier.clauses else carrier.clauses
     return reading.believed(reading.function_named(carrier.file, carrier.name), names)
 
@@ -274,7 +281,7 @@ def said_names(owners):
 
 def counted():
     """The parts of the page of ten promises that say how much one has to read."""
-    each = {number: read_for(carrier) for number, carrier in ten().items()}
+    each = {number: read_for(carriers) for number, carriers in ten().items()}
     made = {f"reading-{number}": f"\nTo believe it you read {amount(found)}.\n\n" for number, found in each.items()}
     return {**made, "reading-all": f"\nTo believe all ten you read {amount(set().union(*each.values()))}.\n\n"}
 

@@ -10,6 +10,11 @@ their number. The scripts take turns, and the least of N runs counts.
 With --groups it counts the instructions of the same commands one by one and in groups of these sizes, and of their
 undos, on the desk that isn't short, in one run of one program. For a group it also prints what this is more than its
 commands one by one, as a difference and as a ratio: with two commands or more it is above all the copy of the rows.
+
+With --reverts it counts the instructions of reverts beside those of groups, at an empty desk, at one of 64 members with
+4,096 gains, and at the full one. For each size it makes a command and others behind it, so many in all, and reverts the
+first one. The same commands are made as groups of 64 at most. The ratio is that of the revert to the groups. The status
+is 1 where one is over 2.5.
 """
 
 import tempfile
@@ -26,6 +31,7 @@ def options(parser):
     add_measuring(parser, 3)
     how = parser.add_mutually_exclusive_group()
     how.add_argument("--instructions", action="store_true", help="count instructions by callgrind, one run each")
+    how.add_argument("--reverts", metavar="SIZES", help="count the instructions of reverts, as 1,8,64,256")
     how.add_argument(
         "--groups", metavar="SIZES", help="count the instructions of groups, as 1,2,8,64; 0 for a program that has none"
     )
@@ -172,8 +178,78 @@ def count_groups(program, sizes, only):
     meter.end()
 
 
+# Reverts
+
+# A revert may cost so many times what its commands cost as groups.
+MOST_RATIO = 2.5
+
+
+def middle_desk():
+    """A room of 64 members, with a source of sound and of video, a slot and 64 gains each."""
+    yield "add-room 1"
+    for m in range(64):
+        yield add_member(m)
+        yield f"add-source {200000 + m} {m} audio"
+        yield f"add-source {200064 + m} {m} video"
+        yield f"add-slot {300000 + m} {m} 0 0 0"
+    yield from (f"subscribe {300000 + m} {200064 + (m + 1) % 64}" for m in range(64))
+    yield from (f"set-gain {m} {200000 + s} 100" for m in range(64) for s in range(64))
+
+
+def calls_behind(is_empty):
+    """Names with a command that is to be reverted, and what others make behind it, by their number."""
+    rooms = lambda i: f"{'remove' if i % 2 else 'add'}-room {2 + i // 2 % 60}"
+    gain, members = "set-gain 0 200000 9", lambda i: i // 2 % 60 + 1
+    if is_empty:
+        yield "add-room, remove-room", "add-room 1", rooms
+        return
+    yield "set-gain over another", gain, lambda i: f"set-gain {1 + i % 63} {200000 + i // 63} 7"
+    yield "mute, unmute", gain, lambda i: f"{'unmute' if i % 2 else 'mute'} {200000 + i // 2}"
+    yield "remove-member with 64 gains, add-member", gain, lambda i: (
+        add_member(members(i)) if i % 2 else f"remove-member {members(i)}"
+    )
+
+
+def count_reverts(program, sizes, only):
+    """Prints the instructions of reverts and of groups with as many commands. Whether all ratios are good."""
+    is_good, desks = True, {"an empty desk": (), "64 members": middle_desk(), "a full desk": full_desk(64)}
+    for place, lines in desks.items():
+        if only not in place:
+            continue
+        meter, first = Replay(program, True), list(lines)
+        if first:
+            meter.answers(first)
+        version = len(first)
+
+        def undone(count):
+            nonlocal version
+            meter.answers([f"undo {version + at}" for at in range(count)])
+            version += count
+
+        for name, command, behind in calls_behind(not first):
+            for size in sizes:
+                others = [behind(i) for i in range(size - 1)]
+                groups = in_groups([command, *others])
+                took, _ = meter.cost(groups, "ok")
+                version += len(groups)
+                undone(len(groups))
+                calls = [command, *in_groups(others)]
+                meter.answers(calls)
+                cost, _ = meter.cost([f"revert {version + 1}"], "ok")
+                version += len(calls) + 1
+                undone(len(calls) + 1)
+                ratio = cost / (took * len(groups))
+                is_good = is_good and ratio <= MOST_RATIO
+                told = f"{cost:,.0f} a revert, {took * len(groups):,.0f} as groups, ratio {ratio:.2f}"
+                print(f"{place}, {name}, command {size} from the newest: {told}", flush=True)
+        meter.end()
+    return is_good
+
+
 def run(args):
     program = release_program(args.binary)
+    if args.reverts:
+        return 0 if count_reverts(program, [int(size) for size in args.reverts.split(",")], args.only) else 1
     if args.groups:
         count_groups(program, [int(size) for size in args.groups.split(",") if int(size)], args.only)
     else:

@@ -18,21 +18,12 @@ import tomllib
 if __name__ == "__main__":
     sys.path.insert(0, str(pathlib.Path(__file__).resolve().parents[2]))
 
-from operators.models.desk import COMMANDS, Desk, Log, made_line  # noqa: E402
+from operators.models.desk import Log, made_line  # noqa: E402
 from operators.models.lines import fault_of_line  # noqa: E402
 
 MOST_OCTETS = 4096
 # More calls than a desk accepts.
 EVERY_CALL = 2**64 - 1
-
-
-class QuickDesk(Desk):
-    """A desk that looks for rows without what they name only where something was removed."""
-
-    def carry_out(self, words):
-        COMMANDS[words[0]](self, *(int(word) if word.isdigit() else word for word in words[1:]))
-        if words[0].startswith("remove-"):
-            self.sweep()
 
 
 class Front(socketserver.ThreadingTCPServer):
@@ -44,7 +35,6 @@ class Front(socketserver.ThreadingTCPServer):
     def __init__(self, address, seats, ssrc):
         super().__init__(address, Operator)
         self.log, self.lock, self.seats, self.taken, self.watching = Log(), threading.Lock(), seats, {}, set()
-        self.log.desk = QuickDesk()
         self.log.desk.bridge = ssrc
 
 

@@ -3,7 +3,7 @@
 import re
 
 from operators.explain.operators import is_good
-from operators.models.desk import MOST_PARTS, Log
+from operators.models.desk import MOST_PARTS, Desk, Refused, desk_again
 
 # The commands that put the rows of a kind, in the order in which rows may name each other, and the first word of a row
 # that counts.
@@ -39,14 +39,21 @@ def calls_for(desk, rows, firsts):
     return ["group " + " / ".join(commands[at : at + MOST_PARTS]) for at in range(0, len(commands), MOST_PARTS)]
 
 
+def has_reverts(shown):
+    """Whether a desk was told by a history with reverts: which calls these took back isn't told."""
+    return any(text.startswith("revert ") for _, text in (*shown.calls, *shown.undone))
+
+
 def rows_of(shown):
     """The rows of a desk that was told, also where a history told the calls that made it. None where they make none."""
     if not shown.calls:
         return shown.rows
-    log = Log()
-    if all(log.call(text.split(" "), seat).startswith("ok ") for seat, text in shown.calls):
-        return tuple(log.desk.shown(0)[:-1])
-    return None
+    # Without what a revert took back, a later command may ask for what is so.
+    words = [(0, seat, text.split(" ")) for seat, text in shown.calls if not text.startswith("revert ")]
+    try:
+        return tuple(desk_again(Desk(), words).shown(0)[:-1])
+    except Refused:
+        return None
 
 
 def without_firsts(rows):

@@ -10,6 +10,7 @@ import itertools
 from operators.captures.files import frames_of
 from operators.captures.links import Packets
 from operators.captures.notes import BadCapture, Notes
+from operators.explain.desks import has_reverts
 from operators.explain.explaining import BEFORE, explain_wire
 from operators.explain.operators import Shown
 from operators.explain.wire import Reading, Wire
@@ -21,7 +22,8 @@ LONG, MANY, USUAL = 300_000_000_000, 150_000, 120
 EARLIER, LATER = 2_000_000_000, 500_000_000
 # So many packets are read at once. What stands behind them tells whether a clock was set.
 AT_ONCE, AHEAD = 4096, 4096
-# A desk of more calls than this goes on without them: an undo of one of them isn't known then.
+# A desk of more calls than this, or with a revert, goes on without them: an undo or a revert of one of them isn't known
+# then.
 CALLS = 500
 
 
@@ -107,9 +109,10 @@ class Desk:
             if log.call(text.split(" "), int(seat)).startswith("ok "):
                 version = number if number is not None else version and version + 1
         rows, (calls, undone) = tuple(log.desk.shown(0)[:-1]), map(said_in, (log.done, log.undone))
-        if version is None or len(calls) + len(undone) > CALLS:
-            return Shown(moment, moment, rows, version, by=BEFORE), later
-        return Shown(moment, moment, rows, version, calls, undone, min(self.floor, len(calls)), BEFORE), later
+        shown = Shown(moment, moment, rows, version, calls, undone, min(self.floor, len(calls)), BEFORE)
+        if version is None or len(calls) + len(undone) > CALLS or has_reverts(shown):
+            shown = Shown(moment, moment, rows, version, by=BEFORE)
+        return shown, later
 
 
 def said_in(stack):

@@ -6,7 +6,7 @@ import dataclasses
 import re
 
 from operators.explain.comparing import Cursor
-from operators.explain.desks import calls_for, rows_of, with_firsts, without_firsts
+from operators.explain.desks import calls_for, has_reverts, rows_of, with_firsts, without_firsts
 from operators.explain.events import CALL, PAUSE, REPORT, RX, SHOWN, TICK
 from operators.explain.quick import QuickBridge
 from operators.packets import number, seq_of
@@ -65,8 +65,8 @@ class Run:
         # What the model sends from here on may come behind the end of the capture.
         self.tail = wire.end
         # Of a capture that begins in mid-call: by how much numbers of calls differ, the first numbers of streams, how
-        # many undos lead back to the beginning.
-        self.shown, self.shift, self.firsts, self.floor = shown, 0, {}, 0
+        # many undos lead back to the beginning, and the calls up to which number made the desk.
+        self.shown, self.shift, self.firsts, self.floor, self.made = shown, 0, {}, 0, 0
         # From here on what waited in buffers before such a capture no longer counts. Whether streams began before.
         self.settled, self.in_middle = shown.until + SETTLED if shown else 0, shown is not None
         # The numbers of the calls that the capture has. Since when the desk isn't known, because some are missing; and
@@ -90,16 +90,16 @@ class Run:
 
     def make(self, shown):
         """Makes the desk that was told."""
-        if shown.calls or shown.undone:
+        if (shown.calls or shown.undone) and not has_reverts(shown):
             self.make_again(shown)
             return
-        for call in calls_for(self.bridge.desk, shown.rows, self.firsts):
+        for call in calls_for(self.bridge.desk, rows_of(shown) or (), self.firsts):
             if self.say(f"desk 0 {call}", shown)[0].startswith("no "):
                 # What isn't the desk of a bridge is made as far as it can be.
                 for part in call.removeprefix("group ").split(" / "):
                     self.say(f"desk 0 {part}", shown)
         self.shift = None if shown.version is None else shown.version - self.bridge.version
-        self.floor = len(self.bridge.log.done)
+        self.floor, self.made = len(self.bridge.log.done), self.bridge.version
 
     def make_again(self, shown):
         """Makes the desk by the calls of its history, so that undo and redo know them."""
@@ -108,6 +108,7 @@ class Run:
         for _ in shown.undone:
             self.say(f"desk 0 undo {self.bridge.version}", shown)
         self.shift, self.floor = shown.version - self.bridge.version, shown.floor
+        self.made = self.bridge.version
 
     def see(self, shown):
         """Compares the model's desk with the one that was told. Where they differ, the model gets the bridge's."""
@@ -160,6 +161,12 @@ class Run:
                 self.lose(f"`{call.text}` takes back a call from before the capture", call.moment)
                 return
             words[1] = str(max(0, int(words[1]) - (self.shift or 0)))
+        if words[0] == "revert":
+            number = int(words[1]) - (self.shift or 0)
+            if call.number and number <= self.made:
+                self.lose(f"`{call.text}` takes back a call from before the capture", call.moment)
+                return
+            words[1] = str(number if number > self.made else 0)
         said = self.say(f"desk {min(call.seat, 15)} {' '.join(words)}", event)[0].split(" ")
         if call.number and said != ["ok", str(call.number - self.shift)]:
             self.lose(f"the bridge accepts `{call.text}`, which the model refuses ({' '.join(said)})", call.moment)
@@ -245,7 +252,9 @@ class Run:
     # Going through events
 
     def state(self):
-        fields = self.shift, self.floor, self.lost, self.unknown, self.in_middle, self.settled, self.is_script
+        fields = (
+            self.shift, self.floor, self.lost, self.unknown, self.in_middle, self.settled, self.is_script, self.made,
+        )  # fmt: skip
         return (
             self.bridge.state(), self.cursor.state(), len(self.done), +self.running, len(self.odd), dict(self.firsts),
             fields,
@@ -254,7 +263,8 @@ class Run:
     def go_back(self, state):
         bridge, cursor, done, running, odd, firsts, fields = state
         self.firsts = dict(firsts)
-        self.shift, self.floor, self.lost, self.unknown, self.in_middle, self.settled, self.is_script = fields
+        self.shift, self.floor, self.lost, self.unknown, self.in_middle, self.settled, *fields = fields
+        self.is_script, self.made = fields
         self.bridge.go_back(bridge)
         self.cursor.go_back(cursor)
         self.running = +running

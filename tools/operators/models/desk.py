@@ -2,7 +2,10 @@
 
 import copy
 
+from operators.models.reverts import MOST_PAST, base_of, in_force, is_far, is_idle, standing
+
 MOST_PARTS = 64
+TABLES = ("rooms", "members", "sources", "slots", "subs", "mutes", "gains", "pins", "floors")
 LIMITS = {"rooms": 64, "members": 1024, "sources": 2048, "slots": 4096, "gains": 65536, "room-audio": 64}
 # The clock rates of rooms, in Hz. A room for music has L16 alone.
 USUAL, MUSIC = 8000, 44100
@@ -20,6 +23,13 @@ class Desk:
         self.subs, self.mutes, self.gains, self.pins, self.floors = [], [], [], [], []
         # The SSRC of the bridge itself.
         self.bridge = 1
+
+    def copied(self):
+        """A desk with the same rows. A command puts a row in place of another one, and changes none."""
+        other = copy.copy(self)
+        for table in TABLES:
+            setattr(other, table, [*getattr(self, table)])
+        return other
 
     def one(self, table, **fields):
         """The first row with these fields, or None."""
@@ -109,14 +119,16 @@ class Desk:
         ]
 
     def carry_out(self, words):
-        """Carries a command out, or raises its refusal."""
+        """Carries a command out, or raises its refusal. Only what removes a row leaves others without what they
+        name."""
         COMMANDS[words[0]](self, *(int(word) if word.isdigit() else word for word in words[1:]))
-        self.sweep()
+        if words[0].startswith("remove-"):
+            self.sweep()
 
 
 def desk_after(desk, words):
     """The desk after a command or a group, or a refusal. The desk itself stays as it is."""
-    later = copy.deepcopy(desk)
+    later = desk.copied()
     if words[0] != "group":
         later.carry_out(words)
         return later
@@ -128,6 +140,19 @@ def desk_after(desk, words):
             later.carry_out(part)
         except Refused as why:
             raise Refused(f"20 PartRefused {number} {why}") from None
+    return later
+
+
+def desk_again(desk, calls):
+    """The desk after these calls are carried out again, or the conflict of the first that stands in the way."""
+    later = desk.copied()
+    for number, _, words in calls:
+        for place, part in enumerate(parts_of(words) if words[0] == "group" else [words]):
+            try:
+                later.carry_out(part)
+            except Refused as why:
+                if not is_idle(later, part, str(why)):
+                    raise Refused(f"25 Conflict {number} {place} {why}") from None
     return later
 
 
@@ -151,7 +176,8 @@ class Log:
             elif words[0] == "redo":
                 self.go_to(self.undone, self.done, int(words[1]), "16 NothingToRedo")
             else:
-                later = desk_after(self.desk, words)
+                revert = words[0] == "revert"
+                later = self.without(int(words[1])) if revert else desk_after(self.desk, words)
                 self.done.append(((self.version + 1, op, words), self.desk))
                 self.desk, self.undone = later, []
         except Refused as why:
@@ -169,9 +195,35 @@ class Log:
         other.append((made, self.desk))
         self.desk = before
 
+    def without(self, number):
+        """The desk as if the call of this number had never been made."""
+        calls = [made for made, _ in self.done]
+        refuse(all(made[0] != number for made in calls), "23 NotInForce")
+        refuse(is_far(calls, number), f"24 TooFar {MOST_PAST}")
+        refuse(all(made[0] != number for made in in_force(calls)), "23 NotInForce")
+        base = base_of(calls, number)
+        plan = {made[0] for made in in_force([*calls, (self.version + 1, 0, ["revert", str(number)])])}
+        again = [made for made in calls[base:] if made[0] in plan and made[2][0] != "revert"]
+        later = desk_again(self.done[base][1], again)
+        changed = set(standing(later)) ^ set(standing(self.desk))
+        if changed:
+            carried = {made[0] for made in again}
+            loose = [place for place in range(base, len(calls)) if calls[place][0] not in carried]
+            changed -= {row for place in loose for row in self.moved_by(place)}
+        for row in [*standing(self.desk), *standing(later)]:
+            refuse(row in changed, f"26 Elsewhere {row}")
+        return later
+
+    def moved_by(self, place):
+        """The rooms, members, sources and slots that a call which is done brought or took."""
+        after = self.done[place + 1][1] if place + 1 < len(self.done) else self.desk
+        return set(standing(self.done[place][1])) ^ set(standing(after))
+
     def history(self, most):
         """The lines of the last calls in force, and of the last that can be redone: at most so many of each."""
-        done, undone = last_lines(self.done, most), last_lines(self.undone, most)
+        kept = {made[0] for made in in_force([made for made, _ in self.done])}
+        done = last_lines([entry for entry in self.done if entry[0][0] in kept], most)
+        undone = last_lines(self.undone, most)
         return [*done, *(["undone", *undone] if undone else []), f"end {self.version}"]
 
 
@@ -293,7 +345,7 @@ def move_member(d, member, room):
     refuse_rate(d.rate_of(member) != d.rate_in(room))
     old, sources = d.room_of(member), {s["ssrc"] for s in d.sources if s["member"] == member}
     slots = {s["out"] for s in d.slots if s["member"] == member}
-    d.one("members", member=member)["room"] = room
+    d.members = [m | {"room": room} if m["member"] == member else m for m in d.members]
     d.floors = [f for f in d.floors if not (f["room"] == old and f["member"] == member)]
     d.pins = [p for p in d.pins if not (p["room"] == old and p["source"] in sources)]
     d.subs = [s for s in d.subs if (s["out"] in slots) == (s["source"] in sources)]

@@ -39,7 +39,7 @@ COMMANDS = {
     "give-floor": [U32, U32],
     "take-floor": [U32],
 }
-TURNS = {"undo": [U64], "redo": [U64]}
+TURNS = {"undo": [U64], "redo": [U64], "revert": [U64]}
 # The first line of a script, without calls and frames.
 SCRIPT = {
     "bridge": [U32, CNAME, ("renew",)],

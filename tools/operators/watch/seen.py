@@ -162,6 +162,8 @@ class Seen:
         log.desk.bridge = self.judge.ssrc
         for call in calls_for(log.desk, rows, {}):
             log.call(call.split(" "))
+        # Which calls made it isn't known: one that takes such a call back makes the desk unknown.
+        log.done, log.undone = [], []
         log.version, self.judge.log, self.is_known = version, log, True
         self.look_again()
 
