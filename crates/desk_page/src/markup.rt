@@ -104,7 +104,9 @@ pub(crate) const HTML_AFTER: &[u8] = br##"">
     </section>
   </aside>
 </main>
-<footer><p id="notice" role="status" hidden></p><button id="close-notice" type="button" hidden>Close</button>
+<footer><p id="notice" role="status" hidden></p>
+  <div class="buttons"><button id="show-call" type="button" data-act="show-call" hidden></button>
+    <button id="close-notice" type="button" hidden>Close</button></div>
   <p id="news" role="status"></p></footer>
 <dialog id="ask" aria-labelledby="ask-title"><form method="dialog"><h2 id="ask-title"></h2><p id="ask-text"></p>
   <label id="ask-label" hidden><span>Name</span> <input id="ask-input" autocomplete="off" dir="auto"></label>

@@ -150,6 +150,7 @@ const lines = {
   setGain: (member, source, q8) => `set-gain ${member} ${source} ${q8}`,
   undo: (version) => `undo ${version}`,
   redo: (version) => `redo ${version}`,
+  revert: (number) => `revert ${number}`,
   group: (parts) => `group ${parts.join(" / ")}`,
 };
 
@@ -210,13 +211,14 @@ const faults = {
   5: "a word is too many", 6: "that is no number, or out of range", 7: "that is no address, such as 127.0.0.1:6000",
 };
 
-// An answer of the bridge in words.
-function inWords(said) {
+// An answer of the bridge in words. `seen` is what the page knows: the names, the desk and the history.
+function inWords(said, seen = {}) {
   const word = said.split(" ");
   if (word[0] === "ok") return { good: true, text: `accepted as version ${word[1]}` };
   if (word[0] === "no") {
     const part = word[2] === "20" ? ` Command ${Number(word[4]) + 1} of it: ${advice[word[5]] ?? word[6]}.` : "";
-    return { good: false, text: `refused (${word.slice(2).join(" ")}): ${advice[word[2]] ?? word[3]}.${part}` };
+    const revert = againstRevert(seen, word.slice(2)), code = word.slice(2, revert ? 4 : undefined).join(" ");
+    return { good: false, text: `refused (${code}): ${revert ?? advice[word[2]] ?? word[3]}.${part}` };
   }
   if (word[0] === "fault") {
     return { good: false, text: `not understood (${said}): at word ${word[1]}, ${faults[word[2]] ?? word[3]}.` };
@@ -226,8 +228,8 @@ function inWords(said) {
 
 // A response of the page to a call, in words: 200 has the bridge's answer.
 const NO_SEAT = "The page needs a seat: set operators to one more in the bridge's settings.";
-function replyInWords(status, text) {
-  if (status === 200) return inWords(text);
+function replyInWords(status, text, seen) {
+  if (status === 200) return inWords(text, seen);
   if (text.startsWith("Busy")) {
     return { good: false, text: `all seats of the bridge are taken, so nothing was done. ${NO_SEAT}` };
   }
@@ -530,11 +532,11 @@ function objectsOfRow(row) {
   if (kind === "sub") return [`slot ${first}`];
   return [kind === "gain" ? `gain ${first} ${second}` : `${kind} ${first}`];
 }
-// The objects that a line is about. What an undo takes back may be anything.
+// The objects that a line is about. What an undo takes back may be anything; a revert names its call.
 const ABOUT = { "add-room": "room", "remove-room": "room", "add-member": "member", "move-member": "member",
   "remove-member": "member", "add-source": "source", "remove-source": "source", "add-slot": "slot",
   "remove-slot": "slot", subscribe: "slot", unsubscribe: "slot", pin: "pin", unpin: "pin", "give-floor": "floor",
-  "take-floor": "floor", mute: "source", unmute: "source", undo: "history", redo: "history" };
+  "take-floor": "floor", mute: "source", unmute: "source", undo: "history", redo: "history", revert: "call" };
 function objectsOfLine(line) {
   return line.replace(/^group /, "").split(" / ").map((part) => {
     const [verb, first, second] = part.split(" ");
@@ -621,15 +623,17 @@ function linkInWords(link, quiet, since) {
 // The history of calls, as the bridge tells it. No function touches the page.
 
 // The calls in force and those that can be redone, in the order of the text: each with its number, its operator and its
-// line. The last one in force is what an undo takes back, and the last undone one what a redo does again.
-function parseHistory(text) {
-  const past = { version: 0, done: [], undone: [] };
+// line. The last one in force is what an undo takes back, and the last undone one what a redo does again. The lines of
+// calls by their numbers are kept from the history before, for what its reverts took back is left out.
+function parseHistory(text, before = null) {
+  const past = { version: 0, done: [], undone: [], known: new Map() };
   let calls = past.done;
   for (const line of text.split("\n")) {
     if (line === "undone") calls = past.undone;
     else if (line.startsWith("end ")) past.version = Number(line.slice(4));
     else if (line !== "") calls.push(callIn(line));
   }
+  past.known = knownLines(past, before?.known ?? new Map());
   return past;
 }
 function callIn(text) {
@@ -637,15 +641,58 @@ function callIn(text) {
   return { number: Number(number), operator: Number(operator), line: text.slice(number.length + operator.length + 2) };
 }
 
+// The number of the call that a line takes back alone, or null.
+function revertedBy(line) { return /^revert [0-9]+$/.test(line ?? "") ? Number(line.slice(7)) : null; }
+
+// The lines of a history by their numbers, and the earlier ones of calls that its reverts took back. Where a number has
+// another line than before, it is another bridge's, and no earlier line counts.
+function knownLines(past, before) {
+  const calls = [...past.done, ...past.undone], known = new Map(calls.map(({ number, line }) => [number, line]));
+  if (calls.some(({ number, line }) => (before.get(number) ?? line) !== line)) return known;
+  // What is found here is looked through, too: a revert may have taken a revert back.
+  for (const line of known.values()) {
+    const number = revertedBy(line);
+    if (before.has(number) && !known.has(number)) known.set(number, before.get(number));
+  }
+  return known;
+}
+
+// The call that is out of force or back in it by a revert: the revert of a revert brings its call back.
+function turnedBy(known, line) {
+  const number = revertedBy(line), next = revertedBy(known.get(number));
+  // A revert names an earlier call, so this ends.
+  if (next === null || next >= number) return { number, isBack: false };
+  const { number: last, isBack } = turnedBy(known, known.get(number));
+  return { number: last, isBack: !isBack };
+}
+
 // Which words of a command are a room, a member or a source.
 const OBJECTS = { "add-room": "r", "remove-room": "r", "add-member": "mr", "move-member": "mr", "remove-member": "m",
   "add-source": "sm", "remove-source": "s", "add-slot": "-m", subscribe: "-s", pin: "rs", unpin: "r",
   "give-floor": "rm", "take-floor": "r", mute: "s", unmute: "s", "set-gain": "ms" };
-const SHORT_NAME = 24;
+const SHORT_NAME = 24, SHORT_WORDS = 32;
 
 // A call's line in which objects have their names: "mute Bob (202)". A name stands by itself, since it may run from
-// right to left.
-function worded(names, desk, line) {
+// right to left. A revert says what it did: "reverted mute Bob (202)".
+const TURNS = ["reverted", "brought back"], THINGS = ["the revert of", "the return of"];
+function worded(names, desk, line, known = new Map(), [reverted, back] = TURNS) {
+  if (revertedBy(line) === null) return namedLine(names, desk, line);
+  const { number, isBack } = turnedBy(known, line), last = known.get(number) ?? line;
+  const what = revertedBy(last) === null ? namedLine(names, desk, last) : `call ${number}`;
+  return `${isBack ? back : reverted} ${what}`;
+}
+// A call by its number, as something that can be taken back: "mute Bob (202)", "the revert of mute Bob (202)". The
+// page may not know its line, since a history leaves out what was reverted.
+function callWords(names, desk, number, known) {
+  return known.has(number) ? worded(names, desk, known.get(number), known, THINGS) : `call ${number}`;
+}
+// The beginning of long words. A name that is cut still stands by itself.
+function begun(words) {
+  const letters = [...words], kept = letters.slice(0, SHORT_WORDS).join("");
+  const isOpen = kept.lastIndexOf("\u2068") > kept.lastIndexOf("\u2069");
+  return letters.length > SHORT_WORDS ? `${kept}${isOpen ? "\u2069" : ""}\u2026` : words;
+}
+function namedLine(names, desk, line) {
   const group = line.startsWith("group ") ? "group " : "";
   return group + line.slice(group.length).split(" / ").map((part) => namedPart(names, desk, part)).join(" / ");
 }
@@ -661,10 +708,14 @@ function namedWord(names, desk, kind, word) {
   return name ? labelled(`\u2068${name}\u2069`, word) : word;
 }
 
-// What leads to the desk right behind a call: the undos that take back the calls after it, or the redos up to it.
+// What leads to the desk right behind a call: the undos that take back the calls after it, or the redos up to it. A
+// call that was reverted is undone behind its revert, though the history leaves it out.
 function wayTo(past, number) {
-  const place = past.done.findIndex((one) => one.number === number);
-  if (place >= 0) return { word: "undo", calls: past.done.slice(place + 1).reverse() };
+  if (past.done.some((one) => one.number === number)) {
+    const numbers = new Set(past.done.flatMap((one) => [one.number, revertedBy(one.line) ?? one.number]));
+    const later = [...numbers].filter((one) => one > number).sort((a, b) => b - a);
+    return { word: "undo", calls: later.map((one) => ({ number: one })) };
+  }
   const undone = past.undone.findIndex((one) => one.number === number);
   return undone < 0 ? null : { word: "redo", calls: past.undone.slice(undone).reverse() };
 }
@@ -674,11 +725,43 @@ function wayWords({ word, calls }, isLast) {
   return `${many} to the desk right behind it: ${calls.map(({ number }) => number).join(", ")}.`;
 }
 
+// What a later command lacks without the call that was to be reverted, by the number of its refusal.
+const LACKS = { 1: "what it adds would be there already", 2: "no such room", 3: "no such member", 4: "no such source",
+  5: "no such slot", 6: "the source would be of the other kind", 7: "they would be in two rooms",
+  8: "the SSRC would be used", 12: "the table would be full", 21: "the room would have another rate" };
+// Why a revert is refused, in words, by the words of the refusal from its number on; or undefined.
+function againstRevert(seen, [refusal, , ...more]) {
+  if (refusal === "23") return "it isn't in force any more";
+  if (refusal === "24") return `it lies too far back: over ${more[0]} commands came since`;
+  if (refusal === "25") return needing(seen, ...more);
+  return refusal === "26" ? elsewhere(seen, ...more) : undefined;
+}
+// The call that stands in the way of a revert, by the answer to it; or null.
+function callInTheWay(said) {
+  const found = /^no [0-9]+ 25 Conflict ([0-9]+) /.exec(said);
+  return found && Number(found[1]);
+}
+function needing({ names, desk, past }, call, part, refusal, name) {
+  const made = past?.done.find(({ number }) => number === Number(call)), why = LACKS[refusal] ?? name;
+  if (!made) return `call ${call} needs it (${why})`;
+  const isGroup = made.line.startsWith("group "), parts = made.line.replace(/^group /, "").split(" / ");
+  const words = `${namedLine(names, desk, parts[Number(part)] ?? made.line)}${isGroup ? " in a group" : ""}`;
+  return `call ${call}, ${words} by operator ${made.operator}, needs it (${why})`;
+}
+function elsewhere({ names, desk }, kind, word) {
+  if (!desk) return `it would also change whether ${kind} ${word} is there`;
+  const what = `${kind} ${namedWord(names, desk, { room: "r", member: "m", source: "s" }[kind], word)}`;
+  const rows = { room: desk.rates, member: by(desk.members, kind), source: by(desk.sources, "ssrc"),
+    slot: by(desk.slots, "ssrc") }[kind];
+  return rows?.has(Number(word)) ? `it would also take ${what} out` : `it would also bring ${what} back`;
+}
+
 if (typeof module !== "undefined") {
   module.exports = {
     memberLine, roomLine, overview, parseNames, renamed, labelled, sourceName, cut, grouped, toggled, othersMuted,
     movedAll, goesAlong, changedRooms, nameRefusal, parseDesk, isMusic, roomsFor, codecOf, seen, videosFor, heard,
-    lines, dropped, free, suggested, inWords, replyInWords, parseHistory, worded, wayTo, wayWords,
+    lines, dropped, free, suggested, inWords, replyInWords, parseHistory, worded, callWords, begun, wayTo, wayWords,
+    callInTheWay,
     changes, keptText, groupsIn, parseStats, agoInWords, isSilent, isLossy, countOf, countInWords, turnedRooms,
     strangersIn, objectsOfRow, objectsOfLine, othersObjects, placeChanges, inOldPlaces, troubleOf, tallyOf, isCounted,
     linkOf, linkInWords };

@@ -257,14 +257,22 @@ function strangerItem({ model: { address, ssrc, type, packets, member, isElsewhe
     isElsewhere || hasLeft ? "" : does("Add as a source", "take-stranger", ssrc, `${ssrc} from ${address}`));
 }
 
-// A call of the history, and below the one that is clicked what leads to it.
-function callItem({ model: { number, operator, text, isUndone, isWalked, isOnWay, way, hasLeft } }) {
+// A call of the history, and below the one that is clicked how it is taken back alone, and what leads to it.
+function callItem({ model: { number, operator, text, isUndone, isWalked, isOnWay, way, revert, hasLeft } }) {
   return el("li", { class: `${isUndone ? "undone" : ""}${isOnWay ? " way" : ""}${hasLeft ? " left" : ""}` },
     el("button", { type: "button", class: "call", "data-act": "walk", "data-of": number, "data-key": `walk ${number}`,
       "aria-label": `${text} version ${number}`, "aria-expanded": String(isWalked) }, code(text)),
     soft(`${isUndone ? "undone, " : ""}version ${number}, operator ${operator}`),
-    isWalked ? el("div", { class: "row" }, el("span", { class: "soft grow" }, way.text),
+    isWalked ? el("div", { class: "row" }, revert ? revertButton(number, operator, revert) : "",
+      el("span", { class: "soft grow" }, way.text),
       way.count ? does(way.label, "go", number, `to the desk behind version ${number}`) : "") : "");
+}
+// Takes one call back, and disturbs nobody. Of a long call the beginning is shown, and whose it is.
+function revertButton(number, operator, what) {
+  const line = lines.revert(number), whose = `, by operator ${operator}`;
+  return el("button", { type: "button", class: "small revert", title: line, "data-key": line, "data-line": line,
+    "data-words": `Revert: ${begun(what)}`, "aria-label": `Revert: ${what}${whose}, version ${number}`,
+    "aria-busy": busy(line) }, el("span", {}, `Revert: ${what}`), whose);
 }
 function wayOf(way) {
   const count = way.calls.length, word = way.word === "undo" ? "Undo" : "Redo";
@@ -285,15 +293,19 @@ const mine = new Set(), touchedAt = new Map(), freshAt = new Map();
 let pressed = null, fading = null, newsFading = null;
 let token = document.querySelector('meta[name="desk-token"]').content;
 
-// What became of the last press. A success fades, a refusal stays until it is closed.
-function notice(text, good) {
+// What became of the last press. A success fades, a refusal stays until it is closed. Where a call of the history is
+// why, a button leads to it.
+function notice(text, good, why = null) {
   at("notice").textContent = at("notice").title = text;
   at("notice").className = good ? "good" : "";
   at("notice").hidden = at("close-notice").hidden = false;
+  at("show-call").hidden = !past?.done.some(({ number }) => number === why);
+  at("show-call").dataset.of = why;
+  at("show-call").textContent = `Show call ${why}`;
   clearTimeout(fading);
   if (good) fading = setTimeout(closeNotice, FADES);
 }
-function closeNotice() { at("notice").hidden = at("close-notice").hidden = true; }
+function closeNotice() { at("notice").hidden = at("close-notice").hidden = at("show-call").hidden = true; }
 
 // What others did.
 function tellNews(text) {
@@ -338,17 +350,17 @@ async function call(line, words = line, key = pressed) {
     notice(`${words}: not sent. ${why}`);
     return 0;
   }
-  if (at("collect").checked && !/^(undo|redo|group) /.test(line)) return collect(line);
+  if (at("collect").checked && !/^(undo|redo|revert|group) /.test(line)) return collect(line);
   const control = key ?? `line ${line} ${performance.now()}`;
   waitsFor(control, line);
   const slow = setTimeout(() => notice(`${words}: sent, no answer yet.`), SLOW);
   let version = 0;
   try {
     const reply = await post("/call", line);
-    const said = (await reply.text()).trim(), { good, text } = replyInWords(reply.status, said);
+    const said = (await reply.text()).trim(), { good, text } = replyInWords(reply.status, said, { names, desk, past });
     if (good) version = Number(said.split(" ")[1]);
     if (version) mine.add(version);
-    notice(said.startsWith("NoToken") ? `${words}: ${ANEW}` : `${words}: ${text}`, good);
+    notice(said.startsWith("NoToken") ? `${words}: ${ANEW}` : `${words}: ${text}`, good, callInTheWay(said));
   } catch {
     notice(`${words}: no answer came. It may have been done: look at the desk before you press again.`);
   }
@@ -362,8 +374,8 @@ async function call(line, words = line, key = pressed) {
 async function goes({ word, calls }) {
   const name = word === "undo" ? "Undo" : "Redo";
   let version = past.version;
-  for (const { line } of calls) {
-    if (version) version = await call(`${word} ${version}`, `${name}: ${worded(names, desk, line)}`, null);
+  for (const { number } of calls) {
+    if (version) version = await call(`${word} ${version}`, `${name}: ${saidOf(number)}`, null);
   }
 }
 
@@ -459,6 +471,17 @@ function question(title, text, yes, value = null) {
   });
 }
 
+// A call of the history as something that is taken back or done again.
+const saidOf = (number) => callWords(names, desk, number, past?.known ?? new Map());
+// Unfolds a call of the history, and goes there.
+function showCall(number) {
+  walked = number;
+  renderHistory();
+  const node = at("calls").querySelector(`[data-key="walk ${number}"]`);
+  node?.scrollIntoView({ block: "nearest" });
+  node?.focus();
+}
+
 const pickedVoices = (muted) => voicesOf(desk, [...picked], muted);
 const sourceLabel = (ssrc) => labelled(sourceName(names, desk, ssrc), ssrc);
 
@@ -472,6 +495,7 @@ const acts = {
   close: () => { opened = null; render(); },
   "take-stranger": (of) => fillSource(Number(of)),
   walk: (of) => { walked = walked === Number(of) ? null : Number(of); renderHistory(); },
+  "show-call": (of) => showCall(Number(of)),
   go: (of) => { const way = past && wayTo(past, Number(of)); if (way) goes(way); },
   fold: (of) => { folded.set(Number(of), !isFolded(Number(of))); render(null, true, true); },
   filter: (of) => { filter = filter === of ? "" : of; lastFit.clear(); render(null, true, true); },
@@ -495,7 +519,7 @@ const acts = {
   "remove-room": async (of) => {
     const room = Number(of);
     if (membersIn(desk, room).length > FEW_MEMBERS && !at("collect").checked) {
-      const text = `${goesAlong(desk, room)} go along. Undo brings all of it back, until something else is changed.`;
+      const text = `${goesAlong(desk, room)} go along. Undo brings all of it back, and Revert in the history later on.`;
       const what = spoken(nameOf(names, "room", room), "room", room);
       if (await question(`Remove ${what}?`, text, "Remove") === null) return;
     }
@@ -658,7 +682,7 @@ async function takeHistory() {
   const reply = await get("/history.txt");
   if (!reply.ok) return;
   const before = past;
-  past = parseHistory(await reply.text());
+  past = parseHistory(await reply.text(), past);
   if (before) tellOthers(before);
   renderHistory();
 }
@@ -673,8 +697,8 @@ function tellOthers(before) {
   const more = count > 1 ? `, and ${count - 1} more` : "", last = fresh[fresh.length - 1];
   const is = past.undone.length > before.undone.length ? "undid" : "did again";
   const [taken] = (is === "undid" ? past.undone : past.done).slice(-1);
-  if (last) tellNews(`operator ${last.operator}: ${worded(names, desk, last.line)}${more}`);
-  else if (taken) tellNews(`another operator ${is}: ${worded(names, desk, taken.line)}${more}`);
+  if (last) tellNews(`operator ${last.operator}: ${worded(names, desk, last.line, past.known)}${more}`);
+  else if (taken) tellNews(`another operator ${is}: ${saidOf(taken.number)}${more}`);
 }
 
 
@@ -867,7 +891,7 @@ function renderSum() {
 
 // Undo and Redo name the call that they take. Their line has the version at which that is so.
 function button(id, word, top) {
-  const text = top ? `${word}: ${worded(names, desk, top.line)}` : word, line = past ? `${id} ${past.version}` : "";
+  const text = top ? `${word}: ${saidOf(top.number)}` : word, line = past ? `${id} ${past.version}` : "";
   if (at(id).textContent !== text) at(id).textContent = text;
   at(id).title = top ? `${text} (${line})` : past ? `there is nothing to ${id}` : "";
   at(id).disabled = !top;
@@ -954,12 +978,23 @@ function renderHistory() {
   button("undo", "Undo", last(past?.done));
   button("redo", "Redo", last(past?.undone));
   const way = past && walked !== null ? wayTo(past, walked) : null, passed = way?.calls.map((one) => one.number) ?? [];
-  const item = (one, isUndone) => ({ key: one.number, model: { number: one.number, operator: one.operator, isUndone,
-    text: worded(names, desk, one.line), isWalked: one.number === walked && way !== null,
-    isOnWay: passed.includes(one.number), way: one.number === walked && way ? wayOf(way) : null } });
+  const item = (one, isUndone) => {
+    const isWalked = one.number === walked && way !== null, canRevert = isWalked && !isUndone && passed.length > 0;
+    return { key: one.number, model: { number: one.number, operator: one.operator, isUndone, isWalked,
+      text: worded(names, desk, one.line, past.known), isOnWay: passed.includes(one.number),
+      way: isWalked ? wayOf(way) : null, revert: canRevert ? saidOf(one.number) : null } };
+  };
   const undone = (past?.undone ?? []).map((one) => item(one, true));
   at("no-calls").hidden = !past || past.done.length + past.undone.length > 0;
+  const row = document.activeElement?.closest("#calls li"), others = row ? besides([...at("calls").children], row) : [];
   drawHeld(at("calls"), [...undone, ...(past?.done ?? []).map((one) => item(one, false)).reverse()], callItem);
+  // Where a call goes, as a revert takes it, the focus goes to the one after it, or else before it.
+  if (row && !row.isConnected) others.find((one) => one.isConnected)?.querySelector("button").focus();
+}
+// The rows after a row of a list, and then those before it, from the nearest one on.
+function besides(rows, row) {
+  const place = rows.indexOf(row);
+  return [...rows.slice(place + 1), ...rows.slice(0, place).reverse()];
 }
 function renderForms() {
   const rooms = desk.rooms.map(roomOption);
@@ -996,8 +1031,7 @@ function render(changed = null, hasForms = true, isAsked = false) {
 function heirsOf(node) {
   const row = node?.closest?.("#board .member");
   if (!row) return node?.closest?.("#board, #detail") ? ["open " + [...here.values()].pop()] : [];
-  const rows = [...document.querySelectorAll("#board .member")], place = rows.indexOf(row);
-  const others = [...rows.slice(place + 1), ...rows.slice(0, place).reverse()].slice(0, 64);
+  const others = besides([...document.querySelectorAll("#board .member")], row).slice(0, 64);
   return others.map((one) => `open ${one.dataset.member}`);
 }
 
@@ -1017,7 +1051,7 @@ document.addEventListener("click", (event) => {
     picked[node.checked ? "add" : "delete"](Number(node.dataset.select));
     render();
   } else presses(node.dataset.key, () => {
-    if (node.dataset.line) call(node.dataset.line);
+    if (node.dataset.line) call(node.dataset.line, node.dataset.words);
     else acts[node.dataset.act](node.dataset.of);
   });
 });

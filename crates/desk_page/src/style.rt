@@ -54,6 +54,7 @@ footer p { margin: 0; font-size: .9em; line-height: 1.15rem; max-height: 2.3rem;
   overflow-wrap: anywhere; }
 #notice { padding-left: .6rem; border-left: 4px solid var(--bad); }
 #notice.good { border-color: var(--good); }
+footer .buttons { grid-column: 2; grid-row: 1; display: flex; gap: .3rem; }
 #news { grid-column: 3; color: var(--soft); }
 main { display: grid; grid-template-columns: minmax(0, 1fr) 23rem; gap: 1rem; padding: .2rem 1rem 3.4rem; }
 #board { display: grid; gap: .5rem; }
@@ -145,6 +146,9 @@ input[type="range"] { width: 8rem; padding: 0; }
 code { font: .92em ui-monospace, "DejaVu Sans Mono", monospace; }
 .undone code { text-decoration: line-through; color: var(--soft); }
 #calls .way { background: var(--odd); }
+#calls .row { display: grid; grid-template-columns: minmax(0, 1fr); gap: .15rem; justify-items: start; }
+button.revert { display: flex; align-items: center; white-space: nowrap; }
+.revert > span { overflow: hidden; text-overflow: ellipsis; }
 button.call { display: block; border: 0; background: none; padding: 0; text-align: left; width: 100%; }
 .hint { color: var(--soft); font-size: .88em; margin: .3rem 0; }
 .keys { display: grid; grid-template-columns: auto 1fr; gap: .1rem .8rem; margin: 0; font-size: .88em; }
@@ -193,6 +197,8 @@ dialog p, dialog h2 { overflow-wrap: anywhere; }
   .head .held { display: none; }
   footer { height: 3.6rem; grid-template-columns: minmax(0, 1fr) auto; padding: 0 .4rem; }
   footer p { max-height: 3.4rem; }
+  footer .buttons { flex-direction: column; gap: 1px; }
+  footer .buttons button { padding: 0 .5rem; white-space: nowrap; }
   #news { grid-column: 1 / -1; grid-row: 1; }
   #notice:not([hidden]) ~ #news { display: none; }
   #detail { bottom: 3.6rem; }

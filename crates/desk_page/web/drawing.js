@@ -2,7 +2,7 @@
 
 // Undo and Redo name the call that they take. Their line has the version at which that is so.
 function button(id, word, top) {
-  const text = top ? `${word}: ${worded(names, desk, top.line)}` : word, line = past ? `${id} ${past.version}` : "";
+  const text = top ? `${word}: ${saidOf(top.number)}` : word, line = past ? `${id} ${past.version}` : "";
   if (at(id).textContent !== text) at(id).textContent = text;
   at(id).title = top ? `${text} (${line})` : past ? `there is nothing to ${id}` : "";
   at(id).disabled = !top;
@@ -89,12 +89,23 @@ function renderHistory() {
   button("undo", "Undo", last(past?.done));
   button("redo", "Redo", last(past?.undone));
   const way = past && walked !== null ? wayTo(past, walked) : null, passed = way?.calls.map((one) => one.number) ?? [];
-  const item = (one, isUndone) => ({ key: one.number, model: { number: one.number, operator: one.operator, isUndone,
-    text: worded(names, desk, one.line), isWalked: one.number === walked && way !== null,
-    isOnWay: passed.includes(one.number), way: one.number === walked && way ? wayOf(way) : null } });
+  const item = (one, isUndone) => {
+    const isWalked = one.number === walked && way !== null, canRevert = isWalked && !isUndone && passed.length > 0;
+    return { key: one.number, model: { number: one.number, operator: one.operator, isUndone, isWalked,
+      text: worded(names, desk, one.line, past.known), isOnWay: passed.includes(one.number),
+      way: isWalked ? wayOf(way) : null, revert: canRevert ? saidOf(one.number) : null } };
+  };
   const undone = (past?.undone ?? []).map((one) => item(one, true));
   at("no-calls").hidden = !past || past.done.length + past.undone.length > 0;
+  const row = document.activeElement?.closest("#calls li"), others = row ? besides([...at("calls").children], row) : [];
   drawHeld(at("calls"), [...undone, ...(past?.done ?? []).map((one) => item(one, false)).reverse()], callItem);
+  // Where a call goes, as a revert takes it, the focus goes to the one after it, or else before it.
+  if (row && !row.isConnected) others.find((one) => one.isConnected)?.querySelector("button").focus();
+}
+// The rows after a row of a list, and then those before it, from the nearest one on.
+function besides(rows, row) {
+  const place = rows.indexOf(row);
+  return [...rows.slice(place + 1), ...rows.slice(0, place).reverse()];
 }
 function renderForms() {
   const rooms = desk.rooms.map(roomOption);
@@ -131,7 +142,6 @@ function render(changed = null, hasForms = true, isAsked = false) {
 function heirsOf(node) {
   const row = node?.closest?.("#board .member");
   if (!row) return node?.closest?.("#board, #detail") ? ["open " + [...here.values()].pop()] : [];
-  const rows = [...document.querySelectorAll("#board .member")], place = rows.indexOf(row);
-  const others = [...rows.slice(place + 1), ...rows.slice(0, place).reverse()].slice(0, 64);
+  const others = besides([...document.querySelectorAll("#board .member")], row).slice(0, 64);
   return others.map((one) => `open ${one.dataset.member}`);
 }

@@ -14,7 +14,7 @@ document.addEventListener("click", (event) => {
     picked[node.checked ? "add" : "delete"](Number(node.dataset.select));
     render();
   } else presses(node.dataset.key, () => {
-    if (node.dataset.line) call(node.dataset.line);
+    if (node.dataset.line) call(node.dataset.line, node.dataset.words);
     else acts[node.dataset.act](node.dataset.of);
   });
 });

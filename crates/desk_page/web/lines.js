@@ -145,6 +145,7 @@ const lines = {
   setGain: (member, source, q8) => `set-gain ${member} ${source} ${q8}`,
   undo: (version) => `undo ${version}`,
   redo: (version) => `redo ${version}`,
+  revert: (number) => `revert ${number}`,
   group: (parts) => `group ${parts.join(" / ")}`,
 };
 
@@ -205,13 +206,14 @@ const faults = {
   5: "a word is too many", 6: "that is no number, or out of range", 7: "that is no address, such as 127.0.0.1:6000",
 };
 
-// An answer of the bridge in words.
-function inWords(said) {
+// An answer of the bridge in words. `seen` is what the page knows: the names, the desk and the history.
+function inWords(said, seen = {}) {
   const word = said.split(" ");
   if (word[0] === "ok") return { good: true, text: `accepted as version ${word[1]}` };
   if (word[0] === "no") {
     const part = word[2] === "20" ? ` Command ${Number(word[4]) + 1} of it: ${advice[word[5]] ?? word[6]}.` : "";
-    return { good: false, text: `refused (${word.slice(2).join(" ")}): ${advice[word[2]] ?? word[3]}.${part}` };
+    const revert = againstRevert(seen, word.slice(2)), code = word.slice(2, revert ? 4 : undefined).join(" ");
+    return { good: false, text: `refused (${code}): ${revert ?? advice[word[2]] ?? word[3]}.${part}` };
   }
   if (word[0] === "fault") {
     return { good: false, text: `not understood (${said}): at word ${word[1]}, ${faults[word[2]] ?? word[3]}.` };
@@ -221,8 +223,8 @@ function inWords(said) {
 
 // A response of the page to a call, in words: 200 has the bridge's answer.
 const NO_SEAT = "The page needs a seat: set operators to one more in the bridge's settings.";
-function replyInWords(status, text) {
-  if (status === 200) return inWords(text);
+function replyInWords(status, text, seen) {
+  if (status === 200) return inWords(text, seen);
   if (text.startsWith("Busy")) {
     return { good: false, text: `all seats of the bridge are taken, so nothing was done. ${NO_SEAT}` };
   }

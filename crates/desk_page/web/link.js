@@ -126,7 +126,7 @@ async function takeHistory() {
   const reply = await get("/history.txt");
   if (!reply.ok) return;
   const before = past;
-  past = parseHistory(await reply.text());
+  past = parseHistory(await reply.text(), past);
   if (before) tellOthers(before);
   renderHistory();
 }
@@ -141,6 +141,6 @@ function tellOthers(before) {
   const more = count > 1 ? `, and ${count - 1} more` : "", last = fresh[fresh.length - 1];
   const is = past.undone.length > before.undone.length ? "undid" : "did again";
   const [taken] = (is === "undid" ? past.undone : past.done).slice(-1);
-  if (last) tellNews(`operator ${last.operator}: ${worded(names, desk, last.line)}${more}`);
-  else if (taken) tellNews(`another operator ${is}: ${worded(names, desk, taken.line)}${more}`);
+  if (last) tellNews(`operator ${last.operator}: ${worded(names, desk, last.line, past.known)}${more}`);
+  else if (taken) tellNews(`another operator ${is}: ${saidOf(taken.number)}${more}`);
 }

@@ -12,15 +12,19 @@ const mine = new Set(), touchedAt = new Map(), freshAt = new Map();
 let pressed = null, fading = null, newsFading = null;
 let token = document.querySelector('meta[name="desk-token"]').content;
 
-// What became of the last press. A success fades, a refusal stays until it is closed.
-function notice(text, good) {
+// What became of the last press. A success fades, a refusal stays until it is closed. Where a call of the history is
+// why, a button leads to it.
+function notice(text, good, why = null) {
   at("notice").textContent = at("notice").title = text;
   at("notice").className = good ? "good" : "";
   at("notice").hidden = at("close-notice").hidden = false;
+  at("show-call").hidden = !past?.done.some(({ number }) => number === why);
+  at("show-call").dataset.of = why;
+  at("show-call").textContent = `Show call ${why}`;
   clearTimeout(fading);
   if (good) fading = setTimeout(closeNotice, FADES);
 }
-function closeNotice() { at("notice").hidden = at("close-notice").hidden = true; }
+function closeNotice() { at("notice").hidden = at("close-notice").hidden = at("show-call").hidden = true; }
 
 // What others did.
 function tellNews(text) {
@@ -65,17 +69,17 @@ async function call(line, words = line, key = pressed) {
     notice(`${words}: not sent. ${why}`);
     return 0;
   }
-  if (at("collect").checked && !/^(undo|redo|group) /.test(line)) return collect(line);
+  if (at("collect").checked && !/^(undo|redo|revert|group) /.test(line)) return collect(line);
   const control = key ?? `line ${line} ${performance.now()}`;
   waitsFor(control, line);
   const slow = setTimeout(() => notice(`${words}: sent, no answer yet.`), SLOW);
   let version = 0;
   try {
     const reply = await post("/call", line);
-    const said = (await reply.text()).trim(), { good, text } = replyInWords(reply.status, said);
+    const said = (await reply.text()).trim(), { good, text } = replyInWords(reply.status, said, { names, desk, past });
     if (good) version = Number(said.split(" ")[1]);
     if (version) mine.add(version);
-    notice(said.startsWith("NoToken") ? `${words}: ${ANEW}` : `${words}: ${text}`, good);
+    notice(said.startsWith("NoToken") ? `${words}: ${ANEW}` : `${words}: ${text}`, good, callInTheWay(said));
   } catch {
     notice(`${words}: no answer came. It may have been done: look at the desk before you press again.`);
   }
@@ -89,8 +93,8 @@ async function call(line, words = line, key = pressed) {
 async function goes({ word, calls }) {
   const name = word === "undo" ? "Undo" : "Redo";
   let version = past.version;
-  for (const { line } of calls) {
-    if (version) version = await call(`${word} ${version}`, `${name}: ${worded(names, desk, line)}`, null);
+  for (const { number } of calls) {
+    if (version) version = await call(`${word} ${version}`, `${name}: ${saidOf(number)}`, null);
   }
 }
 
@@ -186,6 +190,17 @@ function question(title, text, yes, value = null) {
   });
 }
 
+// A call of the history as something that is taken back or done again.
+const saidOf = (number) => callWords(names, desk, number, past?.known ?? new Map());
+// Unfolds a call of the history, and goes there.
+function showCall(number) {
+  walked = number;
+  renderHistory();
+  const node = at("calls").querySelector(`[data-key="walk ${number}"]`);
+  node?.scrollIntoView({ block: "nearest" });
+  node?.focus();
+}
+
 const pickedVoices = (muted) => voicesOf(desk, [...picked], muted);
 const sourceLabel = (ssrc) => labelled(sourceName(names, desk, ssrc), ssrc);
 
@@ -199,6 +214,7 @@ const acts = {
   close: () => { opened = null; render(); },
   "take-stranger": (of) => fillSource(Number(of)),
   walk: (of) => { walked = walked === Number(of) ? null : Number(of); renderHistory(); },
+  "show-call": (of) => showCall(Number(of)),
   go: (of) => { const way = past && wayTo(past, Number(of)); if (way) goes(way); },
   fold: (of) => { folded.set(Number(of), !isFolded(Number(of))); render(null, true, true); },
   filter: (of) => { filter = filter === of ? "" : of; lastFit.clear(); render(null, true, true); },
@@ -222,7 +238,7 @@ const acts = {
   "remove-room": async (of) => {
     const room = Number(of);
     if (membersIn(desk, room).length > FEW_MEMBERS && !at("collect").checked) {
-      const text = `${goesAlong(desk, room)} go along. Undo brings all of it back, until something else is changed.`;
+      const text = `${goesAlong(desk, room)} go along. Undo brings all of it back, and Revert in the history later on.`;
       const what = spoken(nameOf(names, "room", room), "room", room);
       if (await question(`Remove ${what}?`, text, "Remove") === null) return;
     }

@@ -17,11 +17,11 @@ function objectsOfRow(row) {
   if (kind === "sub") return [`slot ${first}`];
   return [kind === "gain" ? `gain ${first} ${second}` : `${kind} ${first}`];
 }
-// The objects that a line is about. What an undo takes back may be anything.
+// The objects that a line is about. What an undo takes back may be anything; a revert names its call.
 const ABOUT = { "add-room": "room", "remove-room": "room", "add-member": "member", "move-member": "member",
   "remove-member": "member", "add-source": "source", "remove-source": "source", "add-slot": "slot",
   "remove-slot": "slot", subscribe: "slot", unsubscribe: "slot", pin: "pin", unpin: "pin", "give-floor": "floor",
-  "take-floor": "floor", mute: "source", unmute: "source", undo: "history", redo: "history" };
+  "take-floor": "floor", mute: "source", unmute: "source", undo: "history", redo: "history", revert: "call" };
 function objectsOfLine(line) {
   return line.replace(/^group /, "").split(" / ").map((part) => {
     const [verb, first, second] = part.split(" ");
