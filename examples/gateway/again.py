@@ -6,7 +6,6 @@ member is its own. The new call gets the member's number and its room. Its SSRCs
 """
 
 import hmac
-import itertools
 import time
 import typing
 
@@ -96,7 +95,7 @@ def address_of(tags):
 def opened_by(history, numbers):
     """The rooms that groups of a gateway have added, by a desk's history: each with its first member's number."""
     found = {}
-    for line in itertools.takewhile(lambda one: one != "undone", history):
+    for line in history:
         first, _, rest = line.partition(" / ")
         words, more = first.split(" ")[2:], rest.split(" ")
         if words[:2] == ["group", "add-room"] and more[0] == "add-member" and int(more[1]) in numbers:

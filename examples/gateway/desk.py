@@ -1,6 +1,7 @@
 """The desk of the bridge: the agent's seat, the desk's rows, and its refusals in words."""
 
 import contextlib
+import itertools
 import socket
 import threading
 
@@ -84,7 +85,8 @@ class Desk:
 
     def history(self, most):
         """The last calls in force."""
-        return self.ask(f"history {most}", lambda said: said.startswith("end "))[:-1]
+        lines = self.ask(f"history {most}", lambda said: said.startswith("end "))[:-1]
+        return list(itertools.takewhile(lambda line: line != "undone", lines))
 
     def rows(self):
         return Rows(self.ask("show", lambda said: said.startswith("end ")))

@@ -187,9 +187,20 @@ class PhoneCalls:
 
     def last_mute(self, ssrc):
         """The call of the desk that has muted or unmuted a source last."""
-        for line in reversed(self.desk.history(CALLS)):
-            number, _, words = line.partition(" ")
-            parts = words.partition(" ")[2].removeprefix("group ").split(" / ")
-            if {f"mute {ssrc}", f"unmute {ssrc}"} & {*parts}:
-                return number
-        return None
+        return last_mute(self.desk.history(CALLS), ssrc)
+
+
+def last_mute(history, ssrc):
+    """The call that has muted or unmuted a source last, by the calls in force. None where the one before it did the
+    same, as where the call between them was reverted: one of both may be an operator's."""
+    last, did = None, None
+    for line in reversed(history):
+        number, _, words = line.split(" ", 2)
+        for part in reversed(words.removeprefix("group ").split(" / ")):
+            if part.startswith(f"add-source {ssrc} "):
+                return last
+            if part in (f"mute {ssrc}", f"unmute {ssrc}"):
+                if last:
+                    return None if part == did else last
+                last, did = number, part
+    return last
