@@ -182,7 +182,9 @@ class Desk:
         """An operator, and the thread of the bridge that answers it."""
         before = threads(self.bridge)
         operator = self.connected()
-        until(lambda: threads(self.bridge) - before, "a connection gets no thread")
+        # A connection has a thread from its first good line on.
+        operator.ask("history 0")
+        until(lambda: threads(self.bridge) - before, "an operator gets no thread")
         (thread,) = threads(self.bridge) - before
         until(lambda: is_asleep(self.bridge, thread), "an operator's thread doesn't wait for a line")
         return operator, thread
