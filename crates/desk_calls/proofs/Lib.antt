@@ -6,3 +6,4 @@ pub mod Sounding
 pub mod RevertLemmas
 pub mod Serving
 pub mod Reverted
+pub mod Newest

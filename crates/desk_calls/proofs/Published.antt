@@ -43,7 +43,7 @@ redone_leads A old new (Group commands) serves before again is does = absurd ser
 redone_leads A old new (Undo last) serves before again is does = absurd serves
 redone_leads A old new (Revert number) serves before again is does = absurd serves
 
-inverses_fit : (d : Desk) (es : List EditOf) → fits d es ≡ true → fits (after d es) (inverse es) ≡ true
+pub inverses_fit : (d : Desk) (es : List EditOf) → fits d es ≡ true → fits (after d es) (inverse es) ≡ true
 inverses_fit d es fit = all_inverses_fit one_fits one_after one_inverse one_inverse_fits one_undoes d es fit
 
 -- the last edit that is done, taken back, fits the desk

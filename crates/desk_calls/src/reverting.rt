@@ -15,7 +15,7 @@ use crate::entry::DeskEntry;
 use crate::judging::{log_is_full, one_edit};
 use crate::striking::{is_in_force, one_number};
 use crate::touching::no_other_moves;
-use crate::walking::base_of;
+use crate::walking::{base_of, is_newest};
 use desk_edit::Refusal;
 use desk_revert::{difference, moved_keys};
 use desk_rows::{Edit, Rows};
@@ -58,6 +58,13 @@ impl<A: Allocator + Copy> Desk<A> {
         ensures why { IfErr result (λ why. why ≢ Refusal.OutOfMemory → late_refused self.now number ≡ Some why) }
     {
         let calls = self.calls();
+        // Nothing stands behind the newest call, so none is carried out again, and nobody else moves.
+        if is_newest(calls, number) {
+            return match self.history().undo_edit(alloc) {
+                Ok(edits) => Ok(edits),
+                Err(_) => Err(Refusal::OutOfMemory),
+            };
+        }
         let Ok(is_there) = is_in_force(alloc, calls, number) else {
             return Err(Refusal::OutOfMemory);
         };

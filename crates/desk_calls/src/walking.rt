@@ -4,6 +4,7 @@ ghost use Rattle.std.specs.Prelude.{◌≡◌, true, false, None, Some, IfOk, If
 ghost use Rattle.std.specs.Prelude.{reverse, nat_eq, if◌then◌else◌};
 ghost use Rattle.desk_edit.specs.InForce.{numbers_rise, stay};
 ghost use Rattle.desk_edit.specs.Reverts.{early_revert_refused, weight, is_made, is_far};
+ghost use Rattle.desk_calls.specs.inner.Touching.{is_newest};
 
 use crate::entry::DeskEntry;
 use desk_edit::Refusal;
@@ -22,6 +23,16 @@ fn is_made<A: Allocator + Copy>(entries: &[DeskEntry<A>], number: u64) -> bool
         return false;
     }
     entries[place].number() == number
+}
+
+/// Whether the newest entry has this number and carried commands out.
+pub(crate) fn is_newest<A: Allocator + Copy>(entries: &[DeskEntry<A>], number: u64) -> bool
+    ensures { result ≡ is_newest number (reverse entries.now) }
+{
+    let Some((entry, _)) = entries.split_last() else {
+        return false;
+    };
+    entry.number() == number && !entry.is_revert()
 }
 
 /// How much the entry counts where the call of this number is taken back.

@@ -1,5 +1,5 @@
 -- What is judged of a revert: by the edits of a history's entries, and by a desk. No public clause cites this.
-use Rattle.std.specs.Prelude.{ℕ, Bool, false, not, ◌&&◌, ◌||◌, List, [], ◌∷◌, Option, None, if◌then◌else◌}
+use Rattle.std.specs.Prelude.{ℕ, nat_eq, Bool, false, not, ◌&&◌, ◌||◌, List, [], ◌∷◌, Option, None, if◌then◌else◌}
 use Rattle.std.specs.Option.{option_or}
 use Rattle.desk_rows.specs.declared.key.Key.{Key}
 use Rattle.desk_rows.specs.Desk.{Desk}
@@ -26,6 +26,11 @@ elsewhere_by number es edits [] = None
 elsewhere_by number es edits (key ∷ ks) =
     option_or (if touches (number ∷ []) key es edits then None else told_elsewhere key)
     (elsewhere_by number es edits ks)
+
+-- of entries that stand the newest first, the newest one has this number and carried commands out
+abbrev pub is_newest : ℕ → List Entry → Bool
+is_newest number [] = false
+is_newest number (e ∷ es) = nat_eq e.number number && carries e.deed
 
 -- ---- of a desk
 

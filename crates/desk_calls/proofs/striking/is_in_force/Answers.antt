@@ -1,4 +1,4 @@
-use Rattle.std.proofs.Common.{true, false, not, [], sym, ap, ◌∙◌, arith, reverse}
+use Rattle.std.proofs.Common.{not, [], sym, ap, ◌∙◌, arith, reverse}
 use Rattle.std.proofs.lemmas.Bool.{and_parts}
 use Rattle.std.proofs.lemmas.Bool.Decides.{nat_tests}
 use Rattle.std.proofs.lemmas.List.{nil_from_length}

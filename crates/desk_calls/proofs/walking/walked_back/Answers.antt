@@ -1,4 +1,4 @@
-use Rattle.std.proofs.Common.{◌≡◌, true, false, nat_lt, arith}
+use Rattle.std.proofs.Common.{◌≡◌, false, nat_lt, arith}
 use Rattle.std.proofs.lemmas.Bool.Decides.{nat_tests}
 use Rattle.std.proofs.lemmas.List.{nil_from_length}
 use Rattle.desk_calls.proofs.RevertLemmas.{near_end, base_end, near_none, base_none, far_on, counted_on, stays_on}
