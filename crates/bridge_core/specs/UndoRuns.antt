@@ -1,4 +1,4 @@
--- Calls in a row: commands, as many undos, and as many redos (own).
+-- Calls in a row: commands, groups and reverts, as many undos, and as many redos (own).
 use Rattle.std.specs.Prelude.{◌≡◌, ℕ, zero, suc, ◌+◌, ◌≤◌, List, [], ◌∷◌}
 use Rattle.desk_edit.specs.Asked.{CallOf as Call}
 use Rattle.desk_edit.specs.Asked.CallOf.{Apply, Group, Undo, Redo, Revert}
@@ -23,7 +23,7 @@ HasCommands (Undo last) = ⊥
 HasCommands (Redo last) = ⊥
 HasCommands (Revert number) = Unit {0}
 
--- from the first core to the last, each accepts one of the calls, which all ask for commands
+-- from the first core to the last, each accepts one of the calls, none of which is an undo or a redo
 abbrev pub AcceptsAll : CoreOf → List Call → CoreOf → Type 0
 AcceptsAll first [] last = last ≡ first
 AcceptsAll first (call ∷ calls) last =

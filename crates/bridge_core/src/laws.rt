@@ -225,8 +225,8 @@ pub fn calls_are_legal()
         → AreAccepted h (calls_among events) × HasCalled last (after_calls h (calls_among events)) }
 {}
 
-/// Undos in a row, each of which names the last accepted call, are accepted as long as there are commands to
-/// undo and the log isn't full. So are redos, as long as there are commands to redo.
+/// Undos in a row, each of which names the last accepted call, are accepted as long as there is something to
+/// undo and the log isn't full. So are redos, as long as there is something to redo.
 pub fn undos_and_redos_are_accepted()
     ensures undos { (first last : CoreOf) (n : ℕ) (replies : List Reply) → n ≤ length first.done
         → UndoesInARow first n replies last → replies ≡ all_accepted first.version n }
@@ -234,9 +234,9 @@ pub fn undos_and_redos_are_accepted()
         → RedoesInARow first n replies last → replies ≡ all_accepted first.version n }
 {}
 
-/// Commands are accepted one after another, whatever was called before, and as many undos follow. The undos are
-/// accepted while the log isn't full, and give back the desk before the commands, members at their places. As many
-/// redos give back the desk after the commands.
+/// Commands, groups and reverts are accepted one after another, whatever was called before, and as many undos follow.
+/// The undos are accepted while the log isn't full, and give back the desk before those calls, members at their places.
+/// As many redos give back the desk after them.
 pub fn commands_come_back()
     ensures back { (first middle last : CoreOf) (commands : List CallOf) (replies : List Reply)
         → AcceptsAll first commands middle → UndoesInARow middle (length commands) replies last
@@ -259,7 +259,8 @@ pub fn undos_are_redone()
 /// The headline. For a first desk, any list of accepted calls and items in any order, and any number of
 /// lanes, as cores that take them one by one answer, and take in datagrams and report in between:
 ///
-/// - accepted commands, undone from their end, give back the desk before them, members at their places;
+/// - accepted commands, groups and reverts, undone from their end, give back the desk before them, members at their
+///   places;
 /// - each packet is what the desk of the version that it names says: it chose the packet's source, who
 ///   gets it, and that all who chose it get the whole frame; and at a tick each member who hears anything
 ///   gets what it hears, which is what a mix packet carries;
