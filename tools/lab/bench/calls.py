@@ -16,12 +16,16 @@ import socket
 import subprocess
 import tempfile
 import threading
+import time
 
 from checks.filling import add_member, full_desk, in_groups
 from operators.serving import settings, started
 from operators.shared import add_measuring, add_program, fail, release_program
 
 NEEDS = "the program, a minute; valgrind to count instructions"
+
+# So many seconds a program may take to begin under callgrind.
+PATIENCE = 60
 
 
 def options(parser):
@@ -81,12 +85,12 @@ class Meter:
         self.run = self.begin(program, ["valgrind", *words] if counts else [])
 
     def control(self, *words):
-        subprocess.run(
-            ["callgrind_control", *words, str(self.run.pid)],
-            check=True,
-            stdout=subprocess.DEVNULL,
-            stderr=subprocess.DEVNULL,
-        )
+        """Has callgrind do this. One that has just begun isn't found, which callgrind_control tells in words alone."""
+        tool, until = ["callgrind_control", *words, str(self.run.pid)], time.monotonic() + PATIENCE
+        while "OK." not in (said := subprocess.run(tool, check=True, capture_output=True, text=True).stdout):
+            if self.run.poll() is not None or time.monotonic() > until:
+                fail(f"`{' '.join(tool)}` did nothing: {said.strip()}")
+            time.sleep(0.1)
 
     def answers(self, lines):
         """The answers to lines, one each."""
@@ -107,7 +111,7 @@ class Meter:
         for path in pathlib.Path(self.folder.name).glob(f"out.{self.dumps}*"):
             total = re.search(r"^(?:totals|summary): (\d+)", path.read_text(), re.M)
             found[path.suffix] = int(total[1]) if total else 0
-        return found
+        return found or fail(f"callgrind wrote no dump of number {self.dumps}")
 
     def cost(self, lines, word):
         """What a line costs the thread that it costs most, and all others. Each answer has to begin with this word."""

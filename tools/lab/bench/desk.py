@@ -217,8 +217,8 @@ def count_reverts(program, sizes, only):
         if only not in place:
             continue
         meter, first = Replay(program, True), list(lines)
-        if first:
-            meter.answers(first)
+        # Where nothing makes the desk a refused command is answered first, so that the program's start isn't counted.
+        meter.answers(first or ["remove-room 1"])
         version = len(first)
 
         def undone(count):
