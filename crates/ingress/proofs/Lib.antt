@@ -19,5 +19,6 @@ pub mod Turns
 pub mod Read
 pub mod Readable
 pub mod Sized
+pub mod Squares
 pub mod UnitLemmas
 pub mod VerdictLemmas

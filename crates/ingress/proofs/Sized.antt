@@ -60,6 +60,16 @@ halved most payload whole some =
     rw (halves payload (length payload / 2) (omega (arith, even)))
     (between most (length payload / 2) (omega (arith, even, eqb-false (length payload) 0 some)) (omega (arith, high)))
 
+few_halves : (most : ℕ) (payload : List ℕ)
+    → (nat_eq (length payload % 2) 0 && nat_le (length payload) (2 * most)) ≡ true → most ≤ 8820
+    → length (samples_of payload) ≤ 8820
+few_halves most payload whole least =
+    let octets = and_parts (nat_eq (length payload % 2) 0) (nat_le (length payload) (2 * most)) whole in
+    let even = eqb-true (length payload % 2) 0 octets.0 in
+    let high = leb-true (length payload) (2 * most) octets.1 in
+    let many = halves payload (length payload / 2) (omega (arith, even)) in
+    omega (arith, even, high, many, least)
+
 -- audio that isn't empty has a sample, and no more than it may
 pub sized_samples : (format : Format) (payload : List ℕ) → holds_whole format (length payload) ≡ true
     → nat_eq (length payload) 0 ≡ false
@@ -73,6 +83,17 @@ sized_samples Pcmu payload whole some =
     (between 1600 (length payload) (omega (arith, eqb-false (length payload) 0 some)) high)
 sized_samples L16At8000 payload whole some = halved 1600 payload whole some
 sized_samples L16At44100 payload whole some = halved 8820 payload whole some
+
+-- a packet has no more samples than 200 ms at the highest clock rate
+pub few_samples : (format : Format) (payload : List ℕ) → holds_whole format (length payload) ≡ true
+    → length (samples_of_packet format payload) ≤ 8820
+few_samples Pcmu payload whole =
+    let parts = and_parts (nat_eq (length payload % 1) 0) (nat_le (length payload) 1600) whole in
+    let high = leb-true (length payload) 1600 parts.1 in
+    let same = length-map payload decoded in
+    omega (arith, high, same)
+few_samples L16At8000 payload whole = few_halves 1600 payload whole (omega arith)
+few_samples L16At44100 payload whole = few_halves 8820 payload whole (omega arith)
 
 -- L16 has an even number of octets
 pub even_octets : (octets : ℕ)

@@ -7,6 +7,7 @@ pub mod Received
 pub mod Media
 pub mod Control
 pub mod Taking
+pub mod Energy
 pub mod Waiting
 pub mod PacketsAlone
 pub mod Reported

@@ -16,6 +16,8 @@ use Rattle.ingress.specs.Readings.{Reading, IsReading, too_long, neither, no_pac
 use Rattle.ingress.specs.declared.outcome.Outcome.{Outcome}
 use Rattle.ingress.specs.declared.outcome.Outcome.TheVariants.{Rtcp}
 use Rattle.ingress.specs.declared.received.Received.{Received}
+use Rattle.ingress.specs.declared.sound_count.SoundCount.{SoundCount}
+use Rattle.ingress.specs.Energy.{sound_in}
 
 -- The octets count as RTP and are those of a packet with this header.
 abbrev pub HasHeader : List ℕ → Header → Type 0
@@ -33,8 +35,8 @@ row_in desk from (compound packets) = None
 
 -- a datagram by its parts
 abbrev pub received_so : {A : Type 0} → Address → (moment octets : ℕ) → Option Header → Vec (RtcpParts A) A
-    → Option Source → Outcome → Bool → Received A
-received_so from moment octets header packets source outcome begins = record {
+    → Option Source → Outcome → Bool → SoundCount → Received A
+received_so from moment octets header packets source outcome begins sound = record {
   from = from;
   moment = moment;
   octets = octets;
@@ -43,15 +45,17 @@ received_so from moment octets header packets source outcome begins = record {
   source = source;
   outcome = outcome;
   begins = begins;
+  sound = sound;
 }
 
--- with this outcome, and whether an epoch began
-abbrev pub with_outcome : {A : Type 0} → Outcome → Bool → Received A → Received A
-with_outcome outcome begins r = record r { outcome = outcome; begins = begins }
+-- with this outcome, whether an epoch began, and what is counted of its sound
+abbrev pub with_outcome : {A : Type 0} → Outcome → Bool → SoundCount → Received A → Received A
+with_outcome outcome begins sound r = record r { outcome = outcome; begins = begins; sound = sound }
 
 -- These octets came from an address at a moment, at these rows, where so many epochs had begun before, and so many
 -- afterwards. What was received has the header of an RTP packet, and none if it is no such packet. It has the row of
--- its source, and the packets of a compound from a member. It says whether an epoch began.
+-- its source, and the packets of a compound from a member. It says whether an epoch began, and counts the sound of an
+-- accepted packet.
 pub record IsReceived {A : Type 0} (desk : Desk) (sender : Address) (at : ℕ) (content : List ℕ) (before after : ℕ)
     (received : Received A) : Type 0 where
   pub rest : received ≡ record received { from = sender; moment = at; octets = length content }
@@ -60,3 +64,4 @@ pub record IsReceived {A : Type 0} (desk : Desk) (sender : Address) (at : ℕ) (
   pub row : (r : Reading) → IsReading content r → received.source ≡ row_in desk sender r
   pub reports : (n : ℕ) → received.outcome ≡ Rtcp n → IsCompound (packets_of received.packets.items) content
   pub epoch : received.begins ≡ nat_lt before after
+  pub heard : (r : Reading) → IsReading content r → received.sound ≡ sound_in desk sender received.outcome r

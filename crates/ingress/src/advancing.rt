@@ -4,6 +4,7 @@ ghost use Rattle.std.specs.Prelude.{◌≡◌, ◌+◌, ◌&&◌, true, false, n
 ghost use Rattle.std.specs.Prelude.{IfSome, is_some, None, map};
 ghost use Rattle.std.specs.List.{list_all};
 ghost use Rattle.media_items.specs.Inputs.{input_of, is_sized};
+ghost use Rattle.ingress.specs.Energy.{no_sound};
 ghost use Rattle.ingress.specs.Ingested.{only, with_items};
 ghost use Rattle.ingress.specs.Media.{told};
 ghost use Rattle.ingress.specs.Taking.{most_epochs};
@@ -18,10 +19,10 @@ use crate::ingest::Effect;
 use crate::ingress::Ingress;
 use crate::known::OriginKey;
 use crate::outcome::Outcome;
+use crate::sounding::PacketSound;
 use crate::source_entry::NextState;
 use crate::validating::{RtpArrival, Validated, validate_first, validate_known};
 use frame_gate::{Frame, Place};
-use media_items::Item;
 use source_valid::Verdict;
 use std::alloc::{AllocError, Allocator};
 
@@ -133,29 +134,33 @@ impl<A: Allocator + Copy> Ingress<A> {
         self.keep(alloc, key, next)
     }
 
-    /// Keeps a source whose packet asks for nothing. Answers the verdict, with these items.
+    /// Keeps a source whose packet asks for nothing. Answers the verdict, with what is heard of the packet.
     #[tactic(auto, using(crate::proofs::VerdictLemmas::told_at_no_gate))]
     pub(crate) fn verdict_with(
         &mut self,
         alloc: A,
         key: OriginKey,
         validated: &Validated,
-        items: Vec<Item<A>, A>,
+        heard: PacketSound<A>,
     ) -> Result<Effect<A>, AllocError>
         requires below { (validated.now.begins && nat_eq self.old.epochs most_epochs) ≡ false }
         requires epoch { validated.now.epoch ≡ epoch_in (kept_for key validated.now.rate self.old.entries) }
-        requires sized { list_all is_sized (map input_of items.items) ≡ true }
+        requires sized { list_all is_sized (map input_of heard.items.items) ≡ true }
         ensures advances { OnOk result (Advances self.old self.new key validated.now None) }
         ensures effect { IfOk result
-            (λ effect. effect_of effect ≡ with_items (told validated.now.verdict) (map input_of items.items)) }
+            (λ effect. effect_of effect
+            ≡ with_items (told validated.now.verdict) (map input_of heard.items.items)) }
+        ensures sound { IfOk result (λ effect. effect.sound ≡ heard.sound) }
         ensures packet { IfOk result (IsOfPacket self.old self.new) }
         ensures err { OnErr result (self.new ≡ self.old) }
         ensures asker { self.new.asker ≡ self.old.asker }
     {
         self.advance(alloc, key, validated, None)?;
+        let PacketSound { items, sound } = heard;
         Ok(Effect {
             outcome: outcome_at(validated.verdict, Place::Taken),
             begins: validated.begins,
+            sound,
             up: Vec::new(alloc),
             items,
         })
@@ -172,10 +177,11 @@ impl<A: Allocator + Copy> Ingress<A> {
         requires epoch { validated.now.epoch ≡ epoch_in (kept_for key validated.now.rate self.old.entries) }
         ensures advances { OnOk result (Advances self.old self.new key validated.now None) }
         ensures effect { IfOk result (λ effect. effect_of effect ≡ only (told validated.now.verdict)) }
+        ensures sound { IfOk result (λ effect. effect.sound ≡ no_sound) }
         ensures packet { IfOk result (IsOfPacket self.old self.new) }
         ensures err { OnErr result (self.new ≡ self.old) }
         ensures asker { self.new.asker ≡ self.old.asker }
     {
-        self.verdict_with(alloc, key, validated, Vec::new(alloc))
+        self.verdict_with(alloc, key, validated, PacketSound::nothing(alloc))
     }
 }

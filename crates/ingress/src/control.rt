@@ -5,6 +5,7 @@ ghost use Rattle.rtp_codec.specs.declared.class.Class.TheVariants as classes;
 ghost use Rattle.rtcp_codec.specs.View.{packets_of};
 ghost use Rattle.topology.specs.Looking.{member_from};
 ghost use Rattle.ingress.specs.Readings.{IsOf};
+ghost use Rattle.ingress.specs.Energy.{no_sound};
 ghost use Rattle.ingress.specs.Ingested.{ingested_of, IsAbout};
 ghost use Rattle.ingress.specs.Received.{IsReceived};
 ghost use Rattle.ingress.specs.Taking.{of_member};
@@ -16,6 +17,7 @@ use crate::ingest::{Effect, Ingest};
 use crate::ingress::Ingress;
 use crate::outcome::Outcome;
 use crate::received::Received;
+use crate::sound_count::SoundCount;
 use desk_rows::Rows;
 use rtcp_codec::{Rtcp, RtcpFault, read_compound};
 use rtp_codec::Address;
@@ -53,6 +55,7 @@ impl<A: Allocator + Copy> Ingress<A> {
             (λ voice s. of_member (Some member) from.now moment (packets_of packets.now) s)) }
         ensures about { IfOk result (λ effect. IsAbout from.now (effect_of effect)) }
         ensures begins { IfOk result (λ effect. effect.begins ≡ nat_lt self.old.epochs self.new.epochs) }
+        ensures sound { IfOk result (λ effect. effect.sound ≡ no_sound) }
         ensures err { OnErr result (self.new ≡ self.old) }
         ensures asker { self.new.asker ≡ self.old.asker }
     {
@@ -63,6 +66,7 @@ impl<A: Allocator + Copy> Ingress<A> {
                 packets: packets.len(),
             },
             begins: false,
+            sound: SoundCount::nothing(),
             up: Vec::new(alloc),
             items,
         })
@@ -82,6 +86,7 @@ impl<A: Allocator + Copy> Ingress<A> {
             (λ voice s. of_member (member_from rows.now from.now) from.now moment (packets_of packets.now) s)) }
         ensures about { IfOk result (λ effect. IsAbout from.now (effect_of effect)) }
         ensures begins { IfOk result (λ effect. effect.begins ≡ nat_lt self.old.epochs self.new.epochs) }
+        ensures sound { IfOk result (λ effect. effect.sound ≡ no_sound) }
         ensures err { OnErr result (self.new ≡ self.old) }
         ensures asker { self.new.asker ≡ self.old.asker }
     {

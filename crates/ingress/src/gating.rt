@@ -8,6 +8,7 @@ ghost use Rattle.source_valid.specs.Histories.{restarts};
 ghost use Rattle.frame_gate.specs.Frame.{highest_pt};
 ghost use Rattle.frame_gate.specs.Packets.{IsExt, NumberedPacket, numbered};
 ghost use Rattle.media_items.specs.Inputs.{input_of};
+ghost use Rattle.ingress.specs.Energy.{no_sound};
 ghost use Rattle.ingress.specs.Ingested.{IsAbout};
 ghost use Rattle.ingress.specs.Media.{gate_packet, frames_from};
 ghost use Rattle.ingress.specs.Taking.{most_epochs};
@@ -24,6 +25,7 @@ use crate::ingest::Effect;
 use crate::ingress::Ingress;
 use crate::known::OriginKey;
 use crate::media_packet::{MediaPacket, Origin, origin_of};
+use crate::sound_count::SoundCount;
 use crate::source_entry::SourceEntry;
 use crate::validating::Validated;
 use frame_gate::{Frame, Packet, WatchedGate};
@@ -137,6 +139,7 @@ impl<A: Allocator + Copy> Ingress<A> {
             (λ effect. Gates self.old self.new key validated.now (incoming_of incoming.entry) p (effect_of effect)) }
         ensures about { IfOk result (λ effect. IsAbout incoming.entry.from.now (effect_of effect)) }
         ensures packet { IfOk result (IsOfPacket self.old self.new) }
+        ensures sound { IfOk result (λ effect. effect.sound ≡ no_sound) }
         ensures err { OnErr result (self.new ≡ self.old) }
         ensures asker { self.new.asker ≡ self.old.asker }
     {
@@ -152,6 +155,7 @@ impl<A: Allocator + Copy> Ingress<A> {
         Ok(Effect {
             outcome,
             begins: validated.begins,
+            sound: SoundCount::nothing(),
             up,
             items,
         })
@@ -175,6 +179,7 @@ impl<A: Allocator + Copy> Ingress<A> {
             (numbered ext (gate_packet (packet_of incoming.entry.view.now))) (effect_of effect)) }
         ensures about { IfOk result (λ effect. IsAbout incoming.entry.from.now (effect_of effect)) }
         ensures packet { IfOk result (IsOfPacket self.old self.new) }
+        ensures sound { IfOk result (λ effect. effect.sound ≡ no_sound) }
         ensures err { OnErr result (self.new ≡ self.old) }
         ensures asker { self.new.asker ≡ self.old.asker }
     {

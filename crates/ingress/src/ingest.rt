@@ -6,6 +6,7 @@ ghost use Rattle.media_items.specs.Inputs.{input_of, is_sized};
 
 use crate::outcome::Outcome;
 use crate::received::Received;
+use crate::sound_count::SoundCount;
 use media_items::Item;
 use rtp_codec::Address;
 use std::alloc::{Allocator, Global};
@@ -27,6 +28,7 @@ pub struct Ingest<A: Allocator + Copy = Global> {
 
 impl<A: Allocator + Copy> Ingest<A> {
     ghost use Rattle.std.specs.Prelude.{false};
+    ghost use Rattle.ingress.specs.Energy.{no_sound};
     ghost use Rattle.ingress.specs.Ingested.{only, ingested_of};
     ghost use Rattle.ingress.specs.Received.{with_outcome};
     ghost use Rattle.ingress.specs.inner.Effects.{effect_of};
@@ -34,11 +36,12 @@ impl<A: Allocator + Copy> Ingest<A> {
     /// An answer with nothing but what the datagram was, and its outcome.
     pub(crate) fn only(alloc: A, received: Received<A>, outcome: Outcome) -> Self
         ensures ingest { ingested_of result ≡ only outcome }
-        ensures received { result.received ≡ with_outcome outcome false received }
+        ensures received { result.received ≡ with_outcome outcome false no_sound received }
     {
         let mut received = received;
         received.outcome = outcome;
         received.begins = false;
+        received.sound = SoundCount::nothing();
         Self {
             received,
             up: Vec::new(alloc),
@@ -49,17 +52,19 @@ impl<A: Allocator + Copy> Ingest<A> {
     /// The answer to a datagram of which this came.
     pub(crate) fn of(received: Received<A>, effect: Effect<A>) -> Self
         ensures ingest { ingested_of result ≡ effect_of effect }
-        ensures received { result.received ≡ with_outcome effect.outcome effect.begins received }
+        ensures received { result.received ≡ with_outcome effect.outcome effect.begins effect.sound received }
     {
         let Effect {
             outcome,
             begins,
+            sound,
             up,
             items,
         } = effect;
         let mut received = received;
         received.outcome = outcome;
         received.begins = begins;
+        received.sound = sound;
         Self {
             received,
             up,
@@ -75,6 +80,8 @@ pub(crate) struct Effect<A: Allocator + Copy = Global> {
     pub(crate) outcome: Outcome,
     /// Whether an epoch of its source begins with it.
     pub(crate) begins: bool,
+    /// What is counted of its sound.
+    pub(crate) sound: SoundCount,
     /// Datagrams to send, with the addresses that they go to.
     pub(crate) up: Vec<(Address, Vec<u8, A>), A>,
     /// The items for each lane, in this order.
@@ -85,6 +92,7 @@ pub(crate) struct Effect<A: Allocator + Copy = Global> {
 
 impl<A: Allocator + Copy> Effect<A> {
     ghost use Rattle.std.specs.Prelude.{false};
+    ghost use Rattle.ingress.specs.Energy.{no_sound};
     ghost use Rattle.ingress.specs.Ingested.{only};
     ghost use Rattle.ingress.specs.inner.Effects.{effect_of};
 
@@ -92,10 +100,12 @@ impl<A: Allocator + Copy> Effect<A> {
     pub(crate) fn only(alloc: A, outcome: Outcome) -> Self
         ensures effect { effect_of result ≡ only outcome }
         ensures begins { result.begins ≡ false }
+        ensures sound { result.sound ≡ no_sound }
     {
         Self {
             outcome,
             begins: false,
+            sound: SoundCount::nothing(),
             up: Vec::new(alloc),
             items: Vec::new(alloc),
         }

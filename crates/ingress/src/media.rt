@@ -9,7 +9,8 @@ ghost use Rattle.media_items.specs.Rates.{video_rate};
 ghost use Rattle.ingress.specs.Readings.{IsOf};
 ghost use Rattle.ingress.specs.Ingested.{ingested_of, IsAbout};
 ghost use Rattle.ingress.specs.Received.{IsReceived};
-ghost use Rattle.ingress.specs.Media.{audio_course, video_course, arrival_of};
+ghost use Rattle.ingress.specs.Energy.{counted_as, no_sound, samples_for};
+ghost use Rattle.ingress.specs.Media.{audio_course, video_course, arrival_of, samples_of_packet};
 ghost use Rattle.ingress.specs.Taking.{sourced, of_row};
 ghost use Rattle.ingress.specs.Ingresses.{Moves, TakesIn};
 ghost use Rattle.ingress.specs.inner.Effects.{effect_of, IsOfPacket};
@@ -61,6 +62,8 @@ impl<A: Allocator + Copy> Ingress<A> {
             (audio_course format (incoming_of incoming.entry)) (incoming_of incoming.entry) s)) }
         ensures about { IfOk result (λ effect. IsAbout incoming.entry.from.now (effect_of effect)) }
         ensures packet { IfOk result (IsOfPacket self.old self.new) }
+        ensures sound { IfOk result (λ effect. effect.sound ≡ counted_as effect.outcome
+            (samples_of_packet format (incoming_of incoming.entry).packet.payload)) }
         ensures err { OnErr result (self.new ≡ self.old) }
         ensures asker { self.new.asker ≡ self.old.asker }
     {
@@ -69,8 +72,8 @@ impl<A: Allocator + Copy> Ingress<A> {
         if self.is_spent(&validated) {
             return Ok(Effect::only(alloc, Outcome::Spent));
         }
-        let items = sounds(alloc, validated.verdict, format, incoming)?;
-        self.verdict_with(alloc, key, &validated, items)
+        let heard = sounds(alloc, validated.verdict, format, incoming)?;
+        self.verdict_with(alloc, key, &validated, heard)
     }
 
     /// Takes in a video packet.
@@ -82,6 +85,7 @@ impl<A: Allocator + Copy> Ingress<A> {
             sourced voice video_rate (video_course (incoming_of incoming.entry)) (incoming_of incoming.entry) s)) }
         ensures about { IfOk result (λ effect. IsAbout incoming.entry.from.now (effect_of effect)) }
         ensures packet { IfOk result (IsOfPacket self.old self.new) }
+        ensures sound { IfOk result (λ effect. effect.sound ≡ no_sound) }
         ensures err { OnErr result (self.new ≡ self.old) }
         ensures asker { self.new.asker ≡ self.old.asker }
     {
@@ -110,6 +114,8 @@ impl<A: Allocator + Copy> Ingress<A> {
             (λ voice s. of_row voice rows.now source (incoming_of incoming.entry) s)) }
         ensures about { IfOk result (λ effect. IsAbout incoming.entry.from.now (effect_of effect)) }
         ensures packet { IfOk result (IsOfPacket self.old self.new) }
+        ensures sound { IfOk result (λ effect. effect.sound
+            ≡ counted_as effect.outcome (samples_for rows.now source (incoming_of incoming.entry).packet)) }
         ensures err { OnErr result (self.new ≡ self.old) }
         ensures asker { self.new.asker ≡ self.old.asker }
     {

@@ -4,9 +4,11 @@ ghost use Rattle.std.specs.Prelude.{◌≡◌, false, None, length, IfSome, IfNo
 ghost use Rattle.rtp_codec.specs.declared.writing.Header.{Header as HeaderOf};
 ghost use Rattle.rtp_codec.specs.Class.{class_of};
 ghost use Rattle.rtp_codec.specs.View.{packet_of};
+ghost use Rattle.ingress.specs.Energy.{no_sound};
 ghost use Rattle.ingress.specs.Received.{HasHeader, received_so};
 
 use crate::outcome::Outcome;
+use crate::sound_count::SoundCount;
 use desk_rows::Source;
 use rtcp_codec::Rtcp;
 use rtp_codec::{Address, Class, Header, RtpView, read};
@@ -31,6 +33,8 @@ pub struct Received<A: Allocator + Copy = Global> {
     pub outcome: Outcome,
     /// Whether an epoch of its source begins with it.
     pub begins: bool,
+    /// What is counted of its sound. All but an accepted packet of a source of sound has none.
+    pub sound: SoundCount,
 }
 
 /// The header of a packet.
@@ -72,7 +76,7 @@ impl<A: Allocator + Copy> Received<A> {
         header: Option<Header>,
     ) -> Self
         ensures { result ≡ received_so from.now moment (length octets.now) header result.packets None Outcome.Unknown
-            false }
+            false no_sound }
     {
         Self {
             from: *from,
@@ -83,13 +87,15 @@ impl<A: Allocator + Copy> Received<A> {
             source: None,
             outcome: Outcome::Unknown,
             begins: false,
+            sound: SoundCount::nothing(),
         }
     }
 
     /// No datagram: time passed for a source at an address, until a moment. It is as a datagram of no octets from an
     /// address that is no member's.
     pub fn silence(alloc: A, from: &Address, moment: u64) -> Self
-        ensures { result ≡ received_so from.now moment 0 None result.packets None Outcome.Unknown false }
+        ensures { result ≡ received_so from.now moment 0 None result.packets None Outcome.Unknown false
+            no_sound }
     {
         Self::new(alloc, from, moment, &[], None)
     }

@@ -1,16 +1,18 @@
-use Rattle.std.proofs.Common.{◌∙◌, ap, sym, subst, None}
+use Rattle.std.proofs.Common.{◌∙◌, ap, sym, subst, None, is_some, if◌then◌else◌}
+use Rattle.source_valid.specs.Histories.{accepted}
 use Rattle.media_items.specs.Formats.{rate_of}
 use Rattle.ingress.specs.declared.known.OriginKey.{OriginKey}
+use Rattle.ingress.specs.Energy.{count_of_samples, no_sound, counted_as}
 use Rattle.ingress.specs.Ingested.{Ingested}
-use Rattle.ingress.specs.Media.{MediaPacket, audio_course, arrival_of, sounds, verdict_with}
+use Rattle.ingress.specs.Media.{MediaPacket, audio_course, arrival_of, sounds, verdict_with, samples_of_packet}
 use Rattle.ingress.specs.Taking.{sourced}
 use Rattle.ingress.specs.inner.MediaPackets.{incoming_of}
 use Rattle.ingress.specs.inner.SourceEntries.{ValidatedOf}
 use Rattle.ingress.specs.inner.Moves.{Advances}
 use Rattle.ingress.proofs.Happens.{Gives, named_so, when_spent, when_verdict_with}
-use Rattle.ingress.proofs.Results.{with_fact, from_fact}
+use Rattle.ingress.proofs.Results.{with_fact, with_facts, from_fact}
 use Rattle.ingress.proofs.AboutLemmas.{about_only, about_sounds}
-use Rattle.ingress.proofs.ReceivedLemmas.{of_dropped}
+use Rattle.ingress.proofs.ReceivedLemmas.{of_dropped, heard_told}
 use Rattle.ingress.specs.declared.outcome.Outcome.TheVariants.{Spent}
 use Rattle.ingress.proofs.ingress.Ingress.audio.Goals as goal
 
@@ -38,7 +40,7 @@ returns-clause-moves g c =
     named_so old j _ _ _ _ c.key_of-key.ensures (c.arrival_of.ensures ∙ ap (λ r. arrival_of r incoming) c.rate.ensures)
     c.validated-validated.ensures.validates in
     let same =
-    c.in_ok-items.ensures.items ∙ ap (λ (x : ValidatedOf). sounds format incoming x.verdict) c.validated.view_is in
+    c.in_ok-heard.ensures.items ∙ ap (λ (x : ValidatedOf). sounds format incoming x.verdict) c.validated.view_is in
     with_fact c.verdict_with.result c.verdict_with.ensures.advances c.verdict_with.ensures.effect
     (λ ingest advances is voice s right asker knows.
     subst
@@ -57,8 +59,26 @@ pub returns-clause-about : goal.returns-clause-about
 returns-clause-about g c =
     from_fact c.verdict_with.result c.verdict_with.ensures.effect (λ ingest is.
     about_sounds c.args.incoming.from.now c.args.format (incoming_of c.args.incoming) _ _ _ _ is
-    c.in_ok-items.ensures.items)
+    c.in_ok-heard.ensures.items)
 
 pub returns-then-is_spent-clause-packet : goal.returns-then-is_spent-clause-packet
 returns-then-is_spent-clause-packet g c =
     of_dropped c.args.self.now Spent _ c.only.ensures.effect c.only.ensures.begins (λ n e. cc)
+
+pub returns-then-is_spent-clause-sound : goal.returns-then-is_spent-clause-sound
+returns-then-is_spent-clause-sound g c =
+    let samples = samples_of_packet c.args.format (incoming_of c.args.incoming).packet.payload in
+    c.only.ensures.sound ∙ sym (ap (λ (i : Ingested). counted_as i.outcome samples) c.only.ensures.effect)
+
+pub returns-clause-sound : goal.returns-clause-sound
+returns-clause-sound g c =
+    let samples = samples_of_packet c.args.format (incoming_of c.args.incoming).packet.payload in
+    let j : ValidatedOf = c.validated-validated.result in
+    with_facts c.verdict_with.result c.verdict_with.ensures.sound c.verdict_with.ensures.effect
+    (λ effect sound is.
+    sound
+    ∙ (c.in_ok-heard.ensures.sound
+    ∙ (ap (λ (x : ValidatedOf). if is_some (accepted x.verdict) then count_of_samples samples else no_sound)
+    c.validated.view_is
+    ∙ (ap (λ b. if b then count_of_samples samples else no_sound) (heard_told j.verdict)
+    ∙ sym (ap (λ (i : Ingested). counted_as i.outcome samples) is)))))

@@ -62,4 +62,4 @@ pub returns-in_ok-effect-in-Ok-clause-received : goal.returns-in_ok-effect-in-Ok
 returns-in_ok-effect-in-Ok-clause-received g c =
     of_compound c.args.rows.now c.args.from.now c.args.moment c.args.octets.now c.args.self.now c.control.new.self
     c.in-Ok.packets _ c.in_ok-effect-in-Ok.effect _ _ c.of.ensures.received c.new-received-in-Ok.ensures c.requires
-    c.in-Ok.ensures.found c.in_ok-effect-in-Ok.ensures.begins
+    c.in-Ok.ensures.found c.in_ok-effect-in-Ok.ensures.begins c.in_ok-effect-in-Ok.ensures.sound

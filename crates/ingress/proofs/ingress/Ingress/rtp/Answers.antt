@@ -4,6 +4,7 @@ use Rattle.ingress.specs.declared.outcome.Outcome.TheVariants.{BadRtp}
 use Rattle.ingress.specs.Readings.{Reading, no_packet, packet}
 use Rattle.desk_rows.specs.declared.row.Source.{Source}
 use Rattle.ingress.specs.Ingested.{Ingested, ingested_of, IsAbout}
+use Rattle.ingress.specs.Energy.{counted_as, samples_for, sound_in}
 use Rattle.ingress.specs.Received.{row_in}
 use Rattle.ingress.specs.Ingresses.{Moves}
 use Rattle.ingress.specs.Taking.{Datagram, taken_in, of_row}
@@ -59,6 +60,7 @@ pub returns-in_ok-effect-in-Ok-clause-received : goal.returns-in_ok-effect-in-Ok
 returns-in_ok-effect-in-Ok-clause-received g c =
     let octets = c.args.octets.now in
     let p = packet_of c.in-Ok.view in
+    let effect = c.in_ok-effect-in-Ok.effect in
     of_packet c.args.rows.now c.args.from.now c.args.moment octets c.args.self.now c.media.new.self _ _
     c.source_from-source.result c.in_ok-effect-in-Ok.effect _ _ c.of.ensures.received c.new-received-in-Ok.ensures
     (c.requires.its_class, p, c.in-Ok.ensures.found, sym c.header_of-header.ensures)
@@ -67,3 +69,9 @@ returns-in_ok-effect-in-Ok-clause-received g c =
     ∙ ap (row_in c.args.rows.now c.args.from.now)
     (sym (alone_packet octets p c.requires c.in-Ok.ensures.fault (λ q k. sym (c.in-Ok.ensures.only q k)) r is)))
     c.in_ok-effect-in-Ok.ensures.packet
+    (λ r is.
+    c.in_ok-effect-in-Ok.ensures.sound
+    ∙ (ap (λ (row : Option Source). counted_as effect.outcome (samples_for c.args.rows.now row p))
+    c.source_from-source.ensures
+    ∙ ap (sound_in c.args.rows.now c.args.from.now effect.outcome)
+    (sym (alone_packet octets p c.requires c.in-Ok.ensures.fault (λ q k. sym (c.in-Ok.ensures.only q k)) r is))))
