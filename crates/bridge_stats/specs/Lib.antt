@@ -1,6 +1,7 @@
 pub mod Counts
 pub mod Noted
 pub mod Kinds
+pub mod Levels
 pub mod Logs
 pub mod Paths
 pub mod Received

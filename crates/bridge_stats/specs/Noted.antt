@@ -9,7 +9,14 @@ use Rattle.bridge_stats.specs.declared.taken.TakenIn.{TakenIn}
 -- what is counted of it
 abbrev pub taken_of : {A : Type 0} → Received A → TakenIn
 taken_of r =
-    record { from = r.from; moment = r.moment; octets = r.octets; header = r.header; outcome = r.outcome }
+    record {
+      from = r.from;
+      moment = r.moment;
+      octets = r.octets;
+      header = r.header;
+      outcome = r.outcome;
+      sound = r.sound;
+    }
 
 -- If it is a compound from a member, its octets are the compound of its packets.
 abbrev pub HasReports : {A : Type 0} → List ℕ → Received A → Type 0

@@ -1,12 +1,12 @@
 -- What receivers report of the way of a stream to them (RFC 3550 section 6.4.1).
 use Rattle.std.specs.Prelude.{◌≡◌, ℕ, ◌+◌, ◌-◌, ◌*◌, ◌/◌, ◌%◌, ◌^◌, nat_eq, nat_le, Bool, false, List, []}
-use Rattle.std.specs.Prelude.{if◌then◌else◌}
+use Rattle.std.specs.Prelude.{if◌then◌else◌, max}
 use Rattle.std.specs.Prelude.{◌∷◌, codes, Option, None, Some}
-use Rattle.std.specs.Bool.{MatchBool}
 use Rattle.std.specs.List.{FoldsTo}
 use Rattle.desk_rows.specs.Desk.{Desk}
 use Rattle.desk_rows.specs.Getters.{member_at, slot_at}
 use Rattle.rtp_codec.specs.Address.{same_address}
+use Rattle.topology.specs.Looking.{member_from, rate_of}
 use Rattle.desk_rows.specs.declared.row.Member.{Member}
 use Rattle.desk_rows.specs.declared.row.Slot.{Slot}
 use Rattle.rtp_codec.specs.declared.address.Address.{Address}
@@ -53,9 +53,15 @@ round_trip moment block =
     if nat_eq block.lsr 0 then None
     else trip_of (time_from block.dlsr (time_from block.lsr (middle_of moment)))
 
--- what a block that came at a moment reports of the way of its stream
-abbrev pub path_of : ℕ → ReportBlock → PathReport
-path_of moment block = record { jitter = block.jitter; round_trip = round_trip moment block }
+-- what a block that came at a moment reports of the way of its stream, which has this clock rate in Hz
+abbrev pub path_of : (moment rate : ℕ) → ReportBlock → PathReport
+path_of moment rate block = record {
+  fraction = block.fraction;
+  lost = block.lost;
+  rate = rate;
+  jitter = block.jitter;
+  round_trip = round_trip moment block;
+}
 
 -- a stream at the address of its receiver
 abbrev pub stream_at : Address → (ssrc : ℕ) → Sender
@@ -75,11 +81,33 @@ goes_to desk (Some slot) from = is_at (member_at desk slot.member) from
 abbrev pub is_received : Desk → Address → (ssrc : ℕ) → Bool
 is_received desk from ssrc = goes_to desk (slot_at desk ssrc) from
 
+-- the member's mix has this SSRC
+abbrev pub is_mix : Option Member → (ssrc : ℕ) → Bool
+is_mix None ssrc = false
+is_mix (Some member) ssrc = nat_eq member.out_audio ssrc
+
+-- the clock rate of the stream of this SSRC, if it is the mix of a member that was found
+abbrev pub mix_rate : Desk → Option ℕ → (ssrc : ℕ) → Option ℕ
+mix_rate desk None ssrc = None
+mix_rate desk (Some member) ssrc = if is_mix (member_at desk member) ssrc then rate_of desk member else None
+
+-- the clock rate in Hz of the stream of this SSRC that the desk sends to an address, if it sends one there: that of
+-- video for a slot's stream, and for a mix that of its member's room
+abbrev pub rate_to : Desk → Address → (ssrc : ℕ) → Option ℕ
+rate_to desk from ssrc =
+    if is_received desk from ssrc then Some video_rate else mix_rate desk (member_from desk from) ssrc
+
+-- A block of a stream of this clock rate was noted that came from an address at a moment, and none where no such stream
+-- is sent there.
+abbrev pub IsBlockKept :
+    Option ℕ → Address → (moment : ℕ) → TableOf PathReport → ReportBlock → TableOf PathReport → Type 0
+IsBlockKept None from moment old block new = new ≡ old
+IsBlockKept (Some rate) from moment old block new =
+    IsKept most_paths (stream_at from block.ssrc) (path_of moment rate block) old new
+
 -- A block was noted that came from an address at a moment, if the desk sends its stream there, and otherwise nothing.
 abbrev pub IsBlockNoted : Desk → Address → ℕ → TableOf PathReport → ReportBlock → TableOf PathReport → Type 0
-IsBlockNoted desk from moment old block new =
-    MatchBool (is_received desk from block.ssrc)
-    (IsKept most_paths (stream_at from block.ssrc) (path_of moment block) old new) (new ≡ old)
+IsBlockNoted desk from moment old block new = IsBlockKept (rate_to desk from block.ssrc) from moment old block new
 
 -- the report blocks of a packet
 abbrev pub blocks_of : Packet → List ReportBlock
@@ -120,10 +148,10 @@ AreReported desk (Rtcp packets) from moment octets old new = HasReported desk fr
 
 -- ---- the parts of a stream's line
 
--- the jitter in whole milliseconds, at the clock rate of video
+-- the jitter in whole milliseconds, at the stream's clock rate
 abbrev pub path_jitter_part : Option PathReport → LinePart
 path_jitter_part None = no_word
-path_jitter_part (Some path) = number (path.jitter * 1000 / video_rate)
+path_jitter_part (Some path) = number (path.jitter * 1000 / max path.rate 1)
 
 -- a round trip in whole milliseconds
 abbrev pub trip_part : Option ℕ → LinePart

@@ -5,6 +5,7 @@ use Rattle.ingress.specs.Ingresses.{Knows}
 use Rattle.ingress.specs.Reception.{reception_at}
 use Rattle.ingress.specs.inner.Holding.{IngressOf}
 use Rattle.ingress.specs.declared.reception.Reception.{Reception}
+use Rattle.bridge_stats.specs.declared.numbers.SourceNumbers.{SourceNumbers}
 use Rattle.bridge_stats.specs.declared.sender.Sender.{Sender}
 use Rattle.bridge_stats.specs.Counts.{so_many}
 use Rattle.bridge_stats.specs.Text.{LinePart, words, number, no_word}
@@ -53,8 +54,14 @@ abbrev pub waiting_part : Option Reception → LinePart
 waiting_part None = no_word
 waiting_part (Some reception) = of_video reception (waits_part reception.waits)
 
--- how a source is received, each number behind its word
-abbrev pub reception_parts : Option Reception → List LinePart
-reception_parts reception =
+-- what is counted of sound, where a sample has come
+abbrev pub sound_part : (samples count : ℕ) → LinePart
+sound_part samples count = if nat_eq samples 0 then no_word else number count
+
+-- how a source is received, and what is counted of its sound, each number behind its word
+abbrev pub reception_parts : Option Reception → SourceNumbers → List LinePart
+reception_parts reception numbers =
     words (codes "jitter") ∷ jitter_part reception ∷ words (codes "frames") ∷ frames_part reception
-    ∷ words (codes "given-up") ∷ given_up_part reception ∷ words (codes "waiting") ∷ waiting_part reception ∷ []
+    ∷ words (codes "given-up") ∷ given_up_part reception ∷ words (codes "waiting") ∷ waiting_part reception
+    ∷ words (codes "samples") ∷ sound_part numbers.samples numbers.samples
+    ∷ words (codes "energy") ∷ sound_part numbers.samples numbers.energy ∷ []

@@ -72,9 +72,9 @@ count_parts row =
     ∷ words (codes "expected") ∷ number row.numbers.expected ∷ words (codes "lost")
     ∷ number (row.numbers.expected - row.numbers.received) ∷ words (codes "ago") ∷ number row.ago ∷ []
 
--- a source: its counts, and how it is received
+-- a source: its counts, how it is received, and what is counted of its sound
 abbrev pub source_line : SourceRow → List ℕ
-source_line row = line_text (codes "source") (count_parts row ++ reception_parts row.reception)
+source_line row = line_text (codes "source") (count_parts row ++ reception_parts row.reception row.numbers)
 
 abbrev pub stranger_line : StrangerRow → List ℕ
 stranger_line row =

@@ -102,4 +102,6 @@ numbers_of all = record {
   expected = so_many (expected_of (numbers_in all));
   received = so_many (length (numbers_in all));
   last = last_moment all;
+  samples = so_many (sum_by (λ taken. taken.sound.samples) all);
+  energy = so_many (sum_by (λ taken. taken.sound.energy) all);
 }

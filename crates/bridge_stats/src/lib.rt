@@ -2,7 +2,8 @@
 //!
 //! Begin with [`BridgeStats::new`]. [`BridgeStats::note`] notes a datagram that was received. Where somebody asks,
 //! [`BridgeStats::show`] writes rows into a [`StatsShown`], with how the receive side receives the sources, and
-//! [`print_stats`] appends their lines, and those of what others count. A contract sees the list of all datagrams that
+//! [`print_stats`] appends their lines, and those of what others count; [`print_levels`] appends how loud the sources
+//! of sound are. A contract sees the list of all datagrams that
 //! were noted, the datagrams of each source that is kept, what was reported of the way of each stream that is kept, and
 //! a text as its octets.
 //!
@@ -18,6 +19,7 @@
 mod appending;
 mod kind;
 mod laws;
+mod levels;
 mod lines;
 mod numbers;
 mod others;
@@ -39,6 +41,7 @@ mod tally;
 
 pub use self::kind::OutcomeKind;
 pub use self::laws::all_are_counted;
+pub use self::levels::print_levels;
 pub use self::numbers::SourceNumbers;
 pub use self::others::{LaneRow, Limited, OthersShown, Seats, SocketRow, StreamReport, StreamRow};
 pub use self::path::PathReport;

@@ -20,4 +20,8 @@ pub struct SourceNumbers {
     pub received: u64,
     /// When the last datagram came, in nanoseconds since 1970.
     pub last: u64,
+    /// How many samples of sound its accepted packets had.
+    pub samples: u64,
+    /// The energy of these samples: packet by packet the sum of their squares in units of 1,024, rounded down.
+    pub energy: u64,
 }

@@ -117,9 +117,6 @@ pub struct OthersShown<'a> {
     pub seats: Seats,
 }
 
-/// The clock rate of video, in Hz.
-const VIDEO_RATE: u64 = 90_000;
-
 /// How many units of a round trip a second has.
 const TRIP_UNITS: u64 = 65_536;
 
@@ -173,7 +170,8 @@ fn path_numbers<'a>(path: Option<PathReport>) -> [LineField<'a>; 2]
     match path {
         None => [LineField::Words(NO_WORD), LineField::Words(NO_WORD)],
         Some(path) => {
-            let jitter = LineField::Number(u64::from(path.jitter) * 1_000 / VIDEO_RATE);
+            let rate = u64::from(path.rate.max(1));
+            let jitter = LineField::Number(u64::from(path.jitter) * 1_000 / rate);
             [jitter, trip_field(path.round_trip)]
         }
     }

@@ -20,6 +20,12 @@ const LONGEST_TRIP: u32 = 60 * 65_536;
 /// What a receiver reported of the way of a stream to it.
 #[derive(Clone, Copy)]
 pub struct PathReport {
+    /// The fraction of packets lost since the receiver's report before, in 256ths.
+    pub fraction: u8,
+    /// The packets lost in all. Duplicates make it negative.
+    pub lost: i32,
+    /// The stream's clock rate, in Hz.
+    pub rate: u32,
     /// The interarrival jitter of the stream's packets, in units of the RTP timestamp.
     pub jitter: u32,
     /// The round trip, in 65536ths of a second. `None` if the report doesn't say when it came.
@@ -67,11 +73,14 @@ fn round_trip(moment: u64, block: &ReportBlock) -> Option<u32>
 }
 
 impl PathReport {
-    /// What a block that came at a moment reports.
-    pub(crate) fn of(moment: u64, block: &ReportBlock) -> Self
-        ensures { result ≡ path_of moment block.now }
+    /// What a block that came at a moment reports of a stream of this clock rate.
+    pub(crate) fn of(moment: u64, rate: u32, block: &ReportBlock) -> Self
+        ensures { result ≡ path_of moment rate block.now }
     {
         Self {
+            fraction: block.fraction,
+            lost: block.lost,
+            rate,
             jitter: block.jitter,
             round_trip: round_trip(moment, block),
         }

@@ -6,7 +6,7 @@ ghost use Rattle.std.specs.List.{FoldsTo};
 ghost use Rattle.rtcp_codec.specs.View.{packet_of, packets_of};
 ghost use Rattle.bridge_stats.specs.Senders.{same_sender};
 ghost use Rattle.bridge_stats.specs.Tables.{IsKept};
-ghost use Rattle.bridge_stats.specs.Paths.{most_paths, stream_at, is_at, is_received};
+ghost use Rattle.bridge_stats.specs.Paths.{most_paths, stream_at, is_at, is_received, is_mix, mix_rate, rate_to};
 ghost use Rattle.bridge_stats.specs.Paths.{IsBlockNoted, IsPacketNoted, AreReported};
 ghost use Rattle.bridge_stats.specs.Noted.{HasReports};
 
@@ -21,6 +21,7 @@ use std::alloc::{AllocError, Allocator, Global};
 use std::hash::{BuildHasherDefault, FoldHasher};
 use std::marker::Model;
 use std::num::NonZeroUsize;
+use topology::{member_from, rate_of};
 
 /// Of how many streams at their receivers' addresses the last report is kept.
 const MOST_PATHS: usize = 5_120;
@@ -29,9 +30,9 @@ const MOST_PATHS: usize = 5_120;
 pub(crate) type PathCache<A> = LruCache<Sender, PathReport, BuildHasherDefault<FoldHasher>, A>;
 
 /// What the last report block says of the way of each stream: of the 5,120 streams, at the addresses of their
-/// receivers, of which blocks came last. A block is kept only of a slot's stream that the desk sends to the address
-/// from which the block came, so that no member can push out what others report. Only a stream that isn't kept takes
-/// memory. Where that is refused, its block is left out, and counted.
+/// receivers, of which blocks came last. A block is kept only of a stream, of a slot or a mix, that the desk sends to
+/// the address from which the block came, so that no member can push out what others report. Only a stream that isn't
+/// kept takes memory. Where that is refused, its block is left out, and counted.
 ///
 /// Contracts see what was reported of each, that of the latest block first.
 #[derive(Drop)]
@@ -63,8 +64,10 @@ fn is_at(member: Option<Member>, from: &Address) -> bool
     }
 }
 
+/// The clock rate of video, in Hz.
+const VIDEO_RATE: u32 = 90_000;
+
 /// Whether the desk sends the stream of a slot to an address: that of the slot's member.
-// Lanes keep no reports on mixes.
 fn is_received(rows: &Rows, from: &Address, ssrc: u32) -> bool
     ensures { result ≡ is_received rows.now from.now ssrc }
 {
@@ -72,6 +75,42 @@ fn is_received(rows: &Rows, from: &Address, ssrc: u32) -> bool
         None => false,
         Some(slot) => is_at(rows.member(slot.member), from),
     }
+}
+
+/// Whether a member was found whose mix has this SSRC.
+fn is_mix(member: Option<Member>, ssrc: u32) -> bool
+    ensures { result ≡ is_mix member ssrc }
+{
+    match member {
+        None => false,
+        Some(member) => member.out_audio == ssrc,
+    }
+}
+
+/// The clock rate of a stream, if it is the mix of a member that was found.
+fn mix_rate(rows: &Rows, member: Option<u32>, ssrc: u32) -> Option<u32>
+    ensures { result ≡ mix_rate rows.now member ssrc }
+{
+    match member {
+        None => None,
+        Some(member) => {
+            if is_mix(rows.member(member), ssrc) {
+                rate_of(rows, member)
+            } else {
+                None
+            }
+        }
+    }
+}
+
+/// The clock rate of a stream that the desk sends to an address, if it sends one of this SSRC there.
+fn rate_to(rows: &Rows, from: &Address, ssrc: u32) -> Option<u32>
+    ensures { result ≡ rate_to rows.now from.now ssrc }
+{
+    if is_received(rows, from, ssrc) {
+        return Some(VIDEO_RATE);
+    }
+    mix_rate(rows, member_from(rows, from), ssrc)
 }
 
 impl<A: Allocator + Copy> PathTable<A> {
@@ -107,11 +146,11 @@ impl<A: Allocator + Copy> PathTable<A> {
     fn note_block(&mut self, rows: &Rows, from: &Address, moment: u64, block: &ReportBlock)
         ensures { IsBlockNoted rows.now from.now moment self.old block.now self.new }
     {
-        if !is_received(rows, from, block.ssrc) {
+        let Some(rate) = rate_to(rows, from, block.ssrc) else {
             return;
-        }
+        };
         let stream = stream_at(from, block.ssrc);
-        let path = PathReport::of(moment, block);
+        let path = PathReport::of(moment, rate, block);
         self.keep(stream, path);
     }
 

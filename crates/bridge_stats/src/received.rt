@@ -2,10 +2,12 @@
 
 ghost use Rattle.std.specs.Prelude.{◌≡◌, ◌∷◌, [], map};
 ghost use Rattle.bridge_stats.specs.Received.{jitter_ms, waits_part};
-ghost use Rattle.bridge_stats.specs.Received.{jitter_part, frames_part, given_up_part, waiting_part, reception_parts};
+ghost use Rattle.bridge_stats.specs.Received.{jitter_part, frames_part, given_up_part, waiting_part};
+ghost use Rattle.bridge_stats.specs.Received.{sound_part, reception_parts};
 ghost use Rattle.bridge_stats.specs.inner.Said.{said};
 
 use crate::appending::{LineField, NO_WORD};
+use crate::numbers::SourceNumbers;
 use ingress::Reception;
 
 /// The clock rate of video, in Hz.
@@ -52,9 +54,23 @@ fn reception_numbers<'a>(reception: Option<Reception>) -> [LineField<'a>; 4]
     ]
 }
 
-/// How a source is received, each number behind its word.
-pub(crate) fn reception_fields<'a>(reception: Option<Reception>) -> [LineField<'a>; 8]
-    ensures { map said result ≡ reception_parts reception }
+/// What is counted of sound, or a mark where no sample has come.
+fn sound_field<'a>(samples: u64, count: u64) -> LineField<'a>
+    ensures { said result ≡ sound_part samples count }
+{
+    if samples == 0 {
+        LineField::Words(NO_WORD)
+    } else {
+        LineField::Number(count)
+    }
+}
+
+/// How a source is received, and what is counted of its sound, each number behind its word.
+pub(crate) fn reception_fields<'a>(
+    reception: Option<Reception>,
+    numbers: &SourceNumbers,
+) -> [LineField<'a>; 12]
+    ensures { map said result ≡ reception_parts reception numbers.now }
 {
     let [jitter, frames, given_up, waiting] = reception_numbers(reception);
     [
@@ -66,5 +82,9 @@ pub(crate) fn reception_fields<'a>(reception: Option<Reception>) -> [LineField<'
         given_up,
         LineField::Words(b"waiting"),
         waiting,
+        LineField::Words(b"samples"),
+        sound_field(numbers.samples, numbers.samples),
+        LineField::Words(b"energy"),
+        sound_field(numbers.samples, numbers.energy),
     ]
 }

@@ -97,7 +97,7 @@ impl StatLine for SourceRow {
             LineField::Words(b"ago"),
             LineField::Number(self.ago),
         ];
-        let received = reception_fields(self.reception);
+        let received = reception_fields(self.reception, numbers);
         append_long_line(b"source", &counts, &received, out)
     }
 }

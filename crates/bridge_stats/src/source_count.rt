@@ -99,6 +99,8 @@ pub(crate) struct SourceCount {
     duplicates: u64,
     dropped: u64,
     last: u64,
+    samples: u64,
+    energy: u64,
     stretch: Option<Stretch>,
     /// What was noted, in proofs alone.
     log: TakenLog,
@@ -114,8 +116,8 @@ impl Model for SourceCount {
 
     ghost view = { λ s. taken_list s.log };
 
-    ghost invariant = { λ s. AreCounts s.packets s.octets s.late s.duplicates s.dropped s.last s.stretch
-        (taken_list s.log) };
+    ghost invariant = { λ s. AreCounts s.packets s.octets s.late s.duplicates s.dropped s.last s.samples
+        s.energy s.stretch (taken_list s.log) };
 }
 
 impl SourceCount {
@@ -130,6 +132,8 @@ impl SourceCount {
             duplicates: 0,
             dropped: 0,
             last: 0,
+            samples: 0,
+            energy: 0,
             stretch: None,
             log: TakenLog::new(),
         }
@@ -146,6 +150,8 @@ impl SourceCount {
         self.duplicates = more_if(self.duplicates, is_duplicate(&taken.outcome), 1);
         self.dropped = more_if(self.dropped, !accepted, 1);
         self.last = taken.moment;
+        self.samples = self.samples.saturating_add(taken.sound.samples);
+        self.energy = self.energy.saturating_add(taken.sound.energy);
         self.stretch = Stretch::after(self.stretch, &taken.outcome);
         self.log.note(taken);
     }
@@ -163,6 +169,8 @@ impl SourceCount {
             expected: Stretch::expected(self.stretch),
             received: Stretch::received(self.stretch),
             last: self.last,
+            samples: self.samples,
+            energy: self.energy,
         }
     }
 }

@@ -3,7 +3,7 @@
 ghost use Rattle.std.specs.Prelude.{◌≡◌};
 ghost use Rattle.bridge_stats.specs.Noted.{taken_of};
 
-use ingress::{Outcome, Received};
+use ingress::{Outcome, Received, SoundCount};
 use rtp_codec::{Address, Header};
 use std::alloc::Allocator;
 
@@ -20,6 +20,8 @@ pub struct TakenIn {
     pub header: Option<Header>,
     /// Its outcome.
     pub outcome: Outcome,
+    /// What is counted of its sound.
+    pub sound: SoundCount,
 }
 
 impl TakenIn {
@@ -33,6 +35,7 @@ impl TakenIn {
             octets: received.octets,
             header: received.header,
             outcome: received.outcome,
+            sound: received.sound,
         }
     }
 }

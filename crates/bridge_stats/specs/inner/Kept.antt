@@ -16,7 +16,7 @@ IsStretch (Some s) (first ∷ numbers) =
     (s.first ≡ first) × (s.greatest ≡ fold int_max first numbers) × (s.received ≡ so_many (length (first ∷ numbers)))
 
 -- the counts of these datagrams of a source, and what is kept of their numbers
-pub record AreCounts (packets octets late duplicates dropped last : ℕ) (stretch : Option Stretch)
+pub record AreCounts (packets octets late duplicates dropped last samples energy : ℕ) (stretch : Option Stretch)
     (all : List TakenIn) : Type 0 where
   pub packets_are : packets ≡ so_many (count_by (λ taken. is_accepted taken.outcome) all)
   pub octets_are : octets ≡ so_many (sum_by (λ taken. if is_accepted taken.outcome then taken.octets else 0) all)
@@ -24,4 +24,6 @@ pub record AreCounts (packets octets late duplicates dropped last : ℕ) (stretc
   pub duplicates_are : duplicates ≡ so_many (count_by (λ taken. is_duplicate taken.outcome) all)
   pub dropped_are : dropped ≡ so_many (count_by (λ taken. not (is_accepted taken.outcome)) all)
   pub last_is : last ≡ last_moment all
+  pub samples_are : samples ≡ so_many (sum_by (λ taken. taken.sound.samples) all)
+  pub energy_is : energy ≡ so_many (sum_by (λ taken. taken.sound.energy) all)
   pub stretch_is : IsStretch stretch (numbers_in all)

@@ -7,6 +7,6 @@ use Rattle.bridge_stats.proofs.rows.SourceRowStatLine.append.Goals as goal
 pub returns : goal.returns
 returns g c =
     let row = c.args.self.now in
-    grows_same _ _ _ _ _ (line_halves (codes "source") (count_parts row) (reception_parts row.reception))
+    grows_same _ _ _ _ _ (line_halves (codes "source") (count_parts row) (reception_parts row.reception row.numbers))
     (rw (c.sender_address.ensures, c.from.ensures, c.saturating_sub.ensures, c.reception_fields-received.ensures)
     at c.append_long_line.ensures)
