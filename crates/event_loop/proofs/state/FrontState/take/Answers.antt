@@ -152,6 +152,7 @@ returns-clause-done g c =
                   found = is.found;
                   none = is.none;
                   rest = ap (λ (r : Received Global). taken_of r) is.rest;
+                  heard = is.heard;
                 };
             noted = c.note.ensures.noted;
             reports =
