@@ -1,12 +1,13 @@
 //! What each lane did so far, and what was sent of each outgoing stream.
 
 ghost use Rattle.std.specs.Prelude.{◌≡◌, IfOk, vec_len};
-ghost use Rattle.bridge_monitor.specs.Told.{lane_row, report_row, stream_row};
+ghost use Rattle.bridge_monitor.specs.Told.{lane_row, report_row, way_row, way_from, report_of, stream_row};
 
-use bridge_stats::{BridgeStats, LaneRow, StreamReport, StreamRow};
+use bridge_stats::{BridgeStats, LaneRow, PathReport, StreamReport, StreamRow};
 use lane_wire::{Reported, SendCounts, SharedCounts, StreamNumbers};
 use media_front::MediaFront;
 use media_workers::{Pace, PublisherName, Sink};
+use rtp_codec::Address;
 use std::alloc::{AllocError, Global};
 use std::sync::{Arc, Wait};
 
@@ -139,17 +140,54 @@ fn report_row(stats: &BridgeStats, reported: &Reported) -> StreamReport
     }
 }
 
+/// A report by what came last of the way of a stream.
+fn way_row(path: Option<PathReport>) -> Option<StreamReport>
+    ensures { result ≡ way_row path }
+{
+    match path {
+        None => None,
+        Some(path) => Some(StreamReport {
+            fraction: path.fraction,
+            lost: path.lost,
+            source: None,
+            path: Some(path),
+        }),
+    }
+}
+
+/// What came last from the address to which the last packet of a stream went.
+fn way_from(stats: &BridgeStats, to: Option<Address>, ssrc: u32) -> Option<StreamReport>
+    ensures { result ≡ way_from stats.now to ssrc }
+{
+    match to {
+        None => None,
+        Some(to) => way_row(stats.path(&to, ssrc)),
+    }
+}
+
+/// What the receiver of a stream reported last. Lanes note no reports on mixes, so of a mix it is what came last of
+/// the way to its member.
+fn report_of(
+    stats: &BridgeStats,
+    ssrc: u32,
+    to: Option<Address>,
+    reported: Option<Reported>,
+) -> Option<StreamReport>
+    ensures { result ≡ report_of stats.now ssrc to reported }
+{
+    match reported {
+        None => way_from(stats, to, ssrc),
+        Some(reported) => Some(report_row(stats, &reported)),
+    }
+}
+
 /// What was sent of a stream, and what its receiver reported last.
 fn stream_row(stats: &BridgeStats, ssrc: u32, numbers: &StreamNumbers) -> StreamRow
     ensures { result ≡ stream_row stats.now ssrc numbers.now }
 {
-    let report = match &numbers.report {
-        None => None,
-        Some(reported) => Some(report_row(stats, reported)),
-    };
     StreamRow {
         out_ssrc: ssrc,
-        report,
+        report: report_of(stats, ssrc, numbers.to, numbers.report),
         packets: numbers.packets,
         octets: numbers.octets,
         resent: numbers.resent,

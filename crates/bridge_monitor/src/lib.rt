@@ -2,7 +2,8 @@
 //! line; and the connection that its trace goes over.
 //!
 //! Threads of operators share a [`StatsDesk`] with the front. One [asks](StatsDesk::ask) and [waits](StatsDesk::wait),
-//! the front [answers](StatsDesk::answer) behind its round, and the thread [prints](StatsDesk::print) the lines. What
+//! the front [answers](StatsDesk::answer) behind its round, and the thread [prints](StatsDesk::print) the lines, or the
+//! [levels](StatsDesk::print_levels) alone. What
 //! lanes send is counted where [`fresh_counts`] says. Any thread tells a [`Teller`] what happens, and one of its own
 //! writes the lines of [`EventLines::next`]. A [`TraceStream`] takes a trace's text, and writes what the system takes
 //! at once.

@@ -1,7 +1,7 @@
 //! Where operators' threads ask what the bridge counts, and the front answers.
 
 ghost use Rattle.std.specs.Prelude.{◌≡◌, ◌++◌, ℕ, List, OnOk, OnErr};
-ghost use Rattle.bridge_monitor.specs.Told.{TellsCounts};
+ghost use Rattle.bridge_monitor.specs.Told.{TellsCounts, TellsLevels};
 
 use crate::lane_counts::{LaneCounts, show_lanes, show_streams};
 use crate::stats_rows::{FrontCounts, StatsRows};
@@ -83,12 +83,31 @@ impl StatsDesk {
         ensures err { OnErr result (out.new.items ≡ out.old.items) }
     {
         let mut rows = self.printed.lock(rt);
-        let answer = self.answer.lock(rt);
-        rows.show_again(&answer.rows);
-        MutexGuard::unlock(answer);
+        self.copy_answer(rt, &mut rows);
         let done = rows.print(socket, seats, out);
         MutexGuard::unlock(rows);
         done
+    }
+
+    /// Appends the levels of the front's last answer. An `Err`, out of memory, appends nothing. It comes, too, where
+    /// the front has never answered.
+    pub fn print_levels<R: Wait>(&self, rt: &R, out: &mut Vec<u8>) -> Result<(), AllocError>
+        ensures ok { OnOk result ((text : List ℕ)
+            × (out.new.items ≡ out.old.items ++ text) × TellsLevels text) }
+        ensures err { OnErr result (out.new.items ≡ out.old.items) }
+    {
+        let mut rows = self.printed.lock(rt);
+        self.copy_answer(rt, &mut rows);
+        let done = rows.print_levels(out);
+        MutexGuard::unlock(rows);
+        done
+    }
+
+    /// Copies the front's last answer.
+    fn copy_answer<R: Wait>(&self, rt: &R, rows: &mut StatsRows) {
+        let answer = self.answer.lock(rt);
+        rows.show_again(&answer.rows);
+        MutexGuard::unlock(answer);
     }
 
     /// Answers the threads that ask what the bridge counts, as of a moment in nanoseconds since 1970: what its front

@@ -4,10 +4,12 @@ ghost use Rattle.std.specs.Prelude.{◌≡◌, ◌++◌, ℕ, List, false, OnOk,
 ghost use Rattle.ingress.specs.inner.Holding.{IngressOf};
 ghost use Rattle.bridge_stats.specs.Stats.{StatsOf};
 ghost use Rattle.bridge_stats.specs.Shown.{IsShown};
-ghost use Rattle.bridge_monitor.specs.Told.{TellsCounts};
+ghost use Rattle.bridge_monitor.specs.Told.{TellsCounts, TellsLevels};
 
 use crate::lane_counts::LanesShown;
-use bridge_stats::{BridgeStats, Limited, OthersShown, Seats, SocketRow, StatsShown, print_stats};
+use bridge_stats::{
+    BridgeStats, Limited, OthersShown, Seats, SocketRow, StatsShown, print_levels, print_stats,
+};
 use ingress::Ingress;
 use std::alloc::{AllocError, Global};
 use std::marker::Model;
@@ -97,6 +99,15 @@ impl RowsKept {
         let others = self.others(socket, seats);
         print_stats(&self.counted, &others, out)
     }
+
+    /// Appends the levels. An `Err`, out of memory, appends nothing.
+    fn print_levels(&self, out: &mut Vec<u8>) -> Result<(), AllocError>
+        ensures ok { (now : ℕ) (ingress : IngressOf) (stats : StatsOf) → IsShown now ingress stats self.now.counted
+            → OnOk result ((text : List ℕ) × (out.new.items ≡ out.old.items ++ text) × TellsLevels text) }
+        ensures err { OnErr result (out.new.items ≡ out.old.items) }
+    {
+        print_levels(&self.counted, out)
+    }
 }
 
 /// Rows of what a bridge counts, if there are any. There is memory for the most, so that none is taken while it runs.
@@ -170,5 +181,18 @@ impl StatsRows {
             return Err(AllocError);
         }
         self.kept.print(socket, seats, out)
+    }
+
+    /// Appends the levels. An `Err`, out of memory, appends nothing. It comes, too, where there are no rows.
+    pub(crate) fn print_levels(&self, out: &mut Vec<u8>) -> Result<(), AllocError>
+        ensures ok { OnOk result ((text : List ℕ)
+            × (out.new.items ≡ out.old.items ++ text) × TellsLevels text) }
+        ensures err { OnErr result (out.new.items ≡ out.old.items) }
+    {
+        if self.is_whole {
+            self.kept.print_levels(out)
+        } else {
+            Err(AllocError)
+        }
     }
 }

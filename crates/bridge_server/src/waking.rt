@@ -89,6 +89,14 @@ pub(crate) struct CallerWaker {
 }
 
 impl CallerWaker {
+    /// Asks the front what the bridge counts, and waits until it has answered.
+    fn ask<R: Wait>(&self, rt: &R) {
+        let desk = &self.front.stats;
+        let answers = desk.ask(rt);
+        self.wake();
+        desk.wait(rt, answers);
+    }
+
     /// Tells that the connection is refused.
     pub(crate) fn note_refused<R: Wait>(&self, rt: &R, why: WhyFailed) {
         self.front.note_refused(rt, self.from, why);
@@ -96,10 +104,12 @@ impl CallerWaker {
 }
 
 impl Wake for CallerWaker {
-    ghost use Rattle.bridge_monitor.specs.Told.{TellsCounts};
+    ghost use Rattle.bridge_monitor.specs.Told.{TellsCounts, TellsLevels};
 
     ghost counts = { λ waker used text.
         TellsCounts waker.front.socket (record { used = used; all = waker.front.seats }) text };
+
+    ghost levels = { λ waker text. TellsLevels text };
 
     fn wake(&self) {
         // If a wake fails, the next round comes at most 20 ms later.
@@ -117,11 +127,19 @@ impl Wake for CallerWaker {
         used: u32,
         out: &mut Vec<u8>,
     ) -> Result<(), AllocError> {
-        let desk = &self.front.stats;
-        let answers = desk.ask(rt);
-        self.wake();
-        desk.wait(rt, answers);
+        self.ask(rt);
         let all = self.front.seats;
+        let desk = &self.front.stats;
         desk.print(rt, self.front.socket, Seats { used, all }, out)
+    }
+
+    fn tell_levels<R: Wait>(
+        &self,
+        rt: &R,
+        _alloc: Global,
+        out: &mut Vec<u8>,
+    ) -> Result<(), AllocError> {
+        self.ask(rt);
+        self.front.stats.print_levels(rt, out)
     }
 }

@@ -18,7 +18,7 @@ use Rattle.operator_lines.specs.declared.asking.LineAsk.TheVariants as variants
 use Rattle.operator_lines.specs.declared.asking.Verb.{Verb}
 use Rattle.operator_lines.specs.declared.asking.Verb.TheVariants.{Show, Watch, Quit, Stop}
 use Rattle.operator_lines.specs.declared.line_desk.View.{View}
-use Rattle.operator_lines.specs.declared.line_desk.View.TheVariants.{Rows, History, Stats}
+use Rattle.operator_lines.specs.declared.line_desk.View.TheVariants.{Rows, History, Stats, Levels}
 use Rattle.operator_lines.specs.declared.answering.Next.{Next}
 use Rattle.operator_lines.specs.declared.answering.Next.TheVariants as next
 
@@ -47,6 +47,7 @@ alone_of word =
     if bytes_eq word (codes "show") then Some (Show Rows)
     else if bytes_eq word (codes "history") then Some (Show (History every_call))
     else if bytes_eq word (codes "stats") then Some (Show Stats)
+    else if bytes_eq word (codes "levels") then Some (Show Levels)
     else if bytes_eq word (codes "watch") then Some Watch
     else if bytes_eq word (codes "quit") then Some Quit
     else if bytes_eq word (codes "stop") then Some Stop
@@ -77,6 +78,7 @@ abbrev pub behind_of : Verb → List ℕ → Result AskOf (ℕ × Fault)
 behind_of (Show (History most)) text = asked_most (most_in text (cut_of 32 text))
 behind_of (Show Rows) text = Err (2, ExtraWord)
 behind_of (Show Stats) text = Err (2, ExtraWord)
+behind_of (Show Levels) text = Err (2, ExtraWord)
 behind_of Watch text = Err (2, ExtraWord)
 behind_of Quit text = Err (2, ExtraWord)
 behind_of Stop text = Err (2, ExtraWord)

@@ -58,6 +58,8 @@ fn alone(word: &[u8]) -> Option<Verb>
         Some(Verb::Show(View::History { most: u64::MAX }))
     } else if word == b"stats".as_slice() {
         Some(Verb::Show(View::Stats))
+    } else if word == b"levels".as_slice() {
+        Some(Verb::Show(View::Levels))
     } else if word == b"watch".as_slice() {
         Some(Verb::Watch)
     } else if word == b"quit".as_slice() {
@@ -79,12 +81,13 @@ fn behind(verb: Verb, text: &[u8]) -> Result<Verb, ParseFault>
             Ok(most) => Ok(Verb::Show(View::History { most })),
             Err(why) => Err(why),
         },
-        Verb::Show(View::Rows | View::Stats) | Verb::Watch | Verb::Quit | Verb::Stop => {
-            Err(ParseFault::Line {
-                word: 2,
-                fault: Fault::ExtraWord,
-            })
-        }
+        Verb::Show(View::Rows | View::Stats | View::Levels)
+        | Verb::Watch
+        | Verb::Quit
+        | Verb::Stop => Err(ParseFault::Line {
+            word: 2,
+            fault: Fault::ExtraWord,
+        }),
     }
 }
 

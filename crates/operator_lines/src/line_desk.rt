@@ -21,6 +21,8 @@ pub enum View {
     },
     /// What the bridge counts.
     Stats,
+    /// How loud the sources of sound are.
+    Levels,
 }
 
 /// A desk that answers the lines of one operator.
@@ -51,7 +53,7 @@ pub trait LineDesk {
         ensures err { OnErr result (out.new.items ≡ out.old.items) };
 
     /// Appends the rows or calls of one version, a line for each, and the version; or the lines that tell what the
-    /// bridge counts. An `Err` appends nothing.
+    /// bridge counts, or how loud the sources of sound are. An `Err` appends nothing.
     fn show(&self, alloc: Global, view: View, out: &mut Vec<u8>) -> Result<(), AllocError>
         ensures ok { OnOk result (AppendsShown shows self.now view out.old.items out.new.items) }
         ensures err { OnErr result (out.new.items ≡ out.old.items) };

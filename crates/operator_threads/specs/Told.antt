@@ -7,7 +7,7 @@ use Rattle.desk_edit.specs.Asked.{CallOf}
 use Rattle.desk_calls.specs.declared.reply.Reply.TheVariants as replies
 use Rattle.desk_text.specs.HistoryText.{history_text}
 use Rattle.operator_lines.specs.declared.line_desk.View.{View}
-use Rattle.operator_lines.specs.declared.line_desk.View.TheVariants.{Rows, History, Stats}
+use Rattle.operator_lines.specs.declared.line_desk.View.TheVariants.{Rows, History, Stats, Levels}
 use Rattle.desk_text.specs.RowLines.{show_text}
 use Rattle.desk_text.specs.Text.{reply_text, refused_text}
 use Rattle.published_desk.specs.Published.{NoticeOf}
@@ -59,8 +59,10 @@ SeatTellsPast start least most seat text =
     (past : PastOf) × IsPrefix seat.seen past.log × (least ≤ length past.log) × TellsPast start most past text
 
 -- what a seat is told of a desk, by what it asks for, after so many calls at least; or of what the bridge counts, with
--- so many seats in use
-abbrev pub SeatViews : Desk → (counts : ℕ → List ℕ → Type 0) → (least : ℕ) → SeatOf → View → List ℕ → Type 0
-SeatViews start counts least seat Rows text = SeatShows start least text
-SeatViews start counts least seat (History most) text = SeatTellsPast start least most seat text
-SeatViews start counts least seat Stats text = (used : ℕ) × (used ≤ most_operators) × counts used text
+-- so many seats in use; or of how loud the sources of sound are
+abbrev pub SeatViews :
+    Desk → (counts : ℕ → List ℕ → Type 0) → (levels : List ℕ → Type 0) → (least : ℕ) → SeatOf → View → List ℕ → Type 0
+SeatViews start counts levels least seat Rows text = SeatShows start least text
+SeatViews start counts levels least seat (History most) text = SeatTellsPast start least most seat text
+SeatViews start counts levels least seat Stats text = (used : ℕ) × (used ≤ most_operators) × counts used text
+SeatViews start counts levels least seat Levels text = levels text

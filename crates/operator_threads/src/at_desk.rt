@@ -157,7 +157,8 @@ impl<'b, 'a, H: DeskBrand, R: Wait, F: Wake> LineDesk for AtDesk<'b, 'a, H, R, F
         ask text };
 
     ghost shows = { λ desk view text.
-        SeatViews H.start (F.counts desk.front.now) (length desk.known.lists) desk.taken.seat view text };
+        SeatViews H.start (F.counts desk.front.now) (F.levels desk.front.now) (length desk.known.lists)
+        desk.taken.seat view text };
 
     fn reply(&mut self, alloc: Global, call: Call, out: &mut Vec<u8>) -> Result<(), AllocError> {
         let desk = &self.operators.desk;
@@ -193,6 +194,7 @@ impl<'b, 'a, H: DeskBrand, R: Wait, F: Wake> LineDesk for AtDesk<'b, 'a, H, R, F
                 let used = self.operators.used(self.rt);
                 self.front.tell_stats(self.rt, alloc, used, out)
             }
+            View::Levels => self.front.tell_levels(self.rt, alloc, out),
         }
     }
 }

@@ -48,6 +48,7 @@ mod speech;
 mod talker;
 mod talkers;
 mod tally;
+mod wakes;
 
 use crate::scene::played;
 use crate::tally::Tally;

@@ -5,65 +5,17 @@ use crate::difference::Difference;
 use crate::line::ScriptLine;
 use crate::one_thread::OneThread;
 use crate::speech::Speech;
+use crate::wakes::Wakes;
 use operator_connection::Caller;
 use operator_desk::DeskBrand;
-use operator_threads::{AtDesk, Operators, Seating, Wake};
+use operator_threads::{AtDesk, Operators, Seating};
 use std::alloc::{AllocError, Global};
 use std::sync::Wait;
-use std::sync::atomic::{AtomicU64, Ordering};
 
 /// How many rounds a connection may take to end, and how many octets are read and written in each.
 const LAST_ROUNDS: u32 = 4_000;
 
 const LAST_OCTETS: u64 = 4_000;
-
-/// Counts how often the front is woken, and how many connections are refused a seat.
-#[derive(Drop)]
-pub struct Wakes {
-    wakes: AtomicU64,
-    busy: AtomicU64,
-}
-
-impl Wakes {
-    /// Nothing was counted.
-    pub fn new() -> Self {
-        Self {
-            wakes: AtomicU64::new(0),
-            busy: AtomicU64::new(0),
-        }
-    }
-
-    /// Whether the model counts the same.
-    pub fn are_those(&self, model: &OneThread) -> bool {
-        self.wakes.load(Ordering::SeqCst) == model.desk.accepted.saturating_add(model.stops())
-            && self.busy.load(Ordering::SeqCst) == model.busy
-    }
-}
-
-impl Wake for Wakes {
-    ghost use Rattle.std.specs.Prelude.{◌≡◌, []};
-
-    ghost counts = { λ wakes used text. text ≡ [] };
-
-    fn wake(&self) {
-        self.wakes.fetch_add(1, Ordering::SeqCst);
-    }
-
-    fn note_busy<R: Wait>(&self, _rt: &R) {
-        self.busy.fetch_add(1, Ordering::SeqCst);
-    }
-
-    /// A script doesn't ask what the bridge counts.
-    fn tell_stats<R: Wait>(
-        &self,
-        _rt: &R,
-        _alloc: Global,
-        _used: u32,
-        _out: &mut Vec<u8>,
-    ) -> Result<(), AllocError> {
-        Ok(())
-    }
-}
 
 /// The operators of a bridge, as their threads see them.
 pub struct Place<'b, 'a, H: DeskBrand, R: Wait> {
