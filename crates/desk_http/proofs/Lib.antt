@@ -2,3 +2,4 @@ mod PendingLineLemmas
 mod GuardLemmas
 pub mod ReadingLemmas
 pub mod RelayLemmas
+mod SpeechLemmas

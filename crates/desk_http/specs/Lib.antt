@@ -14,3 +14,4 @@ pub mod Names
 pub mod Readings
 pub mod Metrics
 pub mod Rows
+pub mod Speaking

@@ -40,5 +40,6 @@ is_change body = nat_le (length body) longest_change && is_names_line body
 abbrev pub is_reserved : List ℕ → Bool
 is_reserved line =
     bytes_eq (first_word line) (codes "show") || bytes_eq (first_word line) (codes "history")
-    || bytes_eq (first_word line) (codes "stats") || bytes_eq (first_word line) (codes "watch")
+    || bytes_eq (first_word line) (codes "stats") || bytes_eq (first_word line) (codes "levels")
+    || bytes_eq (first_word line) (codes "watch")
     || bytes_eq (first_word line) (codes "quit") || bytes_eq (first_word line) (codes "stop") || is_names_line line

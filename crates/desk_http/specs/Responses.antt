@@ -85,7 +85,8 @@ refusal_text NotFound = codes "NotFound: there are /, /desk, /history, /stats, /
 refusal_text NotAllowed = codes "NotAllowed: POST to /call, GET or POST to /names, GET elsewhere\n"
 refusal_text NoToken = codes "NoToken: load the page again, its token is of an earlier run\n"
 refusal_text NoLine = codes "NoLine: a call is one line of 1 to 4096 printed octets\n"
-refusal_text Reserved = codes "Reserved: show, history, stats, watch, quit, stop and names are not for the page\n"
+refusal_text Reserved =
+    codes "Reserved: show, history, stats, levels, watch, quit, stop and names are not for the page\n"
 refusal_text NoNames =
     codes "NoNames: a change is the word names, the version that was seen, and a JSON object of texts\n"
 

@@ -15,6 +15,8 @@
 //! let last = request.feed(b"9\n")?; // ReplyProgress::Complete
 //! ```
 //!
+//! A [`SpeechState`] says by the sound of quarters of a second whether a source speaks.
+//!
 //! The cases of x_cases_page have this request, and each route.
 #![tactic(auto)]
 
@@ -38,8 +40,10 @@ mod routing;
 mod rows;
 mod services;
 mod site;
+mod speaking;
 mod startup;
 mod stats_shapes;
+mod stream_metrics;
 
 pub use admission::{ClientActivity, ClientStage, Placement, admit};
 pub use bridge_connection::BridgeConnection;
@@ -57,4 +61,5 @@ pub use routing::{MAX_CHANGE, MAX_LINE, PageRefusal, Route, route_of};
 pub use rows::{HistoryPart, RowField, RowKind, RowShape};
 pub use services::{Responder, Router};
 pub use site::{Assets, Site};
+pub use speaking::{Quarter, SpeechState};
 pub use startup::{Addresses, loopback_addresses, request_limits, token};

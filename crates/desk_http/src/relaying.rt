@@ -22,6 +22,7 @@ use crate::metrics::{Family, metrics_text};
 use crate::responding::{fill, fill_text};
 use crate::rows::{RowShape, json_text};
 use crate::stats_shapes::stats_shapes;
+use crate::stream_metrics::stream_families;
 use crate::{AnswerForm, BridgeReply, Query, Route};
 use bytes::{BufMut, Bytes};
 use http::{HeaderValue, StatusCode};
@@ -32,7 +33,7 @@ use std::alloc::{AllocError, Global};
 #[derive(Clone, Copy)]
 pub struct Tables {
     /// The metrics, of the answer to `stats`.
-    pub families: [&'static [Family]; 2],
+    pub families: [&'static [Family]; 3],
     /// The JSON of the answer to `show`.
     pub desk: &'static [RowShape],
     /// The JSON of the answer to `history 256`.
@@ -45,7 +46,7 @@ pub struct Tables {
 // A function for each table keeps its rows out of the proofs of all that use them.
 pub fn page_tables() -> Tables {
     Tables {
-        families: [media_families(), bridge_families()],
+        families: [media_families(), stream_families(), bridge_families()],
         desk: desk_shapes(),
         history: history_shapes(),
         stats: stats_shapes(),

@@ -151,7 +151,7 @@ fn refusal_text(refusal: PageRefusal) -> &'static [u8]
         PageRefusal::NoToken => b"NoToken: load the page again, its token is of an earlier run\n",
         PageRefusal::NoLine => b"NoLine: a call is one line of 1 to 4096 printed octets\n",
         PageRefusal::Reserved =>
-            b"Reserved: show, history, stats, watch, quit, stop and names are not for the page\n",
+            b"Reserved: show, history, stats, levels, watch, quit, stop and names are not for the page\n",
         PageRefusal::NoNames =>
             b"NoNames: a change is the word names, the version that was seen, and a JSON object of texts\n",
     }

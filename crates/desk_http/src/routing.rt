@@ -71,7 +71,7 @@ pub enum PageRefusal {
     NoToken,
     /// Its body isn't 1 to 4,096 octets from 32 to 126.
     NoLine,
-    /// Its body begins with `show`, `history`, `stats`, `watch`, `quit`, `stop` or `names`.
+    /// Its body begins with `show`, `history`, `stats`, `levels`, `watch`, `quit`, `stop` or `names`.
     Reserved,
     /// Its body doesn't begin with the word `names`, or has over 262,144 octets.
     NoNames,
@@ -167,6 +167,7 @@ fn is_reserved(line: &[u8]) -> bool
     word == b"show".as_slice()
         || word == b"history".as_slice()
         || word == b"stats".as_slice()
+        || word == b"levels".as_slice()
         || word == b"watch".as_slice()
         || word == b"quit".as_slice()
         || word == b"stop".as_slice()

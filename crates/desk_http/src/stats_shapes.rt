@@ -19,7 +19,7 @@ const DATAGRAMS: [RowField; 3] = [
     },
 ];
 
-const SENDER: [RowField; 14] = [
+const SENDER: [RowField; 16] = [
     RowField {
         name: "address",
         place: WordPlace::Word(1),
@@ -75,6 +75,14 @@ const SENDER: [RowField; 14] = [
     RowField {
         name: "waiting_ms",
         place: WordPlace::Behind("waiting", 1),
+    },
+    RowField {
+        name: "samples",
+        place: WordPlace::Behind("samples", 1),
+    },
+    RowField {
+        name: "energy",
+        place: WordPlace::Behind("energy", 1),
     },
 ];
 
