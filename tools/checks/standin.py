@@ -13,7 +13,7 @@ from checks.make.page import PARTS, TOKEN, WEB
 from operators.models.desk import Log
 from operators.models.lines import COMMANDS, TURNS
 
-RESERVED = ("show", "history", "stats", "watch", "quit", "stop", "names")
+RESERVED = ("show", "history", "stats", "levels", "watch", "quit", "stop", "names")
 MOST_CALLS = 256
 LONGEST_NAME, LONGEST_CHANGE = 800, 262_144
 
@@ -158,7 +158,7 @@ def handler_of(standin):
             if self.path == "/names":
                 return self.tell(200, standin.rename(body) + "\n")
             if body.split(" ")[0] in RESERVED:
-                told = "Reserved: show, history, stats, watch, quit, stop and names are not for the page\n"
+                told = "Reserved: show, history, stats, levels, watch, quit, stop and names are not for the page\n"
                 return self.tell(400, told)
             if standin.is_gone:
                 return self.tell(502, "Gone: the bridge is not there, nothing was sent\n")

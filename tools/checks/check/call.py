@@ -3,8 +3,9 @@
 While nobody is there the bridge sleeps. Then two members send PCMU tones, and one of them video, which is lost in part.
 An operator mutes a source, unsubscribes a slot and undoes both. The checks: each stream's numbers have no gap; each
 member hears the other's tone and not its own; a NACK is answered; lost packets are asked for; a PLI is passed on;
-reports come. `stats` counts of each stream what its member got, and has what it reported, with the jitter and the round
-trip. The bridge's socket of the operator waits for no acknowledgement before it sends an answer's end.
+reports come. `stats` counts of each stream what its member got, and has what it reported, of a slot and of a mix, with
+the jitter and the round trip. It has the samples and the energy of each tone, and `levels` has them too. The bridge's
+socket of the operator waits for no acknowledgement before it sends an answer's end.
 """
 
 import contextlib
@@ -42,6 +43,8 @@ TRIP_MS, CLOCK_MS = 1750, 100
 
 # Tones of one sample each, mu-law (ITU-T G.711): 988 and -988.
 TONES = {201: 0xCE, 202: 0x4E}
+# What is counted of one of their packets: its samples, and the sum of their squares in units of 1,024, rounded down.
+SAMPLES, ENERGY = 160, 160 * 988**2 // 1024
 SETUP = [
     "add-room 1",
     "add-member 10 1 127.0.0.1:{p} pcmu 9001 0 0",
@@ -285,6 +288,9 @@ def other_counts(call, streams, longest):
     reported = {word: streams["501"][word] for word in ("fraction", "lost", "jitter")}
     if reported != {"fraction": "64", "lost": "2", "jitter": "20"}:
         return f"`stats` has the report {reported} on stream 501"
+    of_mix = {word: streams["9002"][word] for word in ("fraction", "lost", "highest", "jitter", "round-trip")}
+    if of_mix != {"fraction": "32", "lost": "3", "highest": "-", "jitter": "20", "round-trip": "-"}:
+        return f"`stats` has the report {of_mix} on the mix 9002"
     trip = streams["501"]["round-trip"]
     is_near = trip != "-" and TRIP_MS - CLOCK_MS <= int(trip) <= TRIP_MS + longest + CLOCK_MS
     return None if is_near else f"`stats` has the round trip {trip} on stream 501"
@@ -297,6 +303,8 @@ def check_counts(call):
     highest, sent = seq_of(call.stream(202, 501)[-1]).to_bytes(4, "big"), time.time()
     times = b"".join(number.to_bytes(4, "big") for number in (1800, middle_of(sent - 3), 81920))
     call.send(202, bytes.fromhex("81c9000700000009000001f540000002") + highest + times)
+    # Of its mix it lost an eighth, three packets in all. The jitter is 20 ms at 8000 Hz. No sender report is named.
+    call.send(202, bytes.fromhex("81c90007000000090000232a20000003") + highest + bytes.fromhex("000000a0") + bytes(8))
     end, other = time.monotonic() + PATIENCE, "nothing came"
     # What waits in the bridge is on its way for up to half a second.
     while other:
@@ -313,6 +321,26 @@ def check_counts(call):
     check(went < int(lane["packets"]), f"lane 0 sent {lane['packets']} packets and reports, and its streams {went}")
 
 
+def check_sound(call):
+    """`levels` has the sources that send sound, and `stats` has the samples and the energy of what they sent."""
+    call.talk_until(lambda: levels(call).keys() == TONES.keys(), "`levels` lacks a source that sends")
+    for ssrc, (samples, energy) in levels(call).items():
+        check(samples > 0 and energy * SAMPLES == samples * ENERGY, f"{ssrc} has {samples} samples of {energy}")
+    for line in call.desk.shown("stats"):
+        if line.split()[0] == "source":
+            ssrc, has = int(line.split()[2]), words_of(line)
+            packets = int(has["packets"])
+            sound = (str(packets * SAMPLES), str(packets * ENERGY)) if ssrc in TONES else ("-", "-")
+            check((has["samples"], has["energy"]) == sound, f"`stats` has other sound than {sound}: {line}")
+
+
+def levels(call):
+    """The samples and the energy of each source that `levels` has."""
+    lines = call.desk.shown("levels")
+    check(lines[-1] == "end", "the answer to `levels` has no end")
+    return {int(line.split()[2]): tuple(map(int, line.split()[3:])) for line in lines[:-1]}
+
+
 def hold(call):
     use_desk(call)
     check_mixes(call)
@@ -320,6 +348,7 @@ def hold(call):
     call.talk_until(lambda: call.control(202, 200), "no sender report comes")
     # One without a block stands before what is asked for.
     call.talk_until(lambda: any(packet[0] > 0x80 for packet in call.control(201, 201)), "no receiver report comes")
+    check_sound(call)
     check_counts(call)
     mixes = len(call.stream(201, 9001)) + len(call.stream(202, 9002))
     print(f"a call of {call.seq * 0.02:.1f} s: {mixes} mixes, {shown} video packets, no fault")

@@ -3,7 +3,7 @@
     served.py serve FILE
 
 FILE has a bridge's settings. It answers lines as docs/FORMATS.md says, with seats. Its answers wait without bound, it
-closes no connection for its silence, and it counts nothing for `stats`.
+closes no connection for its silence, and it counts nothing for `stats` and `levels`.
 """
 
 import os
@@ -88,7 +88,7 @@ class Operator(socketserver.StreamRequestHandler):
         elif words == ["watch"]:
             self.server.watching.add(self)
             lines = [f"end {log.version}"]
-        elif words == ["stats"]:
+        elif words in (["stats"], ["levels"]):
             lines = ["end"]
         else:
             lines = [log.call(words, seat)]

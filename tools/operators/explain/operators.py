@@ -55,7 +55,7 @@ class Call:
 
     def is_told_lines(self):
         """Whether its answer is some lines, of which the last is `end VERSION` or `end`."""
-        return self.text.split(" ")[0] in ("show", "history", "stats", "watch")
+        return self.text.split(" ")[0] in ("show", "history", "stats", "levels", "watch")
 
 
 @dataclasses.dataclass(frozen=True)
@@ -160,7 +160,7 @@ class Answers:
             self.told.calls.setdefault(int(found[1]), (line.moment, int(found[2]), found[3]))
 
     def take_row(self, line):
-        """Takes a line that answers `show`, `history`, `stats` or `watch`."""
+        """Takes a line that answers `show`, `history`, `stats`, `levels` or `watch`."""
         is_last, version = line.text.split(" ")[0] == "end", version_in(line.text, "end")
         if self.rows is not None and not is_last:
             self.rows.append(line.text)

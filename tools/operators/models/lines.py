@@ -62,7 +62,7 @@ ITEMS = {
 # How many octets a line of a script has at most, and one that begins with `item `.
 LINE_LIMIT, ITEM_LIMIT = 2**16, 2**23
 # The first words of operators' lines that are no calls.
-ALONE = ("show", "history", "stats", "watch", "quit", "stop")
+ALONE = ("show", "history", "stats", "levels", "watch", "quit", "stop")
 # How many of a command's last words may be left out.
 LEFT_OUT = {"add-room": 1, "bridge": 1}
 
