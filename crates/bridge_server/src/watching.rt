@@ -5,14 +5,14 @@ use event_loop::{Watch, WatchLog};
 use std::time::Clock;
 use udp_wire::{FrontFault, Moments};
 
-/// The moments of a bridge that runs, as a watch.
+/// The moments of a bridge that runs, as a watch. If its clock went back, it would tell the latest moment again.
 #[derive(Drop)]
 pub(crate) struct SystemWatch<R: Clock + Drop> {
     rt: R,
     moments: Moments,
     /// Why the clock failed last.
     trouble: Option<Cause>,
-    /// What it told, in proofs alone.
+    /// What it told.
     log: WatchLog,
 }
 
@@ -39,16 +39,11 @@ impl<R: Clock + Copy + Drop> SystemWatch<R> {
 }
 
 impl<R: Clock + Drop> Watch for SystemWatch<R> {
-    ghost use Rattle.event_loop.specs.Logs.{told_list};
-
-    ghost told = { λ watch. told_list watch.log };
+    ghost told = { λ watch. watch.log };
 
     fn now(&mut self) -> Result<u64, FrontFault> {
         match self.moments.now(&self.rt) {
-            Ok(now) => {
-                self.log.note(now);
-                Ok(now)
-            }
+            Ok(now) => Ok(self.log.tell(now)),
             Err(error) => {
                 let why = WhyFailed::of(&error);
                 let part = ServerPart::Clock;

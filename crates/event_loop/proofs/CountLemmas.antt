@@ -41,7 +41,7 @@ noted_by_one (took late arrival outcome ended) old new d =
     (d.counted.taken ∷ [], (d.counted.is, tt), (new.stats, d.counted.noted, refl))
 noted_by_one (lost late arrival) old new d = nothing_noted old.stats new.stats d.stats
 noted_by_one {P} {S} (looked moment) old new d =
-    nothing_noted old.stats new.stats (ap (λ (h : History P S). h.stats) d)
+    nothing_noted old.stats new.stats (ap (λ (h : History P S). h.stats) d.same)
 noted_by_one {P} {S} (gave_ticks due moment) old new d =
     nothing_noted old.stats new.stats (ap (λ (h : History P S). h.stats) d.same)
 noted_by_one {P} {S} (let_wait desk moment) old new d =

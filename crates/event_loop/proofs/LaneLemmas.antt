@@ -94,7 +94,7 @@ lanes_by_one (took late arrival outcome ended) old new d =
     ∙ late_lanes late arrival.moment old.front d.mid d.time.caught
 lanes_by_one {P} {S} (lost late arrival) old new d =
     ap (λ (f : FrontOf P S). lanes_in f.feed) d.same ∙ late_lanes late arrival.moment old.front d.mid d.time.caught
-lanes_by_one {P} {S} (looked moment) old new d = ap (λ (h : History P S). lanes_in h.front.feed) d
+lanes_by_one {P} {S} (looked moment) old new d = ap (λ (h : History P S). lanes_in h.front.feed) d.same
 lanes_by_one (gave_ticks due moment) old new d = all_given_lanes _ old.front.feed new.front.feed d.given.given
 lanes_by_one (let_wait desk moment) old new d =
     have_waited desk moment (video_origins desk) old.front new.front old.tried new.tried d.waited
@@ -125,7 +125,7 @@ asker_by_one {P} {S} (passed came) old new d = ap (λ (h : History P S). h.front
 asker_by_one (took late arrival outcome ended) old new d =
     d.asker ∙ late_asker late arrival.moment old.front d.mid d.time.caught
 asker_by_one (lost late arrival) old new d = d.asker ∙ late_asker late arrival.moment old.front d.mid d.time.caught
-asker_by_one {P} {S} (looked moment) old new d = ap (λ (h : History P S). h.front.ingress.asker) d
+asker_by_one {P} {S} (looked moment) old new d = ap (λ (h : History P S). h.front.ingress.asker) d.same
 asker_by_one {P} {S} (gave_ticks due moment) old new d = ap (λ (f : FrontOf P S). f.ingress.asker) d.given.same
 asker_by_one (let_wait desk moment) old new d = d.asker
 asker_by_one (let_some_wait desk moment) old new d = d.asker

@@ -187,7 +187,7 @@ meant_by_one {P} {S} all start (took late arrival outcome ended) old new same he
     (paid_in ingested.up ingested.up _ (λ x c. c)) (λ x c. (old, new, ended, at, takes, c))
 meant_by_one all start (lost late arrival) old new same here d = no_tries all start old.tried new.tried d.tried
 meant_by_one {P} {S} all start (looked moment) old new same here d =
-    no_tries all start old.tried new.tried (ap (λ (s : History P S). s.tried) d)
+    no_tries all start old.tried new.tried (ap (λ (s : History P S). s.tried) d.same)
 meant_by_one {P} {S} all start (gave_ticks due moment) old new same here d =
     no_tries all start old.tried new.tried (ap (λ (s : History P S). s.tried) d.same)
 meant_by_one {P} {S} all start (let_wait desk moment) old new same here d =

@@ -17,6 +17,7 @@ use Rattle.event_loop.specs.Came.{Came, datagram, other, nothing, came_by}
 use Rattle.event_loop.specs.declared.inlet.Read.{Read}
 use Rattle.event_loop.specs.declared.inlet.Read.TheVariants.{Datagram, Other, Nothing}
 use Rattle.event_loop.specs.inner.Reading.{IsReadOnce, is_something}
+use Rattle.event_loop.specs.Moments.{AreUpTo}
 use Rattle.event_loop.specs.Turns.{Turn, History, history, Does, HaveDone, HasActed, owed, passed, looked, gave_ticks}
 use Rattle.event_loop.specs.Turns.{let_wait, let_some_wait, made_report}
 use Rattle.event_loop.specs.Shapes.{IsPassed, AreAllRead, most_datagrams, IsPicture, waits, IsDue, IsPassing}
@@ -41,6 +42,11 @@ pub err_if_ok : {A B : Type 0} (P : A → Type 0) (r : Result A B) → IsErr r �
 err_if_ok P (Ok a) wrong = absurd (cc (wrong))
 err_if_ok P (Err b) wrong = tt {0}
 
+pub if_ok_both : {A B : Type 0} {P Q R : A → Type 0} (r : Result A B) → ((x : A) → P x → Q x → R x)
+    → IfOk r P → IfOk r Q → IfOk r R
+if_ok_both (Ok a) f k l = f a k l
+if_ok_both (Err b) f k l = tt {0}
+
 pub if_ok_map : {A B : Type 0} {P Q : A → Type 0} (r : Result A B) → ((x : A) → P x → Q x) → IfOk r P → IfOk r Q
 if_ok_map (Ok a) f k = f a k
 if_ok_map (Err b) f k = tt {0}
@@ -62,13 +68,17 @@ on_ok {A} {B} {C} r a is k = subst (λ (q : Result A B). OnOk q C) is k
 
 pub looked_same : {P S : Type 0} (front : FrontOf P S) (one came : List Came) (told later : List ℕ)
     (tried : Option (List Attempt)) (last : ℕ) (stats : StatsOf) (moment : ℕ)
-    → came ≡ one → later ≡ told ++ moment ∷ []
+    → came ≡ one → AreUpTo moment told → later ≡ told ++ moment ∷ []
     → HaveDone (looked moment ∷ []) (history front one told tried last stats)
     (history front came later tried last stats)
-looked_same front one came told later tried last stats moment same is =
+looked_same front one came told later tried last stats moment same rising is =
     done_one (looked moment) (history front one told tried last stats) (history front came later tried last stats)
-    (ap (λ (l : List Came). history front l later tried last stats) same
-    ∙ ap (λ (l : List ℕ). history front one l tried last stats) is)
+    (record {
+      rising = rising;
+      same =
+          ap (λ (l : List Came). history front l later tried last stats) same
+          ∙ ap (λ (l : List ℕ). history front one l tried last stats) is;
+    })
 
 pub passed_at : {P S : Type 0} (front : FrontOf P S) (one more : List Came) (told later : List ℕ)
     (tried : Option (List Attempt)) (last : ℕ) (stats : StatsOf) (came : Came)

@@ -30,7 +30,7 @@ came_by_one {P} {S} (owed notice) old new d = ap (λ (s : History P S). s.came) 
 came_by_one {P} {S} (passed came) old new d = ap (λ (s : History P S). s.came) d
 came_by_one (took late arrival outcome ended) old new d = d.read.came
 came_by_one (lost late arrival) old new d = d.read.came
-came_by_one {P} {S} (looked moment) old new d = ap (λ (s : History P S). s.came) d ∙ none old.came
+came_by_one {P} {S} (looked moment) old new d = ap (λ (s : History P S). s.came) d.same ∙ none old.came
 came_by_one {P} {S} (gave_ticks due moment) old new d = ap (λ (s : History P S). s.came) d.same ∙ none old.came
 came_by_one {P} {S} (let_wait desk moment) old new d = ap (λ (s : History P S). s.came) d.same ∙ none old.came
 came_by_one {P} {S} (let_some_wait desk moment) old new d = ap (λ (s : History P S). s.came) d.same ∙ none old.came
@@ -46,12 +46,13 @@ came_by_all (t ∷ ts) old new g =
     ∙ (ap (λ (l : List Came). l ++ flat_map came_in ts) (came_by_one t old g.0 g.1)
     ∙ append_assoc old.came (came_in t) (flat_map came_in ts))
 
-told_by_one : {P S : Type 0} (t : Turn) (old new : History P S) → Does old t new → new.told ≡ old.told ++ moments_in t
+pub told_by_one : {P S : Type 0} (t : Turn) (old new : History P S) → Does old t new
+    → new.told ≡ old.told ++ moments_in t
 told_by_one {P} {S} (owed notice) old new d = ap (λ (s : History P S). s.told) d ∙ none old.told
 told_by_one {P} {S} (passed came) old new d = ap (λ (s : History P S). s.told) d ∙ none old.told
 told_by_one (took late arrival outcome ended) old new d = d.read.told
 told_by_one (lost late arrival) old new d = d.read.told
-told_by_one {P} {S} (looked moment) old new d = ap (λ (s : History P S). s.told) d
+told_by_one {P} {S} (looked moment) old new d = ap (λ (s : History P S). s.told) d.same
 told_by_one {P} {S} (gave_ticks due moment) old new d = ap (λ (s : History P S). s.told) d.same ∙ none old.told
 told_by_one {P} {S} (let_wait desk moment) old new d = ap (λ (s : History P S). s.told) d.same ∙ none old.told
 told_by_one {P} {S} (let_some_wait desk moment) old new d = ap (λ (s : History P S). s.told) d.same ∙ none old.told

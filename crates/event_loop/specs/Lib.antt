@@ -1,5 +1,6 @@
 pub mod Came
 pub mod Logs
+pub mod Moments
 pub mod Counted
 pub mod Turns
 pub mod Shapes

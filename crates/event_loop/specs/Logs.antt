@@ -3,7 +3,7 @@ use Rattle.std.specs.Prelude.{ℕ, List, [], ◌∷◌, ◌++◌}
 use Rattle.udp_wire.specs.Attempts.{Attempt}
 use Rattle.event_loop.specs.Came.{Came, came_by}
 use Rattle.event_loop.specs.declared.logs.ReadLog.{ReadLog, Nothing as Nothing_read, Read'}
-use Rattle.event_loop.specs.declared.logs.WatchLog.{WatchLog, Nothing as Nothing_told, Told'}
+use Rattle.event_loop.specs.declared.logs.ToldLog.{ToldLog, Nothing as Nothing_told, Told'}
 use Rattle.event_loop.specs.declared.logs.TryLog.{TryLog, Nothing as Nothing_tried, Begun', Octet', Tried'}
 
 -- what the reads gave, oldest first
@@ -12,7 +12,7 @@ read_list Nothing_read = []
 read_list (Read' marker before read chunk) = read_list before ++ came_by read.value chunk.value.items ∷ []
 
 -- the moments that were told, oldest first
-abbrev pub told_list : WatchLog → List ℕ
+abbrev pub told_list : ToldLog → List ℕ
 told_list Nothing_told = []
 told_list (Told' marker before moment) = told_list before ++ moment.value ∷ []
 

@@ -17,6 +17,7 @@ use Rattle.media_front.specs.Pictures.{HasAsked}
 use Rattle.media_front.specs.Probations.{EndsProbation}
 use Rattle.event_loop.specs.Came.{Came, datagram}
 use Rattle.event_loop.specs.Counted.{all_pass, IsCounted}
+use Rattle.event_loop.specs.Moments.{AreUpTo}
 
 -- A front and its history, oldest first: what was read where its datagrams come in, the moments that its watch told,
 -- and what was tried on its wire, if that is known. The moment at which the ticks that were due were given last. And
@@ -80,10 +81,16 @@ abbrev pub HasCaughtUp : {P S : Type 0} → Bool → (moment : ℕ) → FrontOf 
 HasCaughtUp true moment old new = HasTicked moment old new
 HasCaughtUp false moment old new = new ≡ old
 
--- The datagram of this arrival was read, and the watch told its moment.
+-- The watch told this moment. It is no earlier than those that it told before.
+pub record HasLooked {P S : Type 0} (moment : ℕ) (old new : History P S) : Type 0 where
+  pub rising : AreUpTo moment old.told
+  pub same : new ≡ record old { told = old.told ++ moment ∷ [] }
+
+-- The datagram of this arrival was read, and the watch told its moment, no earlier than those that it told before.
 pub record HasRead {P S : Type 0} (arrival : Arrival) (old new : History P S) : Type 0 where
   pub came : new.came ≡ old.came ++ datagram arrival.from arrival.octets ∷ []
   pub told : new.told ≡ old.told ++ arrival.moment ∷ []
+  pub rising : AreUpTo arrival.moment old.told
 
 -- Before the datagram of this arrival, a front that was late gave the ticks that were due.
 pub record IsInTime {P S : Type 0} (late : Bool) (arrival : Arrival) (old : History P S) (mid : FrontOf P S) (last : ℕ)
@@ -169,7 +176,7 @@ Does old (owed notice) new =
 Does old (passed came) new = new ≡ record old { came = old.came ++ came ∷ [] }
 Does old (took late arrival outcome ended) new = TakesArrival late arrival outcome ended old new
 Does old (lost late arrival) new = LosesArrival late arrival old new
-Does old (looked moment) new = new ≡ record old { told = old.told ++ moment ∷ [] }
+Does old (looked moment) new = HasLooked moment old new
 Does old (gave_ticks due moment) new = GivesTicks due moment old new
 Does old (let_wait desk moment) new = PassesTime true desk moment old new
 Does old (let_some_wait desk moment) new = PassesTime false desk moment old new

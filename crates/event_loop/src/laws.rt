@@ -1,11 +1,12 @@
 //! Laws of any number of rounds. The functions do nothing when they run.
 
-ghost use Rattle.std.specs.Prelude.{◌≡◌, ◌++◌, List};
+ghost use Rattle.std.specs.Prelude.{◌≡◌, ◌++◌, List, map};
 ghost use Rattle.std.specs.List.{flat_map};
 ghost use Rattle.media_front.specs.FedLanes.{lanes_in};
+ghost use Rattle.event_loop.specs.Moments.{RiseFrom};
 ghost use Rattle.event_loop.specs.Turns.{Turn, History, HaveDone};
 ghost use Rattle.event_loop.specs.Tries.{Try, AreMeant, came_in, moments_in};
-ghost use Rattle.event_loop.specs.Totals.{AreCounted};
+ghost use Rattle.event_loop.specs.Totals.{AreCounted, taken_in};
 
 use media_workers::{Pace, Sink};
 
@@ -16,6 +17,17 @@ pub fn all_that_came_is_in_turns<P: Pace, S: Sink>()
         → new.came ≡ old.came ++ flat_map came_in turns }
     ensures told { (turns : List Turn) (old new : History P S) → HaveDone turns old new
         → new.told ≡ old.told ++ flat_map moments_in turns }
+{}
+
+/// Whatever a front does, time never goes back: the moments that turns were told rise, and so do those at which
+/// datagrams were taken in. So do all that the watch told, if those before the turns did.
+pub fn moments_never_go_back<P: Pace, S: Sink>()
+    ensures turns { (turns : List Turn) (old new : History P S) → HaveDone turns old new
+        → RiseFrom 0 (flat_map moments_in turns) }
+    ensures arrivals { (turns : List Turn) (old new : History P S) → HaveDone turns old new
+        → RiseFrom 0 (map (λ t. t.0.moment) (flat_map taken_in turns)) }
+    ensures told { (turns : List Turn) (old new : History P S) → HaveDone turns old new
+        → RiseFrom 0 old.told → RiseFrom 0 new.told }
 {}
 
 /// Whatever a front does, each datagram that it tries to send is a compound of the receive side to the sender of a

@@ -8,8 +8,9 @@
 //! Contracts see all that a front does as a list of turns: what each changes in the front, in what was read, in the
 //! moments that its watch told, in what was tried on its wire, and in what is counted. They say it after a fault, too.
 //! [`all_that_is_tried_is_meant`] says of any number of rounds why each datagram was tried,
-//! [`all_that_came_is_in_turns`] that each datagram that was read is in one turn, in order, and
-//! [`all_that_is_taken_in_is_counted`] that each datagram that was taken in is counted once.
+//! [`all_that_came_is_in_turns`] that each datagram that was read is in one turn, in order,
+//! [`all_that_is_taken_in_is_counted`] that each datagram that was taken in is counted once, and
+//! [`moments_never_go_back`] that the moments rise.
 //!
 //! A front tells its deeds to a [`FrontTrace`], if it has one.
 //!
@@ -35,7 +36,7 @@ mod watch;
 pub use self::inlet::{Inlet, Read};
 pub use self::laws::{
     all_that_came_is_in_turns, all_that_is_taken_in_is_counted, all_that_is_tried_is_meant,
-    lanes_stay_the_same,
+    lanes_stay_the_same, moments_never_go_back,
 };
 pub use self::logs::{ReadLog, TryLog, WatchLog};
 pub use self::rounds::Rounds;

@@ -1,11 +1,14 @@
-//! Logs that exist in proofs alone, by which a socket and a clock know what was done on them. They take no memory.
+//! Logs that exist in proofs alone, by which a socket and a clock know what was done on them. They take no memory; that
+//! of a clock keeps the latest moment, so that none is told that is earlier.
 
-ghost use Rattle.std.specs.Prelude.{◌≡◌, [], ◌∷◌, ◌++◌};
+ghost use Rattle.std.specs.Prelude.{◌≡◌, [], ◌∷◌, ◌++◌, max};
 ghost use Rattle.event_loop.specs.Came.{came_by};
+ghost use Rattle.event_loop.specs.Moments.{AreUpTo, latest};
 ghost use Rattle.event_loop.specs.Logs.{read_list, told_list, tried_list, begun_octets};
 
 use crate::inlet::Read as WhatCame;
 use rtp_codec::Address;
+use std::marker::Model;
 use std::snapshot::Snapshot;
 
 /// What was read.
@@ -47,35 +50,75 @@ impl ReadLog {
     }
 }
 
-/// The moments that were told.
+/// The moments that were told, in proofs alone.
 #[derive(Drop)]
-pub enum WatchLog {
+pub(crate) enum ToldLog {
     /// None.
     Nothing,
     /// Then one was told.
     Told {
         /// What was told before.
-        before: Snapshot<WatchLog>,
+        before: Snapshot<ToldLog>,
         /// The moment.
         moment: Snapshot<u64>,
     },
 }
 
-impl WatchLog {
-    /// None.
-    pub fn new() -> Self
-        ensures { told_list result ≡ [] }
-    {
-        WatchLog::Nothing
-    }
-
+impl ToldLog {
     /// Notes that this moment was told.
-    pub fn note(&mut self, moment: u64)
+    fn note(&mut self, moment: u64)
         ensures { told_list self.new ≡ told_list self.old ++ moment ∷ [] }
     {
         let before = Snapshot::of(&*self);
         let moment = Snapshot::of(&moment);
-        *self = WatchLog::Told { before, moment };
+        *self = ToldLog::Told { before, moment };
+    }
+}
+
+/// The moments that a clock told, which never go back.
+///
+/// Contracts see them, oldest first.
+#[derive(Drop)]
+pub struct WatchLog {
+    /// The latest of them, or 0.
+    last: u64,
+    told: ToldLog,
+}
+
+impl Model for WatchLog {
+    ghost use Rattle.std.specs.Prelude.{◌≡◌, ℕ, List};
+    ghost use Rattle.event_loop.specs.Logs.{told_list};
+    ghost use Rattle.event_loop.specs.Moments.{latest};
+
+    ghost Value = { List ℕ };
+
+    ghost view = { λ w. told_list w.told };
+
+    ghost invariant = { λ w. w.last ≡ latest (told_list w.told) };
+}
+
+impl WatchLog {
+    /// None.
+    pub fn new() -> Self
+        ensures { result ≡ [] }
+    {
+        Self {
+            last: 0,
+            told: ToldLog::Nothing,
+        }
+    }
+
+    /// What is told where the clock reads this moment: the moment, or the latest that was told, if that is later. It is
+    /// noted as told.
+    pub fn tell(&mut self, moment: u64) -> u64
+        ensures later { result ≡ max (latest self.old) moment }
+        ensures noted { self.new ≡ self.old ++ result ∷ [] }
+        ensures rising { AreUpTo result self.old }
+    {
+        let moment = self.last.max(moment);
+        self.last = moment;
+        self.told.note(moment);
+        moment
     }
 }
 

@@ -1,6 +1,7 @@
 //! What tells the time.
 
 ghost use Rattle.std.specs.Prelude.{◌≡◌, ◌++◌, ◌∷◌, [], ℕ, List, IfOk, OnErr};
+ghost use Rattle.event_loop.specs.Moments.{AreUpTo};
 
 use udp_wire::FrontFault;
 
@@ -9,8 +10,9 @@ pub trait Watch {
     /// What it told so far.
     ghost told: { Self → List ℕ };
 
-    /// The present moment, in nanoseconds since 1970.
+    /// The present moment, in nanoseconds since 1970. It is no earlier than any that it told before.
     fn now(&mut self) -> Result<u64, FrontFault>
         ensures ok { IfOk result (λ now. told self.new ≡ told self.old ++ now ∷ []) }
+        ensures rising { IfOk result (λ now. AreUpTo now (told self.old)) }
         ensures err { OnErr result (told self.new ≡ told self.old) };
 }

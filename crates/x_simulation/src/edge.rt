@@ -135,7 +135,7 @@ impl Wire for ScriptWire {
     }
 }
 
-/// A watch that the script sets.
+/// A watch that the script sets. Where the script goes back, it tells the latest moment again.
 #[derive(Drop)]
 pub struct ScriptWatch {
     /// The present moment, in nanoseconds since 1970.
@@ -171,15 +171,12 @@ impl ScriptWatch {
 }
 
 impl Watch for ScriptWatch {
-    ghost use Rattle.event_loop.specs.Logs.{told_list};
-
-    ghost told = { λ watch. told_list watch.log };
+    ghost told = { λ watch. watch.log };
 
     fn now(&mut self) -> Result<u64, FrontFault> {
-        let now = self.now.checked_add_signed(self.look).unwrap_or(self.now);
-        self.now = now;
+        self.now = self.now.checked_add_signed(self.look).unwrap_or(self.now);
+        let now = self.log.tell(self.now);
         let _ = self.told.push(now);
-        self.log.note(now);
         Ok(now)
     }
 }

@@ -15,7 +15,7 @@
 //! rx ADDRESS HEX       a datagram waits
 //! other                something that is no datagram waits
 //! begin NS LOOK        so many nanoseconds later the front begins a round; each look at its watch takes LOOK of
-//!                      them, which may be negative
+//!                      them, which may be negative: the watch then tells the latest moment again
 //! round NS LOOK        so many nanoseconds later it ends the round that has begun, or has a whole one
 //! go LANE STOPS LEFT   a lane sends what so many items give, but of the last one the last LEFT
 //! ```

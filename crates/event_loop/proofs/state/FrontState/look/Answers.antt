@@ -1,7 +1,7 @@
 use Rattle.std.proofs.Common.{◌∙◌, List, ℕ, ap, subst}
 use Rattle.std.proofs.lemmas.Result.{on_err_weaker}
 use Rattle.event_loop.specs.Turns.{History, Does, history, looked}
-use Rattle.event_loop.proofs.StepLemmas.{if_ok_map}
+use Rattle.event_loop.proofs.StepLemmas.{if_ok_both}
 use Rattle.event_loop.proofs.state.FrontState.look.Goals as goal
 
 pub returns-clause-ok : goal.returns-clause-ok
@@ -10,10 +10,12 @@ returns-clause-ok g c =
     let came = g.I.Inlet.came a.inlet in
     let told = g.C.Watch.told a.watch in
     let tried = g.W.Wire.attempts a.wire in
-    if_ok_map c.now.result (λ now is.
+    if_ok_both c.now.result (λ now is rising.
     subst (λ (h : History g.row.P.Denot g.row.S.Denot).
     Does h (looked now) (history a.media came (g.C.Watch.told c.now.new.self) tried a.ticked a.stats))
-    c.self.view_is (ap (λ (t : List ℕ). history a.media came t tried a.ticked a.stats) is)) c.now.ensures.ok
+    c.self.view_is
+    (record { rising = rising; same = ap (λ (t : List ℕ). history a.media came t tried a.ticked a.stats) is }))
+    c.now.ensures.ok c.now.ensures.rising
 
 pub returns-clause-err : goal.returns-clause-err
 returns-clause-err g c =

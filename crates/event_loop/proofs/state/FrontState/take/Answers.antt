@@ -89,6 +89,7 @@ returns-in_err-received-clause-done g c =
                   ∙ ap (λ (l : List ℕ). came ++ datagram c.in-Datagram.from (take c.in-Datagram.octets l) ∷ [])
                   (sym c.deref.ensures.value));
               told = c.in_ok-moment.ensures.ok;
+              rising = c.in_ok-moment.ensures.rising;
             };
             mid = c.catch_up.new.media;
             time =
@@ -136,6 +137,7 @@ returns-clause-done g c =
             ∙ ap (λ (l : List ℕ). came ++ datagram c.in-Datagram.from (take c.in-Datagram.octets l) ∷ [])
             (sym c.deref.ensures.value));
         told = c.in_ok-moment.ensures.ok;
+        rising = c.in_ok-moment.ensures.rising;
       };
       mid = mid;
       time =
