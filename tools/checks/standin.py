@@ -37,7 +37,7 @@ class Standin:
         self.log, self.token = Log(), secrets.token_hex(16)
         self.path, self.names, self.version = names and pathlib.Path(names), text, 0
         self.lock, self.is_gone, self.counted = threading.Lock(), False, None
-        self.pause = 0
+        self.pause, self.run, self.text, self.number = 0, secrets.token_hex(16), None, 0
 
     def waits(self):
         """Answers late, by a pause that may end earlier."""
@@ -66,7 +66,11 @@ class Standin:
             return self.log.history(most)
 
     def desk(self):
-        return self.shown() + [f"names {self.version}"]
+        lines = self.shown() + [f"names {self.version}"]
+        with self.lock:
+            if lines != self.text:
+                self.text, self.number = lines, self.number + 1
+            return lines + [f"state {self.run}-{self.number}"]
 
     def rename(self, body):
         head, _, text = body.partition("\n")
@@ -131,11 +135,14 @@ def handler_of(standin):
                 return self.tell(200, f"names {standin.version}\n{standin.names}")
             if self.path == "/stats":
                 return self.count()
-            if self.path not in ("/desk.txt", "/history.txt"):
+            path, _, query = self.path.partition("?")
+            if path not in ("/desk.txt", "/history.txt"):
                 return self.tell(404, "NotFound\n")
             if standin.is_gone:
                 return self.tell(502, "Gone: the bridge is not there, nothing was sent\n")
-            lines = standin.desk() if self.path == "/desk.txt" else standin.history()
+            lines = standin.desk() if path == "/desk.txt" else standin.history()
+            if query == f"after={lines[-1].partition(' ')[2]}":
+                return self.tell(204, "")
             return self.tell(200, "".join(f"{line}\n" for line in lines))
 
         def count(self):

@@ -3,6 +3,7 @@ pub mod Queries
 pub mod Routes
 pub mod Guarded
 pub mod Responses
+pub mod States
 pub mod Relays
 pub mod Services
 pub mod BridgeRequests

@@ -113,3 +113,7 @@ direct_response site assets (routes.Refused refusal) = refusal_response refusal
 -- the response to a request whose line isn't the one that was replied to
 abbrev pub mismatch_response : PageResponse
 mismatch_response = text_response 500 (codes "Other: the bridge was asked for another request\n")
+
+-- the response to a request for what its browser has already (RFC 9110 section 15.3.5)
+abbrev pub known_response : PageResponse
+known_response = text_response 204 []

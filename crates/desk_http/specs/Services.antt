@@ -2,7 +2,8 @@
 use Rattle.std.specs.Prelude.{◌≡◌, ℕ, Bool, false, if◌then◌else◌, List, codes, Option, Some, None, option_map}
 use Rattle.std.specs.Str.{bytes_eq}
 use Rattle.http.specs.declared.request.Request.{Request}
-use Rattle.http.specs.Request.{body_of}
+use Rattle.http.specs.Request.{head_of, body_of}
+use Rattle.http_uri.specs.Uri.{uri_query}
 use Rattle.http_server.specs.declared.response.Response.{Response}
 use Rattle.desk_http.specs.declared.services.Router.{Router}
 use Rattle.desk_http.specs.declared.services.Responder.{Responder}
@@ -10,8 +11,11 @@ use Rattle.desk_http.specs.declared.routing.Route.{Route}
 use Rattle.desk_http.specs.declared.routing.Route.TheVariants as routes
 use Rattle.desk_http.specs.Queries.{query_line}
 use Rattle.desk_http.specs.Routes.{route_of}
-use Rattle.desk_http.specs.Responses.{IsPageResponse, direct_response, mismatch_response}
+use Rattle.desk_http.specs.declared.responding.BridgeReply.{BridgeReply}
+use Rattle.desk_http.specs.declared.relaying.Tables.{Tables}
+use Rattle.desk_http.specs.Responses.{PageResponse, IsPageResponse, direct_response, mismatch_response, known_response}
 use Rattle.desk_http.specs.Relays.{relayed_response}
+use Rattle.desk_http.specs.States.{is_known}
 
 -- the line that a route hands to the bridge or to the store of names: that of a call is the body, octet by octet
 abbrev pub bridge_line : Route → List ℕ → Option (List ℕ)
@@ -41,11 +45,17 @@ abbrev pub is_line_wanted : List ℕ → Option (List ℕ) → Bool
 is_line_wanted line None = false
 is_line_wanted line (Some wanted) = bytes_eq line wanted
 
+-- the response by the reply to a request's line: nothing, where the browser has it already
+abbrev pub own_response : Tables → Route → Option (List ℕ) → BridgeReply → PageResponse
+own_response tables route query reply =
+    if is_known route query reply then known_response else relayed_response tables route reply
+
 -- a request is responded to by the reply to its own line, and to no other
 pub record Responds (old : Responder) (request : Request (List ℕ)) (response : Response) (new : Responder)
     : Type 0 where
   pub kept : new ≡ old
   pub content : IsPageResponse
       (if is_line_wanted old.line.now (bridge_line (route_of old.site.now request) (body_of request))
-      then relayed_response old.tables.now (route_of old.site.now request) old.reply.now
+      then own_response old.tables.now (route_of old.site.now request) (uri_query (head_of request).uri)
+      old.reply.now
       else mismatch_response) response

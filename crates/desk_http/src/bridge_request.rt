@@ -6,6 +6,7 @@ ghost use Rattle.desk_http.specs.BridgeRequests.{
   is_not_lf,
   before_last_lf,
   has_lf,
+  last_line,
   has_end_line,
   has_plain_end,
   is_fault,
@@ -44,7 +45,7 @@ pub struct BridgeRequest {
 }
 
 /// The text without the LF at its end, if it has one there.
-fn before_last_lf(text: &[u8]) -> Option<&[u8]>
+pub(crate) fn before_last_lf(text: &[u8]) -> Option<&[u8]>
     ensures { option_map (λ x. x.now) result ≡ before_last_lf text.now }
 {
     let length = text.len();
@@ -65,6 +66,13 @@ fn last_line_start(text: &[u8]) -> usize
         start -= 1;
     }
     start
+}
+
+/// The text after the last LF.
+pub(crate) fn last_line(text: &[u8]) -> &[u8]
+    ensures { result.now ≡ last_line text.now }
+{
+    &text[last_line_start(text)..]
 }
 
 /// Whether the last line of a text begins with `end `.

@@ -13,6 +13,7 @@ ghost use Rattle.desk_http.specs.Responses.{
   refusal_text,
   refusal_response,
   mismatch_response,
+  known_response,
   direct_response,
   IsPageResponse,
 };
@@ -188,6 +189,14 @@ pub(crate) fn respond(
             b"Waiting: the bridge is asked\n",
         ),
     }
+}
+
+/// Fills in the response to a request for what its browser has already.
+pub(crate) fn respond_known(response: &mut Response) -> Result<(), AllocError>
+    requires { IsBlank response.old }
+    ensures { OnOk result (IsPageResponse known_response response.new) }
+{
+    fill_text(response, StatusCode::NO_CONTENT, b"")
 }
 
 /// Fills in the response to a request whose line isn't the one that was replied to.

@@ -6,8 +6,9 @@ ghost use Rattle.http.specs.Request.{body_of};
 ghost use Rattle.desk_http.specs.Routes.{route_of};
 ghost use Rattle.desk_http.specs.Services.{bridge_line, is_line_wanted, RoutesRequest, Responds};
 
+use crate::knowing::is_known;
 use crate::relaying::{Tables, relay};
-use crate::responding::{respond, respond_mismatch};
+use crate::responding::{respond, respond_known, respond_mismatch};
 use crate::{Assets, BridgeReply, Route, Site, route_of};
 use bytes::Bytes;
 use http::Request;
@@ -106,7 +107,11 @@ impl<'a> Service for Responder<'a> {
     ) -> Result<(), AllocError> {
         if self.is_for(request) {
             let route = route_of(self.site, request);
-            relay(self.alloc, response, self.tables, route, self.reply)
+            if is_known(route, request.uri().query(), self.reply) {
+                respond_known(response)
+            } else {
+                relay(self.alloc, response, self.tables, route, self.reply)
+            }
         } else {
             respond_mismatch(response)
         }

@@ -9,13 +9,15 @@ pub(crate) const LINES: &[u8] = br##""use strict";
 // The rates of rooms, in Hz.
 const SPEECH = 8000, MUSIC = 44100;
 
-// The desk as it stands in the text of /desk.txt: the lines of `show`, and behind `end VERSION` the names' version.
+// The desk as it stands in the text of /desk.txt: the lines of `show`, and behind `end VERSION` the names' version and
+// what the program calls this text.
 function parseDesk(text) {
   const desk = { rooms: [], rates: new Map(), members: [], sources: [], slots: [], subs: new Map(), mutes: new Set(),
-    gains: new Map(), pins: new Map(), floors: new Map(), version: 0, rows: [], named: 0 };
+    gains: new Map(), pins: new Map(), floors: new Map(), version: 0, rows: [], named: 0, state: "" };
   for (const line of text.split("\n")) {
     if (line.startsWith("end ")) desk.version = Number(line.slice(4));
     else if (line.startsWith("names ")) desk.named = Number(line.slice(6));
+    else if (line.startsWith("state ")) desk.state = line.slice(6);
     else if (line !== "") {
       desk.rows.push(line);
       addRow(desk, rowOf(line));

@@ -591,8 +591,8 @@ async function show() {
   asking = true;
   clearTimeout(timer);
   try {
-    const reply = await get("/desk.txt");
-    const text = await reply.text();
+    const reply = await get(shownText && desk.state ? `/desk.txt?after=${desk.state}` : "/desk.txt");
+    const text = reply.status === 204 ? shownText : await reply.text();
     if (reply.ok) await take(text);
     else told = text.startsWith("Busy") ? "seats" : "bridge";
   } catch (error) {

@@ -5,8 +5,8 @@ use crate::clients::Clients;
 use crate::names_store::NamesStore;
 use crate::query_timer::{QueryTimer, millis_since};
 use crate::server_config::ServerConfig;
-use crate::setup::{router_at, server_config};
-use desk_http::{Addresses, BridgeReply, Query, Router};
+use crate::setup::{router_at, run_name, server_config};
+use desk_http::{Addresses, BridgeReply, DeskTexts, Query, Router};
 use mio::net::{TcpListener, TcpStream};
 use mio::{Events, Interest, Poll, Registry, Token};
 use std::alloc::{AllocError, AllocGlobal, Global};
@@ -98,6 +98,9 @@ pub(crate) struct Server {
     begun: Instant,
     router: Router,
     store: NamesStore,
+    texts: DeskTexts,
+    /// What this run of the program is called.
+    run_name: Vec<u8>,
     clients: Clients,
     bridge: BridgeClient,
     desk: QueryTimer,
@@ -128,6 +131,8 @@ impl Server {
             begun,
             router,
             store,
+            texts: DeskTexts::new(alloc),
+            run_name: run_name(rt, alloc)?,
             clients: Clients::new(alloc, FIRST_CLIENT),
             bridge: BridgeClient::new(alloc),
             desk: QueryTimer::new(Query::Desk),
@@ -266,11 +271,19 @@ impl Server {
         Ok(())
     }
 
-    /// Adds the version of the names to the desk. After a call the desk and the history are asked for at once.
+    fn note_desk(&mut self, text: &mut Vec<u8>) -> Result<(), AllocError> {
+        let alloc = self.config.alloc;
+        self.store.names.append_heading(alloc, text)?;
+        self.texts.note(alloc, text)?;
+        self.texts.append_state(alloc, &self.run_name, text)
+    }
+
+    /// Adds the version of the names to the desk, and the state that names its text. After a call the desk and the
+    /// history are asked for at once.
     fn note_reply(&mut self, line: &[u8], reply: &mut BridgeReply) -> Result<(), AllocError> {
         if line == Query::Desk.line() {
             if let BridgeReply::Text(text) = reply {
-                self.store.names.append_heading(self.config.alloc, text)?;
+                self.note_desk(text)?;
             }
         } else if line != Query::History.line() && line != Query::Stats.line() {
             self.desk.reset();

@@ -12,11 +12,21 @@ use std::io;
 use std::net::SocketAddr;
 use std::random::RandomSource;
 
-/// The page at this address, with a secret token of this run.
-fn site<R: RandomSource>(rt: &R, alloc: Global, address: SocketAddr) -> io::Result<Site> {
+/// 32 hex digits that nobody can guess.
+fn random_digits<R: RandomSource>(rt: &R, alloc: Global) -> io::Result<Vec<u8>> {
     let mut octets = [0u8; 16];
     rt.fill_bytes(&mut octets)?;
-    Ok(Site::new(alloc, address, token(alloc, octets)?)?)
+    Ok(token(alloc, octets)?)
+}
+
+/// The page at this address, with a secret token of this run.
+fn site<R: RandomSource>(rt: &R, alloc: Global, address: SocketAddr) -> io::Result<Site> {
+    Ok(Site::new(alloc, address, random_digits(rt, alloc)?)?)
+}
+
+/// What this run of the program is called, which is no secret.
+pub(crate) fn run_name<R: RandomSource>(rt: &R, alloc: Global) -> io::Result<Vec<u8>> {
+    random_digits(rt, alloc)
 }
 
 fn assets() -> Assets {

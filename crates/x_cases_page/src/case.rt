@@ -3,6 +3,7 @@
 use crate::admissions::placement_is;
 use crate::connections::reply_is;
 use crate::request::{octets_of, request_of, spoken};
+use crate::states::state_is;
 use desk_http::{
     Assets, BridgeReply, BridgeRequest, ReplyProgress, Responder, Router, Site, Tables,
     loopback_addresses, page_tables, request_limits,
@@ -243,6 +244,7 @@ impl Page {
             "start" => may_start(text, wanted),
             "connection" => reply_is(self.alloc, text, wanted),
             "admit" => placement_is(self.alloc, text, wanted),
+            "state" => state_is(self.alloc, text, wanted),
             "respond" => is_response(self.alloc, &self.response_to(text)?, wanted),
             "tell" => is_told(self.alloc, &self.response_to(text)?, wanted),
             "feed" => self.receives(text, wanted),

@@ -16,16 +16,18 @@
 //! - `admit MS ; COUNT STAGE ACCEPTED ACTIVE ; .. > free`, `refused` or `evict N`: a connection comes where these are,
 //!   each of them `idle`, `sending`, `waiting` or `responding`. It gets a free place, none, or the place of the
 //!   connection with this number, from 0.
+//! - `state RUN ; TEXT ; TEXT .. > LINE`: the desk has these texts one after another in a run, and LINE names the last.
 //! - `start BRIDGE LISTEN > yes`, or `no`: the page may start with these addresses.
 //!
 //! A REQUEST is `METHOD PATH FIELD=VALUE ..`, and after ` | ` its body. In all texts `\n` is an LF, and `TEXT*N` is a
-//! PIECE or a body that has a text N times.
+//! PIECE, a body or a desk's text that has a text N times.
 #![tactic(auto)]
 
 mod admissions;
 mod case;
 mod connections;
 mod request;
+mod states;
 
 use crate::case::Page;
 use std::hash::RandomState;

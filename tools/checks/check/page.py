@@ -155,9 +155,13 @@ class Page:
 
     def desk(self):
         """The lines of `show`."""
-        lines = self.lines_of("/desk.txt")
-        check(lines[-1].startswith("names "), f"behind the desk stands {lines[-1]}")
-        return lines[:-1]
+        return self.desk_and_state()[0]
+
+    def desk_and_state(self):
+        """The lines of `show`, and what the program calls the text."""
+        *lines, named, state = self.lines_of("/desk.txt")
+        check(named.startswith("names ") and state.startswith("state "), f"behind the desk stand {named} and {state}")
+        return lines, state[6:]
 
     def history(self):
         """The lines of `history 256`."""
@@ -389,6 +393,27 @@ def takes_others(page, operator, version):
         one.close()
 
 
+def knows_its_state(page, ask, version):
+    """A browser that has the desk's text is told nothing, until the desk is another one. The version after that."""
+    after = lambda state: page.ask("GET", f"/desk.txt?after={state}")  # noqa: E731
+    state = page.desk_and_state()[1]
+    for _ in range(2):
+        status, _, text = after(state)
+        check((status, text) == (204, ""), f"a text that a browser has is told as {status} {text}")
+    check(ask("add-room 6") == f"ok {version + 1}", "another operator's room is refused")
+    time.sleep(0.2)
+    status, _, text = after(state)
+    check(status == 200 and "room 6\n" in text, f"another desk is told as {status} {text}")
+    check(ask("remove-room 6") == f"ok {version + 2}", "another operator's removal is refused")
+    time.sleep(0.2)
+    for old in state, "", f"{state}0", state[:-1]:
+        check(after(old)[0] == 200, f"after the state {old} a browser is told nothing")
+    # A plain desk has no JSON.
+    status = page.ask("GET", f"/desk?after={page.desk_and_state()[1]}")[0] if page.bridge else 200
+    check(status == 200, f"JSON is told as {status} to a browser that has the lines")
+    return version + 2
+
+
 def serves_many(page, operator):
     """32 browsers that ask at once all get the desk and the history. One whose connection has to make way for another
     tries again, as the page's script does."""
@@ -569,6 +594,7 @@ def by_model(args, folder):
             check(one.ask(line).startswith("ok "), f"`{line}` is refused")
 
     go, come = lambda: sets(True), lambda: sets(False)
+    knows_its_state(page, one.ask, one.log.version)
     serves_many(page, Told(one))
     try_by_hand(args, folder, address, Bridge(one.ask, one.shown, one.history, go, come, other, names))
     with contextlib.closing(opened(args.browser, folder, address)) as browser:
@@ -642,6 +668,7 @@ def session(args, folder):
         version = sees_others(page, operator, go_through(page, operator))
         refuses(page, operator, version)
         takes_others(page, operator, version)
+        version = knows_its_state(page, operator.ask, version)
         serves_many(page, operator)
         stands_silence(page, programs[0], version)
         operator.tell("stop")

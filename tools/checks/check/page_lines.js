@@ -23,6 +23,7 @@ pin 1 101
 floor 1 10
 end 17
 names 3
+state 0a-4
 `;
 const desk = page.parseDesk(text);
 const slot = (ssrc) => desk.slots.find((s) => s.ssrc === ssrc);
@@ -37,7 +38,7 @@ same(desk.rooms, [1, 2]);
 same(desk.members[1], { place: 1, member: 11, room: 1, address: "127.0.0.1:6002", codec: "l16", mix: 9002 });
 same(desk.rows.length, 18);
 same([1, 2].map((room) => page.isMusic(desk, room)), [false, false]);
-same(desk.named, 3);
+same([desk.named, desk.state], [3, "0a-4"]);
 
 // A slot shows its subscription, else at index 0 the pin, else the floor holder's least video source.
 same(page.seen(desk, slot(502)), { source: 102, by: "sub", why: "" });
