@@ -92,7 +92,7 @@ def shows_stale(browser, go, come):
     go()
     browser.wait("document.body.classList.contains('gone')", 30)
     told = browser.run("document.getElementById('status').textContent")
-    is_known = told.startswith(("The bridge is gone since", "No news since"))
+    is_known = told.startswith(("Bridge gone since", "No news since"))
     check(is_known, f"once the bridge is gone the page says {told}")
     check(browser.run("document.activeElement.dataset.key") == "open 10", "a bridge that goes takes the focus away")
     for key, modifiers in ("m", 0), ("z", 2):

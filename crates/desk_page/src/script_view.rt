@@ -618,7 +618,7 @@ function judge() {
 }
 
 async function take(text) {
-  [told, lastNews, since] = ["", performance.now(), new Date().toLocaleTimeString()];
+  [told, lastNews, since] = ["", performance.now(), new Date().toTimeString().slice(0, 8)];
   judge();
   if (text !== shownText && !drag) await takeDesk(text);
   if (desk && past?.version !== desk.version) await takeHistory();

@@ -99,8 +99,9 @@ function linkOf(told, quiet) {
 function linkInWords(link, quiet, since) {
   if (link === "live") return "Live";
   if (link === "late") return `Late: last news ${Math.floor(quiet / 1000)} s ago`;
-  if (link === "bridge") return `The bridge is gone${since ? ` since ${since}` : ""}. Looking \u2026`;
-  if (link === "seats") return `All seats are taken${since ? ` since ${since}` : ""}. Looking \u2026`;
-  if (link === "gone") return `No news ${since ? `since ${since}` : "yet"}. Looking \u2026`;
+  const from = since ? ` since ${since}` : "";
+  if (link === "bridge") return `Bridge gone${from} \u2026`;
+  if (link === "seats") return `No free seat${from} \u2026`;
+  if (link === "gone") return `No news${from || " yet"} \u2026`;
   return "Asking the bridge";
 }

@@ -354,7 +354,7 @@ same([0, 4000, 4001, 10000, 10001].map((ms) => page.linkOf("", ms)), ["live", "l
 same([page.linkOf("bridge", 0), page.linkOf("seats", 99999)], ["bridge", "seats"]);
 same([["live", 0, "9:00"], ["late", 6900, "9:00"], ["gone", 12000, "9:00"], ["gone", 12000, null],
   ["bridge", 0, "9:00"], ["seats", 0, null], ["connecting", 0, null]].map((link) => page.linkInWords(...link)),
-  ["Live", "Late: last news 6 s ago", "No news since 9:00. Looking …", "No news yet. Looking …",
-    "The bridge is gone since 9:00. Looking …", "All seats are taken. Looking …", "Asking the bridge"]);
+  ["Live", "Late: last news 6 s ago", "No news since 9:00 …", "No news yet …", "Bridge gone since 9:00 …",
+    "No free seat …", "Asking the bridge"]);
 
 console.log(`${tried} tries of the page's functions, no fault`);
