@@ -141,7 +141,7 @@ def handler_of(standin):
             if standin.is_gone:
                 return self.tell(502, "Gone: the bridge is not there, nothing was sent\n")
             lines = standin.desk() if path == "/desk.txt" else standin.history()
-            if query == f"after={lines[-1].partition(' ')[2]}":
+            if path == "/desk.txt" and query == f"after={lines[-1].partition(' ')[2]}":
                 return self.tell(204, "")
             return self.tell(200, "".join(f"{line}\n" for line in lines))
 
