@@ -2,7 +2,8 @@
 
 A file is read anew for each request, so a change shows once the browser loads the page again. Without --page the desk
 is a plain one of the models, with --rooms rooms of --each members: what is pressed is done, and no packet is counted.
-With --page all but the files comes from a desk_page that runs, and so from its bridge.
+With --counts packets of all members are counted, some speak, and a few are in trouble. With --page all but the files
+comes from a desk_page that runs, and so from its bridge.
 """
 
 import argparse
@@ -10,6 +11,7 @@ import http.client
 import re
 
 from checks import standin
+from checks.counted import Counts
 from operators.shared import fail
 
 NEEDS = "nothing"
@@ -31,6 +33,7 @@ def options(parser):
     parser.add_argument("--page", type=address, metavar="ADDRESS", help="a desk_page that runs, such as 127.0.0.1:7080")
     parser.add_argument("--rooms", type=int, default=2, help="rooms of the plain desk (%(default)s)")
     parser.add_argument("--each", type=int, default=8, help="members of each of its rooms (%(default)s)")
+    parser.add_argument("--counts", action="store_true", help="count packets of its members, some of them in trouble")
 
 
 def asked(page, method, path, body=None, fields=None):
@@ -79,12 +82,23 @@ def token_of(page):
     return found[1] if found else fail(f"what is at {page[0]}:{page[1]} is no desk_page")
 
 
+def some_counts(one):
+    """Every eleventh member speaks, one is silent, one loses on its way in, and one on its way out."""
+    desk = one.log.desk
+    sound = [source["ssrc"] for source in desk.sources if source["media"] == "audio"]
+    levels = {ssrc: -40.0 + place % 7 * 4 for place, ssrc in enumerate(sound[::11])}
+    mixes, last = [member["out_audio"] for member in desk.members], len(desk.members) - 1
+    losing, reports = {sound[last // 2]: 0.11}, {mixes[last // 3]: (0.097, 41, 280)}
+    return Counts(one, silent=[sound[last]], losing=losing, levels=levels, reports=reports)
+
+
 def run(args):
     one = standin.Standin()
     if args.page:
         one.token = token_of(args.page)
     else:
         standin.fill(one, args.rooms, args.each)
+        one.counted = some_counts(one).told if args.counts else None
     server = standin.serve(one, args.port, relays_to(args.page, one) if args.page else None)
     print(f"http://127.0.0.1:{server.server_port}/", flush=True)
     server.thread.join()

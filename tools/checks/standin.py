@@ -151,7 +151,8 @@ def handler_of(standin):
                 return self.tell(502, "Gone: the bridge is not there, nothing was sent\n")
             if standin.counted is None:
                 return self.tell(501, "Unknown: this bridge doesn't know the question, it is an older one\n")
-            return self.tell(200, json.dumps(standin.counted), "application/json")
+            counted = standin.counted() if callable(standin.counted) else standin.counted
+            return self.tell(200, json.dumps(counted), "application/json")
 
         def do_POST(self):
             body = self.rfile.read(int(self.headers["Content-Length"])).decode()
