@@ -38,7 +38,7 @@ def shows_counts(browser, ask, sets):
     browser.wait("document.querySelectorAll('#strangers li').length === 2")
     is_told(browser, [(SILENT, ["281"])])
     browser.run("acts.open('80'), true")
-    counts = "[...document.querySelectorAll('#detail .counted')].map((node) => node.textContent)"
+    counts = "[...document.querySelectorAll('#detail .row .counted')].map((node) => node.textContent)"
     is_told(browser, [
         (counts, ["9 packets, 1 lost, the last one just now", "7 packets, 0 lost, the last one 1 min ago"]),
         (f"{UNKNOWN}[0].includes('the address of member 80')", True),

@@ -386,7 +386,7 @@ def look(browser, version):
         ("document.querySelectorAll('#calls li').length", 12),
         ("document.querySelectorAll('.room').length", 2),
         ("document.querySelector('[data-room=\"1\"]').querySelectorAll('.member').length", 2),
-        ("document.querySelector('[data-member=\"10\"] .muted').textContent.includes('201')", True),
+        ("document.querySelector('[data-member=\"10\"] .muted').dataset.source", "201"),
         ("document.querySelectorAll('#calls li.undone').length", 2),
         ("document.querySelector('#detail [title=\"unmute 201\"]') !== null", True),
     ])  # fmt: skip

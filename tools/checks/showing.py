@@ -4,11 +4,14 @@ import json
 import time
 
 from checks import standin
+from checks.counted import Counts
 from checks.driving import opened, settles
 
 PEOPLE = "Alice Bob Chen Dunja Emeka Fatima Grace Hiro Ines Jamal Kofi Lena Mateo Nadia Omar Priya".split()
 NAMES = {"room 1": "Weekly call", "room 2": "Lobby", "room 3": "Concert", "member 40": "Piano"}
 WITH_VIDEO = 6
+# The levels of those who speak, one of them while muted.
+SPEAKS = {212: -21.0, 215: -33.0, 225: -28.0, 240: -18.0}
 # What is done once all are there: an operator, and a line.
 CHANGES = [
     (0, "give-floor 1 12"), (0, "set-gain 11 210 384"), (0, "set-gain 11 212 128"), (0, "subscribe 510 111"),
@@ -30,19 +33,6 @@ def lines():
     yield from ("add-member 40 3 10.0.0.40:5000 l16 9040 0 0", "add-source 240 40 audio")
 
 
-def counted(desk, silent, lossy):
-    """What a bridge counts where all packets come, but for a silent source and one that loses some."""
-    rows = []
-    for source in desk.sources:
-        address = next(one["address"] for one in desk.members if one["member"] == source["member"])
-        counts = {"packets": 15_000, "expected": 15_000, "lost": 0, "ago_ms": 12, "jitter_ms": 3}
-        if source["ssrc"] == lossy:
-            counts |= {"packets": 14_400, "lost": 600}
-        if source["ssrc"] != silent:
-            rows.append({"address": address, "ssrc": source["ssrc"], **counts})
-    return {"sources": rows, "strangers": []}
-
-
 def take_pictures(command, folder, into):
     """Pictures of the page, wide and narrow, light and dark."""
     into.mkdir(parents=True, exist_ok=True)
@@ -51,11 +41,12 @@ def take_pictures(command, folder, into):
     for operator, line in [(0, line) for line in lines()] + CHANGES:
         said = one.call(line, operator)
         assert said.startswith("ok "), f"{line}: {said}"
-    one.counted = counted(one.log.desk, 217, 113)
+    counts = Counts(one, silent={217}, losing={113: 0.04}, levels=SPEAKS, reports={9020: (0.06, 22, 310)})
+    one.counted = counts.told
     browser = opened(command, folder, f"http://127.0.0.1:{standin.serve(one).server_port}/")
     try:
         settles(browser, one.log.version)
-        browser.wait("stats !== null")
+        browser.wait("stats !== null && stats.span !== null && infoOf(1).tally.speaking > 0", 30)
         for name, width, dark in [
             ("desk", 1280, False), ("desk_dark", 1280, True), ("desk_narrow", 400, False),
             ("desk_narrow_dark", 400, True),

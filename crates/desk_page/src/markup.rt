@@ -24,8 +24,8 @@ pub(crate) const HTML_AFTER: &[u8] = br##"">
     <label><span>Search</span> <input id="search" type="search" autocomplete="off"
       placeholder="name, number or address" aria-keyshortcuts="/"></label>
     <label><span>Sort</span> <select id="sort"><option value="trouble">by trouble</option>
-      <option value="number">by number</option><option value="name">by name</option>
-      <option value="members">by members</option></select></label>
+      <option value="speaking">by who speaks</option><option value="number">by number</option>
+      <option value="name">by name</option><option value="members">by members</option></select></label>
     <button id="fold" type="button">Fold all</button>
   </div>
   <div class="history-buttons" id="history-buttons">
@@ -38,6 +38,11 @@ pub(crate) const HTML_AFTER: &[u8] = br##"">
   <section id="rooms" aria-labelledby="rooms-title">
     <div id="bar"><h2 id="rooms-title">Rooms</h2><button id="waiting" type="button" hidden></button>
       <div id="selected" role="group" aria-label="Selected members" hidden></div></div>
+    <div id="columns" class="columns" aria-hidden="true"><span></span><span></span><span>Member</span>
+      <span>Speaking<small id="span"></small></span><span class="figure">Loss<i> in</i><small>%</small></span>
+      <span class="figure jitter">Jitter<small>ms</small></span>
+      <span class="figure out">Loss out<small>%</small></span><span class="figure trip">Trip<small>ms</small></span>
+      <span class="sees">Sees</span><span class="sends">Sends</span></div>
     <div id="board"></div>
     <p id="nothing" class="soft" hidden></p>
   </section>

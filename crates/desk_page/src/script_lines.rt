@@ -1,6 +1,6 @@
 //! What the page makes of the bridge's texts, and the lines that clicks send.
 //! `tools/bridge make page` writes this file, from these files of web/:
-//! lines.js, overview.js, kept.js, stats.js, rules.js, history.js.
+//! lines.js, overview.js, kept.js, levels.js, stats.js, rules.js, history.js.
 
 /// The first part of the page's script.
 pub(crate) const LINES: &[u8] = br##""use strict";
@@ -309,8 +309,9 @@ function memberLine(desk, names, member) {
     ({ ssrc: s.ssrc, kind: s.kind, muted: desk.mutes.has(s.ssrc), name: nameOf(names, "source", s.ssrc) }));
   const sees = slotsOf(desk, member.member).map((slot) => {
     const { source, by: rule, why } = seen(desk, slot);
+    const name = source === null ? "" : sourceName(names, desk, source);
     return source === null ? { slot: slot.ssrc, source, why } :
-      { slot: slot.ssrc, source, by: rule, label: labelled(sourceName(names, desk, source), source) };
+      { slot: slot.ssrc, source, by: rule, name, label: labelled(name, source) };
   });
   const audio = sends.filter((s) => s.kind === "audio"), floor = desk.floors.get(member.room) === member.member;
   const muted = audio.length > 0 && audio.every((s) => s.muted);
@@ -344,7 +345,7 @@ function memberFits(desk, names, member, words) {
 }
 
 // The rooms with the members that are shown: all of a room that fits itself, and otherwise those that fit. Where only
-// some are counted, rooms without one are left out. `placeOf` is a room's place among those with trouble.
+// some are counted, rooms without one are left out. `placeOf` is a room's place by trouble or by who speaks.
 function overview(desk, names, search, sort, isShown = null, placeOf = () => 0) {
   const words = wordsOf(search);
   const roomFits = (room) => words.length === 0 || fits(words, [`room ${room}`, nameOf(names, "room", room)]);
@@ -355,8 +356,8 @@ function overview(desk, names, search, sort, isShown = null, placeOf = () => 0) 
   }).filter(({ room, members }) => members.length > 0 || (!isShown && roomFits(room)));
   const text = ({ room }) => nameOf(names, "room", room).toLowerCase() || "\uffff";
   const order = { number: (a, b) => a.room - b.room, members: (a, b) => b.members.length - a.members.length,
-    name: (a, b) => text(a).localeCompare(text(b)), trouble: (a, b) => placeOf(a.room) - placeOf(b.room) };
-  return found.sort((a, b) => order[sort](a, b) || a.room - b.room);
+    name: (a, b) => text(a).localeCompare(text(b)) }, placed = (a, b) => placeOf(a.room) - placeOf(b.room);
+  return found.sort((a, b) => (order[sort] ?? placed)(a, b) || a.room - b.room);
 }
 
 // Groups. One of one command is that command, and none is nothing.
@@ -436,33 +437,93 @@ function groupsIn(text) {
   return areGroups && lines[lines.length - 1] === endOf(groups) ? groups : null;
 }
 
+// How loud a source of sound is, and who speaks, by what two counts differ in. No function touches the page.
+
+// The energy of the loudest sample in the bridge's units, and how many times less -45 and -52 dBov are.
+const LOUDEST = 2 ** 20, LOUD = 31623, QUIET = 158489;
+// One speaks after so many loud quarters of a second in a row, and ceases after so many quiet ones.
+const QUARTER = 250, LOUD_ROW = 2, QUIET_ROW = 4;
+// The least level that is told, that of a span without a sample (RFC 6464). Two counts that are further apart than so
+// many milliseconds say nothing of now.
+const LEAST_LEVEL = -127, LONGEST_SPAN = 5000;
+const NO_SOUND = { level: null, isSpeaking: false, loud: 0, quiet: 0 };
+
+// The level of a span in dBov, by its samples and their energy.
+function levelOf(samples, energy) {
+  return samples > 0 ? Math.max(LEAST_LEVEL, 10 * Math.log10(energy / (LOUDEST * samples))) : LEAST_LEVEL;
+}
+
+// Who speaks, after a span of so many milliseconds. The rule is of quarters of a second. Who counts less often takes
+// each quarter for as loud as the whole span.
+function speechAfter({ isSpeaking, loud, quiet }, samples, energy, ms) {
+  const quarters = Math.max(1, Math.round(ms / QUARTER));
+  const isLoud = energy * LOUD > samples * LOUDEST, isQuiet = samples === 0 || energy * QUIET < samples * LOUDEST;
+  const louder = isLoud ? Math.min(LOUD_ROW, loud + quarters) : 0;
+  const quieter = isQuiet ? Math.min(QUIET_ROW, quiet + quarters) : 0;
+  return { isSpeaking: louder === LOUD_ROW || (isSpeaking && quieter < QUIET_ROW), loud: louder, quiet: quieter };
+}
+
+// What a count tells of a source's sound, with the one before. A source that wasn't counted before, or that was
+// forgotten meanwhile, began at 0. Before a first count nothing is known, and of a picture never.
+function soundOf(now, before, ms) {
+  if (typeof now.samples !== "number" || ms === null || ms > LONGEST_SPAN) return NO_SOUND;
+  const isSame = typeof before?.samples === "number" && before.samples <= now.samples;
+  const samples = now.samples - (isSame ? before.samples : 0), energy = now.energy - (isSame ? before.energy : 0);
+  return { level: levelOf(samples, energy), ...speechAfter(before?.sound ?? NO_SOUND, samples, energy, ms) };
+}
+
+// A level in words, of a member that is muted or not.
+function levelInWords(level, isSpeaking = false, isMuted = false) {
+  if (level === null) return "level not known";
+  if (level === LEAST_LEVEL) return "no sound";
+  const dbov = `${Math.round(level).toString().replace("-", "\u2212")} dBov`;
+  if (!isSpeaking) return dbov;
+  return `${isMuted ? "speaks while muted" : "speaks"}, ${dbov}`;
+}
+// The span of two counts in words.
+function spanInWords(ms) {
+  return ms === null || ms > LONGEST_SPAN ? "" : `last ${Math.max(1, Math.round(ms / 1000))} s`;
+}
+
 
 // What the bridge counts, as /stats tells it. No function touches the page.
 
 // A source from which nothing has come for so long is silent, in milliseconds.
 const SILENT = 2000;
-// A source begins to lose many at more than this share of the last 10 s, and ceases below that one. A count comes each
-// 2 s.
-const LOSSY = 0.02, FAIR = 0.01, COUNTS = 6;
+// What begins to lose many packets loses more than this share, and ceases below that one. Of a source it is the share
+// of the last 10 s.
+const LOSSY = 0.02, FAIR = 0.01, WINDOW = 10000;
 // The payload types of sound: PCMU and the two of L16 (RFC 3551).
 const SOUND_TYPES = [0, 10, 11];
 
-// What a source has lost of late: its share, whether that is much, and the counts that tell it. One that began anew is
-// counted from its beginning.
-function lossOf(one, before) {
-  const isAnew = !before || before.expected > one.expected;
-  const counts = [...(isAnew ? [{ expected: 0, lost: 0 }] : before.counts), { expected: one.expected, lost: one.lost }];
-  const [first] = counts.slice(-COUNTS), expected = one.expected - first.expected, lost = one.lost - first.lost;
-  const share = expected > 0 ? Math.max(0, lost) / expected : 0;
+// What a source has lost of late: its share, or null where nothing was due; whether that is much; and the counts that
+// tell it. One that began anew is counted from its beginning.
+function lossOf({ expected, lost }, before, at) {
+  const isAnew = !before || before.expected > expected, old = isAnew ? [{ at, expected: 0, lost: 0 }] : before.counts;
+  const counts = [...old.filter((one) => one.at >= at - WINDOW), { at, expected, lost }];
+  const due = expected - counts[0].expected, share = due > 0 ? Math.max(0, lost - counts[0].lost) / due : null;
   const isLossy = before?.isLossy && !isAnew ? share >= FAIR : share > LOSSY;
-  return { counts: counts.slice(-COUNTS), share, isLossy };
+  return { counts, share, isLossy };
+}
+// What a stream has lost, by the last report of its receiver.
+function lossOut({ fraction }, before) {
+  const share = typeof fraction === "number" ? fraction / 256 : null;
+  return { share, isLossy: before?.isLossy ? share >= FAIR : share > LOSSY };
 }
 
-// The counts of sources by address and SSRC, and the senders that are no source. `before` is the count before, if any.
-function parseStats(text, before = null) {
-  const told = JSON.parse(text), keyed = (told.sources ?? []).map((one) => [`${one.address} ${one.ssrc}`, one]);
-  for (const [key, one] of keyed) Object.assign(one, lossOf(one, before?.sources.get(key)));
-  return { sources: new Map(keyed), strangers: told.strangers ?? [] };
+// The counts of sources by address and SSRC, those of streams by SSRC, and the senders that are no source. `before` is
+// the count before, if any, and `at` the moment, in milliseconds.
+function parseStats(text, before = null, at = 0) {
+  const told = JSON.parse(text), span = before ? at - before.at : null;
+  const sources = new Map((told.sources ?? []).map((one) => [`${one.address} ${one.ssrc}`, one]));
+  for (const [key, one] of sources) {
+    const old = before?.sources.get(key);
+    Object.assign(one, lossOf(one, old, at));
+    one.sound = soundOf(one, old, span);
+  }
+  const streams = new Map((told.streams ?? []).map((one) => [one.out_ssrc, one]));
+  for (const [ssrc, one] of streams) Object.assign(one, lossOut(one, before?.streams.get(ssrc)));
+  return { at, span, sources, streams, strangers: told.strangers ?? [], figures: { desk: null, of: new Map() } };
 }
 
 // How long ago something came, in words.
@@ -478,10 +539,9 @@ function countOf(stats, desk, ssrc) {
   const address = memberOf(desk, sourceOf(desk, ssrc)?.member)?.address;
   return stats.sources.get(`${address} ${ssrc}`) ?? { packets: 0, lost: 0, ago_ms: null };
 }
-function isSilent(stats, desk, ssrc) {
-  const count = countOf(stats, desk, ssrc);
-  return count !== null && (count.ago_ms === null || count.ago_ms >= SILENT);
-}
+// Whether nothing comes of a source that is declared.
+function isStill(count) { return !count || count.ago_ms === null || count.ago_ms >= SILENT; }
+function isSilent(stats, desk, ssrc) { return stats !== null && isStill(countOf(stats, desk, ssrc)); }
 function isLossy(stats, desk, ssrc) {
   return countOf(stats, desk, ssrc)?.isLossy === true;
 }
@@ -492,12 +552,60 @@ function countInWords(count) {
   const jitter = typeof count.jitter_ms === "number" ? `, jitter ${count.jitter_ms} ms` : "";
   return `${count.packets} packets, ${count.lost} lost${late}${jitter}, the last one ${agoInWords(count.ago_ms)}`;
 }
+// What the receiver of a stream says of it.
+function streamInWords(count) {
+  const percent = count && count.share !== null ? `${(100 * count.share).toFixed(1)} percent lost` : "";
+  const times = [["jitter", count?.jitter_ms], ["round trip", count?.round_trip_ms]];
+  const words = times.flatMap(([what, ms]) => (typeof ms === "number" ? [`${what} ${ms} ms`] : []));
+  return [percent, ...words].filter(Boolean).join(", ") || "no report came";
+}
 
-// The rooms of the sources that fell silent or began to lose many packets between two counts, or ceased to.
+// The figures of a member: the level of its loudest source and whether one speaks, and the worst of the loss, jitter
+// and round trip of its sources and of the streams to it. What isn't known is null.
+const UNKNOWN = { level: null, isSpeaking: false, lossIn: null, jitter: null, lossOut: null, trip: null,
+  isSilent: false, isLosingIn: false, isLosingOut: false, look: "" };
+const most = (a, b) => (typeof b !== "number" ? a : Math.max(a ?? b, b));
+function figuresOf(desk, stats, member) {
+  if (!stats) return UNKNOWN;
+  const { figures } = stats;
+  if (figures.desk !== desk) stats.figures = { desk, of: new Map() };
+  const { of } = stats.figures;
+  if (!of.has(member.member)) of.set(member.member, countedOf(desk, stats, member));
+  return of.get(member.member);
+}
+function countedOf(desk, stats, { member, address, mix }) {
+  const all = { ...UNKNOWN };
+  const keyed = withField(desk.sources, "member", member).map(({ ssrc }) => `${address} ${ssrc}`);
+  keyed.forEach((key, place) => addSource(all, stats.sources.get(key), place));
+  addStream(all, stats.streams.get(mix));
+  for (const { ssrc } of withField(desk.slots, "member", member)) addStream(all, stats.streams.get(ssrc));
+  all.look += `${all.isLosingOut ? "o" : ""}${all.isSpeaking ? "v" : ""}`;
+  return all;
+}
+function addSource(all, count, place) {
+  const isQuiet = isStill(count);
+  if (isQuiet || count.isLossy) all.look += `${isQuiet ? "s" : "l"}${place}`;
+  all.isSilent ||= isQuiet;
+  if (isQuiet) return;
+  all.isLosingIn ||= count.isLossy;
+  all.isSpeaking ||= count.sound.isSpeaking;
+  all.level = most(all.level, count.sound.level);
+  all.lossIn = most(all.lossIn, count.share);
+  all.jitter = most(all.jitter, count.jitter_ms);
+}
+function addStream(all, count) {
+  if (!count) return;
+  all.isLosingOut ||= count.isLossy;
+  all.lossOut = most(all.lossOut, count.share);
+  all.trip = most(all.trip, count.round_trip_ms);
+}
+
+// The rooms in which a source fell silent or began to lose many packets between two counts, a stream began to lose
+// many, or somebody began to speak, or ceased to.
 function turnedRooms(desk, before, after) {
-  const turned = desk.sources.filter(({ ssrc }) => isSilent(before, desk, ssrc) !== isSilent(after, desk, ssrc) ||
-    isLossy(before, desk, ssrc) !== isLossy(after, desk, ssrc));
-  return new Set(turned.map(({ member }) => memberOf(desk, member)?.room));
+  const turned = desk.members.filter((member) =>
+    figuresOf(desk, before, member).look !== figuresOf(desk, after, member).look);
+  return new Set(turned.map(({ room }) => room));
 }
 
 // An unknown sender, with what a form to add it as a source is filled in with: its SSRC, the kind that its payload type
@@ -577,31 +685,35 @@ function inOldPlaces(before, now, key) {
   return before.map((one) => found.get(one[key]) ?? { ...one, hasLeft: true });
 }
 
-// What troubles a member: nothing comes of a source, many packets are lost, or it has the floor and is muted.
+// What troubles a member: nothing comes of a source, many packets are lost on their way to the bridge or from it, or it
+// has the floor and is muted.
 function troubleOf(desk, stats, member) {
-  const sources = sourcesOf(desk, member.member);
-  if (sources.some((s) => isSilent(stats, desk, s.ssrc))) return "silent";
-  if (sources.some((s) => isLossy(stats, desk, s.ssrc))) return "losing";
+  const figures = figuresOf(desk, stats, member);
+  if (figures.isSilent) return "silent";
+  if (figures.isLosingIn) return "losing in";
+  if (figures.isLosingOut) return "losing out";
   const isOdd = desk.floors.get(member.room) === member.member && isMuted(desk, member.member);
   return isOdd ? "muted floor" : "";
 }
-const WEIGHTS = { "": 0, "muted floor": 1, losing: 2, silent: 2 };
+const WEIGHTS = { "": 0, "muted floor": 1, "losing in": 2, "losing out": 2, silent: 2 };
 function isMuted(desk, member) {
   const voices = sourcesOf(desk, member, "audio");
   return voices.length > 0 && voices.every((s) => desk.mutes.has(s.ssrc));
 }
-// Whether a member is one of those that a number counts.
+// Whether a member is one of those that a number counts. One may be silent with its picture and lose sound.
+const COUNTED = { speaking: (one) => one.isSpeaking, silent: (one) => one.isSilent,
+  losing: (one) => one.isLosingIn || one.isLosingOut };
 function isCounted(desk, stats, filter, member) {
-  return filter === "muted" ? isMuted(desk, member.member) : troubleOf(desk, stats, member) === filter;
+  return filter === "muted" ? isMuted(desk, member.member) : COUNTED[filter](figuresOf(desk, stats, member));
 }
 // What is counted of members: those of a room, or of the whole bridge.
 function tallyOf(desk, stats, members) {
-  const tally = { members: members.length, silent: 0, losing: 0, muted: 0, weight: 0 };
+  const tally = { members: members.length, speaking: 0, silent: 0, losing: 0, muted: 0, weight: 0 };
   for (const member of members) {
-    const trouble = troubleOf(desk, stats, member);
-    if (trouble in tally) tally[trouble] += 1;
-    if (isMuted(desk, member.member)) tally.muted += 1;
-    tally.weight += WEIGHTS[trouble];
+    for (const key of ["speaking", "silent", "losing", "muted"]) {
+      if (isCounted(desk, stats, key, member)) tally[key] += 1;
+    }
+    tally.weight += WEIGHTS[troubleOf(desk, stats, member)];
   }
   return tally;
 }
@@ -764,9 +876,8 @@ if (typeof module !== "undefined") {
     memberLine, roomLine, overview, parseNames, renamed, labelled, sourceName, cut, grouped, toggled, othersMuted,
     movedAll, goesAlong, changedRooms, nameRefusal, parseDesk, isMusic, roomsFor, codecOf, seen, videosFor, heard,
     lines, dropped, free, suggested, inWords, replyInWords, parseHistory, worded, callWords, begun, wayTo, wayWords,
-    callInTheWay,
-    changes, keptText, groupsIn, parseStats, agoInWords, isSilent, isLossy, countOf, countInWords, turnedRooms,
-    strangersIn, objectsOfRow, objectsOfLine, othersObjects, placeChanges, inOldPlaces, troubleOf, tallyOf, isCounted,
-    linkOf, linkInWords };
+    callInTheWay, changes, keptText, groupsIn, parseStats, agoInWords, isSilent, isLossy, countOf, countInWords,
+    streamInWords, turnedRooms, strangersIn, figuresOf, levelOf, speechAfter, levelInWords, spanInWords, objectsOfRow,
+    objectsOfLine, othersObjects, placeChanges, inOldPlaces, troubleOf, tallyOf, isCounted, linkOf, linkInWords };
 }
 "##;

@@ -1,6 +1,6 @@
 //! How the page shows the desk, and what is done at it.
 //! `tools/bridge make page` writes this file, from these files of web/:
-//! view.js, page.js, link.js, counts.js, places.js, drawing.js, hands.js.
+//! view.js, rows.js, page.js, link.js, counts.js, places.js, drawing.js, hands.js.
 
 /// The rest of the page's script.
 pub(crate) const VIEW: &[u8] = br##"// Drawing.
@@ -62,7 +62,8 @@ function morph(node, next) {
     if (!isBusy(node) && node.type === "range") node.value = next.value;
     if (node.type === "checkbox") node.checked = next.checked;
   }
-  if (node.tagName !== "SELECT" || !isBusy(node)) morphChildren(node, [...next.childNodes]);
+  // What a list has drawn into a node is the list's.
+  if (!node.drawn && (node.tagName !== "SELECT" || !isBusy(node))) morphChildren(node, [...next.childNodes]);
 }
 const keyOf = (node) => node.dataset?.key ?? node.id ?? "";
 const isLike = (node, next) => node.nodeName === next.nodeName && keyOf(node) === keyOf(next);
@@ -100,10 +101,10 @@ function drawList(node, items, draw) {
   for (const item of items) {
     let entry = known.get(item.key);
     const look = item.isKept && entry ? entry.look : JSON.stringify(item.model);
-    if (!entry) entry = { node: draw(item), look };
+    if (!entry) entry = { node: draw(item), look, figures: item.figures };
     else if (entry.look !== look) {
       morph(entry.node, draw(item));
-      entry.look = look;
+      Object.assign(entry, { look, figures: item.figures });
     }
     if (item.model) entry.model = item.model;
     if (entry.node === place) place = place.nextElementSibling;
@@ -120,51 +121,13 @@ function titled(name, kind, number) {
 }
 const spoken = (name, kind, number) => (name ? `${name} ${kind} ${number}` : `${kind} ${number}`);
 
-// What stands out of how a source's packets come: a class, and words.
-function fate({ isSilent: silent, isLossy: lossy }) {
-  if (silent) return { mark: " silent", words: "no packet comes" };
-  return lossy ? { mark: " lossy", words: "over 2 percent of the packets are lost" } : { mark: "", words: null };
-}
-// A member's state: a sign, a class and words.
-const STATES = { silent: ["\u2716", "silent", "silent: no packet comes"],
-  losing: ["\u26a0", "losing", "losing over 2 percent of its packets"],
-  "muted floor": ["\u25cf", "floor-muted", "has the floor and is muted"] };
-
-// A member's line of the overview. One that has left stays in its place as long as places are held.
-function memberRow({ model, room }) {
-  const { member, name, floor, muted, odd, hasAudio, isOpen, isChosen, isHere, trouble, left, isFresh } = model;
-  const who = spoken(name, "member", member), [sign, state, words] = STATES[trouble] ?? ["", "", ""];
-  const short = name ? [bdi(name), soft(` ${member}`)] : [`member ${member}`];
-  const sent = model.sends.flatMap((s, place) => [place ? ", " : null,
-    el("span", { class: `source${s.muted ? " muted" : ""}${fate(s).mark}`,
-      title: fate(s).words, draggable: s.kind === "video" && !left ? "true" : null,
-      "data-source": s.ssrc }, `${s.kind} ${labelled(s.name, s.ssrc)}`)]);
-  const seenWords = model.sees.map((s) => (s.source === null ? "nothing" : s.label)).join(", ");
-  const off = left ? { "aria-disabled": "true" } : {};
-  const looks = [odd && " odd", trouble && " trouble", isOpen && " open", left && " left", isFresh && " fresh"];
-  return el("div", { class: `member${looks.filter(Boolean).join("")}`, role: "listitem",
-    draggable: left ? null : "true", "data-member": member, "data-room-of": room, "data-key": `member ${member}` },
-    el("span", { class: `state ${state}`, title: words || null, "aria-hidden": "true" }, sign),
-    el("label", { class: "pick" }, el("input", { type: "checkbox", tabindex: -1, "data-select": member, ...off,
-      checked: isChosen, "aria-label": `Select ${who}` })),
-    el("button", { type: "button", class: "who", tabindex: isHere ? 0 : -1, "data-act": "open", "data-of": member,
-      "data-key": `open ${member}`, "aria-expanded": String(isOpen), ...off,
-      "aria-label": `Open ${name ? `${name} ${member}` : who}${words && `, ${words}`}${left ? `, ${left}` : ""}` },
-      ...short),
-    el("span", { class: "sends soft" }, ...(sent.length ? sent : ["sends nothing"])),
-    el("span", { class: "sees soft" }, left || (model.sees.length ? `sees ${seenWords}` : "")),
-    el("span", { class: "says" }, floor ? el("span", { class: `tag${odd ? " bad" : ""}` },
-      odd ? "floor, muted" : "floor") : "", muted && !floor ? el("span", { class: "tag bad" }, "muted") : ""),
-    hasAudio ? does(muted ? "Unmute" : "Mute", "toggle", member, who,
-      { tabindex: -1, "aria-keyshortcuts": "m", ...off }) : el("span", {}));
-}
-
 // A room of the overview: its head, and a list for its members. All of the head has its place, whatever is said there.
 function roomHead(model) {
   const { room, name, isFolded, floor, pin, left, tally } = model, what = spoken(name, "room", room);
   const off = left ? { "aria-disabled": "true" } : {};
   const many = `${model.members} member${model.members === 1 ? "" : "s"}`;
-  const counts = [["silent", "warn"], ["losing", "warn"], ["muted", ""]].flatMap(([key, kind]) => (tally[key] ?
+  const kinds = [["silent", "warn"], ["losing", "bad"], ["speaking", "good"], ["muted", ""]];
+  const counts = kinds.flatMap(([key, kind]) => (tally[key] ?
     [", ", el("b", { class: kind }, `${tally[key]} ${key}`)] : []));
   return el("div", { class: `head${model.odd ? " odd" : ""}${left ? " left" : ""}` },
     el("button", { type: "button", class: "fold", "data-act": "fold", "data-of": room, "data-key": `fold ${room}`,
@@ -217,7 +180,7 @@ function sourceRow(room, source) {
       sends("Remove", lines.removeSource(ssrc), what, "danger")),
     count ? el("span", { class: "soft counted" }, count) : "");
 }
-function slotRow({ slot, index, source, label, by: rule, why, isSubscribed, hasLeft }) {
+function slotRow({ slot, index, source, label, by: rule, why, isSubscribed, hasLeft, count }) {
   const word = { sub: "subscribed", pin: "by the pin", floor: "by the floor" }[rule];
   return el("div", { class: `row slot${hasLeft ? " left" : ""}`, "data-slot": slot, "data-key": `slot row ${slot}` },
     el("span", { class: "what" }, `slot ${index} `, soft(`(${slot}): `),
@@ -225,7 +188,8 @@ function slotRow({ slot, index, source, label, by: rule, why, isSubscribed, hasL
     el("span", { class: "acts" },
       isSubscribed ? sends("Unsubscribe", lines.unsubscribe(slot), `slot ${slot}`) : "",
       chooses("Subscribe", `slot ${slot}`, `subscribe ${slot}`),
-      sends("Remove", lines.removeSlot(slot), `slot ${slot}`, "danger")));
+      sends("Remove", lines.removeSlot(slot), `slot ${slot}`, "danger")),
+    count ? el("span", { class: "soft counted" }, count) : "");
 }
 function detailPanel(model) {
   const { member, name, room, roomLabel, left } = model, who = spoken(name, "member", member);
@@ -236,6 +200,9 @@ function detailPanel(model) {
       does("Name", "name", `member ${member}`, who), does("Close", "close", member, who)),
     el("div", { class: "soft address" }, "in ", bdi(roomLabel), `, ${model.address} ${model.codec}, mix ${model.mix}`,
       left ? `, ${left}` : ""),
+    el("p", { class: "soft told", title: model.told }, model.told),
+    el("dl", { class: "figures" }, ...model.figures.flatMap(([what, text, kind, title]) =>
+      [el("dt", {}, what), el("dd", { class: kind || null, title: title || null }, text)])),
     el("div", { class: "acts" },
       model.floor ? sends("Take floor", lines.takeFloor(room), `from ${who}`, "", `floor-of ${member}`) :
         sends("Give floor", lines.giveFloor(room, member), `to ${who}`, "", `floor-of ${member}`),
@@ -245,6 +212,7 @@ function detailPanel(model) {
     ...part("Sends", model.sources.map((s) => sourceRow(room, s)), "nothing"),
     ...part("Sees", model.slots.map(slotRow), "it has no slot"),
     ...part("Hears", model.gains.map((g) => gainRow(member, who, g)), "all at their own level"),
+    model.mixed ? el("div", { class: "soft counted" }, `its mix: ${model.mixed}`) : "",
     model.hears ? chooses("Set gain of", `for ${who}`, `gain-of ${member}`) : "");
 }
 
@@ -279,18 +247,142 @@ function wayOf(way) {
   return { text: wayWords(way, count === 0), count, label: count > 1 ? `${word} these ${count}` : word };
 }
 
+// A member's row of the overview: its state, its name, its figures, what it sees and sends, and its mute.
+
+// What stands out of how a source's packets come: a class, and words.
+function fate({ isSilent: silent, isLossy: lossy }) {
+  if (silent) return { mark: " silent", words: "no packet comes" };
+  return lossy ? { mark: " lossy", words: "over 2 percent of the packets are lost" } : { mark: "", words: null };
+}
+// A member's state: a sign, a class and words.
+const STATES = { silent: ["\u2716", "warn", "silent: no packet comes"],
+  "losing in": ["\u26a0", "bad", "losing over 2 percent of its packets"],
+  "losing out": ["\u26a0", "bad", "losing over 2 percent of what it is sent"],
+  "muted floor": ["\u2298", "bad", "has the floor and is muted"],
+  muted: ["\u2298", "", "muted"], speaking: ["\u25cf", "good", "speaking"], "": ["", "", ""] };
+function stateOf({ trouble, muted }, { isSpeaking }) {
+  return STATES[trouble || (muted ? "muted" : isSpeaking ? "speaking" : "")];
+}
+
+// Figures in the words of a cell. From these on a jitter and a round trip stand out, in milliseconds.
+const SHAKY = 30, FAR = 250;
+const percent = (share) => (share === null ? "\u2013" : share < 0.0005 ? "0" : (100 * share).toFixed(1));
+const whole = (ms) => (ms === null ? "\u2013" : String(ms));
+function cellsOf({ lossIn, isLosingIn, jitter, lossOut, isLosingOut, trip }) {
+  return [["in", percent(lossIn), isLosingIn ? " bad" : ""], ["jitter", whole(jitter), jitter >= SHAKY ? " warn" : ""],
+    ["out", percent(lossOut), isLosingOut ? " bad" : ""], ["trip", whole(trip), trip >= FAR ? " warn" : ""]];
+}
+// The same for a reader, without what isn't known.
+function figuresInWords({ lossIn, jitter, lossOut, trip }) {
+  const all = [["loss in", lossIn, `${percent(lossIn)} percent`], ["jitter", jitter, `${jitter} ms`],
+    ["loss out", lossOut, `${percent(lossOut)} percent`], ["round trip", trip, `${trip} ms`]];
+  return all.filter(([, value]) => value !== null).map(([what, , text]) => `${what} ${text}`).join(", ");
+}
+
+// A meter has ten steps, from -60 dBov on.
+const LOWEST = -60, STEP = 5, STEPS = 10;
+const stepOf = (level) => Math.min(STEPS, Math.max(0, Math.round((level - LOWEST) / STEP)));
+
+// What changes in a row at each count, in the order of its cells: of each its class, its text and its attributes.
+function figureCells(model, figures) {
+  const [sign, kind, words] = stateOf(model, figures), { level, isSpeaking } = figures;
+  const lookOf = { "data-step": level === null ? null : String(stepOf(level)),
+    "aria-valuenow": String(level === null ? LEAST_LEVEL : Math.round(level)),
+    "aria-valuetext": levelInWords(level, isSpeaking, model.muted) };
+  return [[`state ${kind}`, sign, { title: words || null }], ["level", level === null ? "\u2013" : "", lookOf],
+    ...cellsOf(figures).map(([name, text, stands]) => [`figure ${name}${stands}`, text, {}]),
+    ["spoken", figuresInWords(figures), {}]];
+}
+const FIGURED = [0, 3, 4, 5, 6, 7, 8];
+// Shows the figures of a row that is drawn, where they have changed.
+function showFigures(row, model, figures) {
+  const cells = figureCells(model, figures);
+  cells.forEach(([kind, text, more], place) => {
+    const node = row.children[FIGURED[place]];
+    if (node.className !== kind) node.className = kind;
+    if (node.textContent !== text) node.textContent = text;
+    for (const [name, value] of Object.entries(more)) {
+      if (value === null) node.removeAttribute(name);
+      else if (node.getAttribute(name) !== value) node.setAttribute(name, value);
+    }
+  });
+  row.classList.toggle("speaks", figures.isSpeaking);
+}
+// Whether figures look as others in a row.
+const dbov = ({ level }) => (level === null ? null : Math.round(level));
+const areAlike = (a, b) => a.lossIn === b.lossIn && a.jitter === b.jitter && a.lossOut === b.lossOut &&
+  a.trip === b.trip && a.look === b.look && dbov(a) === dbov(b);
+// Shows the figures of all rows that are drawn, where they have changed.
+function drawFigures() {
+  for (const { node: room } of at("board").drawn?.values() ?? []) {
+    for (const [number, entry] of room.lastElementChild.drawn ?? []) {
+      const member = entry.model.left ? undefined : memberOf(desk, number);
+      const now = member && figuresOf(desk, stats, member);
+      if (member && !areAlike(entry.figures, now)) {
+        showFigures(entry.node, entry.model, now);
+        entry.figures = now;
+      }
+    }
+  }
+  const text = spanInWords(stats?.span ?? null);
+  if (at("span").textContent !== text) at("span").textContent = text;
+}
+
+// What a member sends. A picture can be dragged to a slot.
+function sentCell({ sends: sources, left }) {
+  const sent = sources.flatMap((s, place) => [place ? ", " : null,
+    el("span", { class: `source${s.muted ? " muted" : ""}${fate(s).mark}`,
+      title: [`${s.kind} ${labelled(s.name, s.ssrc)}`, fate(s).words].filter(Boolean).join(": "),
+      draggable: s.kind === "video" && !left ? "true" : null, "data-source": s.ssrc }, s.kind)]);
+  return el("span", { class: "sends soft" }, ...(sent.length ? sent : ["sends nothing"]));
+}
+function seenCell({ sees, left }) {
+  const names = sees.flatMap((s, place) => [place ? ", " : null,
+    s.source === null ? "nothing" : bdi(s.name || String(s.source))]);
+  const title = sees.map((s) => (s.source === null ? s.why : s.label)).join(", ");
+  return el("span", { class: "sees soft", title: left ? null : title || null },
+    ...(left ? [left] : sees.length ? [el("span", { class: "spoken" }, "sees "), ...names] : []));
+}
+
+// A member's line of the overview. One that has left stays in its place as long as places are held.
+function memberRow({ model, room, figures }) {
+  const { member, name, floor, muted, odd, hasAudio, isOpen, isChosen, isHere, trouble, left, isFresh } = model;
+  const who = spoken(name, "member", member), words = STATES[trouble][2], off = left ? { "aria-disabled": "true" } : {};
+  const short = name ? [bdi(name), soft(` ${member}`)] : [`member ${member}`];
+  const looks = [odd && " odd", trouble && " trouble", trouble === "losing out" && " loses-out", isOpen && " open",
+    left && " left", isFresh && " fresh", muted && " quiet", figures.isSpeaking && " speaks"];
+  const [state, level, ...others] = figureCells(model, figures).map(([kind, text, more]) =>
+    el("span", { class: kind, ...more, "aria-hidden": kind.startsWith("level") || kind === "spoken" ? null : "true",
+      ...(kind === "level" ? { role: "meter", "aria-label": `Level of ${who}`, "aria-valuemin": LEAST_LEVEL,
+        "aria-valuemax": 0 } : {}) }, text));
+  return el("div", { class: `member${looks.filter(Boolean).join("")}`, role: "listitem",
+    draggable: left ? null : "true", "data-member": member, "data-room-of": room, "data-key": `member ${member}` },
+    state,
+    el("label", { class: "pick" }, el("input", { type: "checkbox", tabindex: -1, "data-select": member, ...off,
+      checked: isChosen, "aria-label": `Select ${who}` })),
+    el("span", { class: "named" },
+      el("button", { type: "button", class: "who", tabindex: isHere ? 0 : -1, "data-act": "open", "data-of": member,
+        "data-key": `open ${member}`, "aria-expanded": String(isOpen), ...off,
+        "aria-label": `Open ${name ? `${name} ${member}` : who}${words && `, ${words}`}${left ? `, ${left}` : ""}` },
+        ...short),
+      floor ? el("span", { class: `tag${odd ? " bad" : ""}`, title: odd ? "floor, muted" : null }, "floor") : ""),
+    level, ...others, seenCell(model), sentCell(model),
+    hasAudio ? does(muted ? "Unmute" : "Mute", "toggle", member, who,
+      { class: `small${muted ? " danger" : ""}`, tabindex: -1, "aria-keyshortcuts": "m", ...off }) : el("span", {}));
+}
+
 // What the page knows, and what goes out.
-const EVERY = 250, COUNTED_EVERY = 2000, TRIES = 3, PATIENCE = 8000, REST = 400, SLOW = 1000;
+const EVERY = 250, JUDGED_EVERY = 500, TRIES = 3, PATIENCE = 8000, REST = 400, SLOW = 1000;
 const FEW_ROOMS = 8, FEW_MEMBERS = 4, ROW_HEIGHT = 25, HEAD_HEIGHT = 34, FADES = 5000, MARKED = 3000;
 const folded = new Map(), picked = new Set(), here = new Map();
 const widened = new Set(), resting = new Map(), suggestions = new Map();
 let desk = null, shownText = null, drag = null, group = [], timer = null, asking = false, opened = null, past = null;
-let names = {}, namesVersion = -1, walked = null, stats = null, counted = -COUNTED_EVERY;
+let names = {}, namesVersion = -1, walked = null, stats = null, counted = -Infinity;
 // The link: when news last came, what the program says of its bridge, and what the page makes of both.
 let lastNews = performance.now(), since = null, told = "", link = "connecting";
 // The versions that calls of this page made, when others have last changed an object, and which control is pressed.
 const mine = new Set(), touchedAt = new Map(), freshAt = new Map();
-let pressed = null, fading = null, newsFading = null;
+let pressed = null, fading = null, newsFading = null, counting = false;
 let token = document.querySelector('meta[name="desk-token"]').content;
 
 // What became of the last press. A success fades, a refusal stays until it is closed. Where a call of the history is
@@ -703,19 +795,23 @@ function tellOthers(before) {
 
 
 // What the bridge counts: asking for it, and the senders that are no source.
+// How long after a count the next one is asked for, in milliseconds. An answer for many sources is long.
+const OFTEN = 1000, SELDOM = 2000, MANY_SOURCES = 256;
+const countedEvery = () => (stats && stats.sources.size > MANY_SOURCES ? SELDOM : OFTEN);
 // Asks what the bridge counts, while somebody can see the page. Where the bridge doesn't know the question, the status
 // is no success, and nothing is shown of it.
 async function count() {
-  if (document.visibilityState !== "visible" || performance.now() - counted < COUNTED_EVERY) return;
+  if (counting || document.visibilityState !== "visible" || performance.now() - counted < countedEvery()) return;
+  counting = true;
   counted = performance.now();
-  let next = null;
   try {
     const reply = await ask("/stats");
-    if (reply.ok) next = parseStats(await reply.text(), stats);
+    takeStats(reply.ok ? parseStats(await reply.text(), stats, performance.now()) : null);
   } catch (error) {
+    // What was counted last stays where no answer came.
     if (error instanceof SyntaxError) console.error(error);
   }
-  takeStats(next);
+  counting = false;
 }
 function takeStats(next) {
   const before = stats;
@@ -725,6 +821,7 @@ function takeStats(next) {
   const turned = before || next ? turnedRooms(desk, before, next) : new Set();
   // Rooms with trouble rise, and who ceases to fit a filter goes, even where nothing has turned since the count before.
   render(filter ? null : turned, false);
+  drawFigures();
 }
 
 // The senders that are no source, where the bridge tells of any.
@@ -750,8 +847,8 @@ function fillSource(ssrc) {
 // Places. Nothing comes, goes or moves in the list or beside it while the pointer is there, a button is held, or a menu
 // is open, and until 600 ms after a touch. What a row says changes at once.
 const over = { board: false, aside: false }, TOUCH = 600;
-let down = null, heldBack = 0, heldAside = false, drawnPlan = [], movedAt = -Infinity, drawnPanel = null;
-let filter = "", order = new Map(), orderedAt = -Infinity;
+let down = null, heldBack = 0, heldAside = false, drawnPlan = [], movedAt = -Infinity, drawnPanel = null, drawnSum = "";
+let filter = "", order = new Map(), orderedAt = -Infinity, spoke = new Set();
 const lastFit = new Map();
 const isMenuOpen = () => CSS.supports("selector(:open)") && document.querySelector("select:open") !== null;
 function isHeld(part) { return over[part] || down === part || drag !== null || isMenuOpen(); }
@@ -808,22 +905,29 @@ function isShown(member) {
   if (isCounted(desk, stats, filter, member)) lastFit.set(member.member, now);
   return now - (lastFit.get(member.member) ?? -Infinity) < SETTLED;
 }
-// The rooms by trouble. Their order is made anew every few seconds at most.
+// The rooms by trouble, or by who speaks. Their order is made anew every few seconds at most.
 function sortRooms(isAsked) {
   if (!isAsked && order.size > 0 && (performance.now() - orderedAt < SETTLED || isHeld("board"))) return;
-  const weight = (room) => infoOf(room).tally.weight;
+  const key = at("sort").value === "speaking" ? "speaking" : "weight", weight = (room) => infoOf(room).tally[key];
   const rooms = [...desk.rooms].sort((a, b) => weight(b) - weight(a) || a - b);
   order = new Map(rooms.map((room, place) => [room, place]));
+  spoke = new Set(key === "weight" ? [] : desk.members.filter((one) => isCounted(desk, stats, key, one))
+    .map(({ member }) => member));
   orderedAt = performance.now();
 }
 const placeOf = (room) => order.get(room) ?? Number.MAX_SAFE_INTEGER;
+// Where rooms are by who speaks, their members are.
+const bySpeech = (members) => (spoke.size === 0 ? members :
+  [...members.filter((one) => spoke.has(one)), ...members.filter((one) => !spoke.has(one))]);
 
-// What should be drawn: each room, and of a folded one those in trouble.
+// What should be drawn: each room, and of a folded one those in trouble, and who speaks where the order is by that.
 function planOf(isNarrowed) {
   const found = overview(desk, names, at("search").value, at("sort").value, filter ? isShown : null, placeOf);
   return found.map(({ room, members }) => {
-    const isClosed = !isNarrowed && isFolded(room);
-    return { room, isClosed, members: isClosed ? infoOf(room).troubled : members.map(({ member }) => member) };
+    const isClosed = !isNarrowed && isFolded(room), { troubled } = infoOf(room);
+    const isBrief = isClosed && spoke.size === 0, all = isBrief ? troubled : members.map(({ member }) => member);
+    const shown = isClosed && !isBrief ? all.filter((one) => spoke.has(one) || troubled.includes(one)) : all;
+    return { room, isClosed, members: bySpeech(shown) };
   });
 }
 
@@ -863,28 +967,34 @@ function memberItem(room, number, members, known) {
   // One that has gone is drawn here as long as places are held.
   if (member?.room !== room) {
     const left = member ? `is now in room ${labelled(nameOf(names, "room", member.room), member.room)}` : "has left";
-    return { key: number, room, model: { ...known, left, isHere, isChosen: false, isFresh: false } };
+    const model = { ...known, left, isHere, isChosen: false, isFresh: false, trouble: "" };
+    return { key: number, room, figures: UNKNOWN, model };
   }
   const line = memberLine(desk, names, member), isFresh = performance.now() - freshAt.get(number) < MARKED;
-  return { key: number, room, model: { ...line, sends: line.sends.map(withCount),
-    trouble: troubleOf(desk, stats, member), isOpen: opened === number, isChosen: picked.has(number), isHere,
-    isFresh } };
+  const model = { ...line, sends: line.sends.map(withCount), trouble: troubleOf(desk, stats, member),
+    isOpen: opened === number, isChosen: picked.has(number), isHere, isFresh };
+  return { key: number, room, figures: figuresOf(desk, stats, member), model };
 }
 
-// The numbers of the whole bridge. Those of members are filters.
+// The numbers of the whole bridge. Those of members are filters, and the one of all members takes a filter away.
 function renderSum() {
-  const sum = (key) => desk.rooms.reduce((all, room) => all + infoOf(room).tally[key], 0);
-  const unknown = strangersIn(stats, desk).length;
-  const many = (count, what) => `${count.toLocaleString("en")} ${what}${count === 1 ? "" : "s"}`;
-  const number = (key, count = sum(key)) => el("button", { type: "button", class: `small number${count ? " some" : ""}`,
-    "data-key": `filter ${key}`, "data-act": "filter", "data-of": key, "aria-pressed": String(filter === key) },
-    `${count} ${key}`);
+  const keys = ["speaking", "silent", "losing", "muted"];
+  const sums = keys.map((key) => desk.rooms.reduce((all, room) => all + infoOf(room).tally[key], 0));
+  const unknown = strangersIn(stats, desk).length, rooms = desk.rooms.length, people = desk.members.length;
+  const look = [rooms, people, ...sums, unknown, filter].join();
+  if (look === drawnSum) return;
+  drawnSum = look;
+  const one = (count, what) => (count === 1 ? what.slice(0, -1) : what);
+  const number = (count, what, more) => el("button", { type: "button", class: `number${count ? " some" : ""}`,
+    ...more }, el("b", {}, count.toLocaleString("en")), " ", el("span", {}, what));
+  const counts = (key, count, what = key) => number(count, what, { "data-key": `filter ${what}`, "data-act": "filter",
+    "data-of": key, "aria-pressed": String(filter === key) });
   morphChildren(at("sum"), [
-    el("span", { "data-key": "rooms" }, many(desk.rooms.length, "room")),
-    el("span", { "data-key": "people" }, many(desk.members.length, "member")),
-    number("silent"), number("losing"), number("muted"),
-    el("button", { type: "button", class: `small number${unknown ? " some" : ""}`, "data-key": "unknown",
-      "data-act": "unknown", "data-of": "", disabled: unknown === 0 }, `${unknown} unknown`)]);
+    el("span", { "data-key": "rooms" }, `${rooms.toLocaleString("en")} ${one(rooms, "rooms")}`),
+    counts("", people, one(people, "members")),
+    ...keys.map((key, at) => counts(key, sums[at])),
+    number(unknown, "unknown", { "data-key": "unknown", "data-act": "unknown", "data-of": "",
+      disabled: unknown === 0 })]);
 }
 
 // Drawing what stands around the rooms, and all of the page.
@@ -925,19 +1035,33 @@ function renderSelected() {
     does("Unmute", "unmute-chosen", "", what), does("Clear", "clear", "", "the selection")]);
 }
 
+// What is counted of a member, for its panel.
+function countedDetail(member) {
+  const figures = figuresOf(desk, stats, member), { level, isSpeaking } = figures;
+  const heard = level === null ? ["\u2013", "", ""] : [levelInWords(level), "", spanInWords(stats.span)];
+  const speech = isSpeaking ? `speaks${isMuted(desk, member.member) ? " while muted" : ""}` : "";
+  const cells = cellsOf(figures).map(([, text, kind], at) => [["Loss in", "Jitter", "Loss out", "Trip"][at],
+    text === "\u2013" ? text : `${text} ${["%", "ms"][at % 2]}`, kind.trim()]);
+  return { told: [STATES[troubleOf(desk, stats, member)][2], speech].filter(Boolean).join("; ") || "nothing stands out",
+    figures: [["Level", ...heard], ...cells],
+    mixed: stats && streamInWords(stats.streams.get(member.mix)) };
+}
+
 // What the panel of a member says.
 function detailOf(member) {
   const { sends: sources, floor } = memberLine(desk, names, member), room = member.room;
   const label = (ssrc) => labelled(sourceName(names, desk, ssrc), ssrc), hears = heard(desk, member);
   const isShown = (s) => s.gain !== 256 || widened.has(`${member.member} ${s.ssrc}`);
+  const counted = countedDetail(member);
   return { member: member.member, name: nameOf(names, "member", member.member), room, floor, address: member.address,
     codec: member.codec, mix: member.mix, roomLabel: `room ${labelled(nameOf(names, "room", room), room)}`,
+    ...counted,
     sources: sources.map((s) => ({ ...withCount(s), isPinned: desk.pins.get(room) === s.ssrc,
       count: countInWords(countOf(stats, desk, s.ssrc)) })),
     slots: slotsOf(desk, member.member).map((slot) => {
       const { source, by: rule, why } = seen(desk, slot);
       return { slot: slot.ssrc, index: slot.index, source, by: rule, why, isSubscribed: desk.subs.has(slot.ssrc),
-        label: source === null ? "" : label(source) };
+        label: source === null ? "" : label(source), count: stats && streamInWords(stats.streams.get(slot.ssrc)) };
     }),
     gains: hears.filter(isShown).map((s) => ({ ...s, label: label(s.ssrc) })),
     hears: hears.some((s) => !isShown(s)), others: membersIn(desk, room).length > 1 };
@@ -1247,8 +1371,8 @@ at("send-group").addEventListener("click", () => {
   dropGroup();
   call(line);
 });
-setInterval(judge, COUNTED_EVERY / 4);
-setInterval(count, COUNTED_EVERY / 4);
+setInterval(judge, JUDGED_EVERY);
+setInterval(count, EVERY);
 document.addEventListener("visibilitychange", count);
 show();
 "##;

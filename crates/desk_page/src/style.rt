@@ -43,10 +43,11 @@ h3 { font-size: .95rem; margin: 0; }
 #redo { width: 9rem; }
 #sum { grid-column: 1 / -1; display: flex; gap: .5rem; align-items: center; white-space: nowrap; overflow: hidden;
   font-size: .92em; }
-#sum > span { min-width: 5.6rem; color: var(--soft); }
-.number { min-width: 6rem; color: var(--soft); }
-.number.some { color: var(--ink); font-weight: 600; }
-.number[aria-pressed="true"] { background: var(--drop); border-color: var(--accent); }
+#sum > span { min-width: 4.6rem; color: var(--soft); }
+.number { color: var(--soft); padding: 0 .6rem; height: 24px; font-size: .92em; }
+.number b { font-weight: 400; }
+.number.some b { color: var(--ink); font-weight: 700; }
+.number[aria-pressed="true"]:not([data-of=""]) { background: var(--drop); border-color: var(--accent); }
 footer { position: fixed; bottom: 0; left: 0; right: 0; height: 2.6rem; display: grid; z-index: 5;
   grid-template-columns: minmax(0, 1.6fr) auto minmax(0, 1fr); gap: .6rem; align-items: center; padding: 0 1rem;
   background: var(--card); border-top: 1px solid var(--line); }
@@ -57,14 +58,14 @@ footer p { margin: 0; font-size: .9em; line-height: 1.15rem; max-height: 2.3rem;
 footer .buttons { grid-column: 2; grid-row: 1; display: flex; gap: .3rem; }
 #news { grid-column: 3; color: var(--soft); }
 main { display: grid; grid-template-columns: minmax(0, 1fr) 23rem; gap: 1rem; padding: .2rem 1rem 3.4rem; }
-#board { display: grid; gap: .5rem; }
+#board { display: grid; gap: .5rem; grid-template-columns: minmax(0, 1fr); }
 .room, aside > section { background: var(--card); border: 1px solid var(--line); border-radius: .5rem; }
 aside > section { padding: .75rem; }
 aside { display: grid; grid-template-columns: minmax(0, 1fr); gap: .7rem; align-content: start; overflow: auto;
   position: sticky; top: 5.1rem; max-height: calc(100vh - 8.7rem); }
 .room.over, .room.over .head, .slot.over { background: var(--drop); outline: 2px dashed var(--accent); }
 .head { display: grid; align-items: center; gap: 0 .5rem; padding: 0 .5rem; height: 32px;
-  grid-template-columns: 24px minmax(8rem, 1.1fr) 14.5rem minmax(0, .5fr) minmax(0, 1.2fr) 3.7rem 4.4rem; }
+  grid-template-columns: 24px minmax(8rem, 1.1fr) minmax(8rem, 22rem) minmax(0, .5fr) minmax(0, 1.2fr) 3.7rem 4.4rem; }
 .head > * { min-width: 0; white-space: nowrap; }
 .head h3, .head .count { overflow: hidden; text-overflow: ellipsis; }
 .held { display: flex; gap: .3rem; align-items: center; justify-content: flex-end; }
@@ -72,18 +73,49 @@ aside { display: grid; grid-template-columns: minmax(0, 1fr); gap: .7rem; align-
 .held > .tag { min-width: 0; overflow: hidden; text-overflow: ellipsis; }
 .head .count { font-size: .82em; }
 .grow { flex: 1; min-width: 0; }
-.member { display: grid;
-  grid-template-columns: 14px 24px minmax(7rem, 1.2fr) minmax(5rem, 1fr) minmax(6rem, 1.2fr) 6.6rem 4.4rem;
-  gap: 0 .5rem; align-items: center; border-top: 1px solid var(--line); padding: 0 .5rem; height: 25px;
-  white-space: nowrap; cursor: grab; contain: layout paint; }
+.member, .columns { display: grid; gap: 0 .4rem; align-items: center; padding: 0 .5rem; white-space: nowrap;
+  grid-template-columns: 14px 24px minmax(7rem, 1.3fr) 4.4rem repeat(4, 3.3rem) minmax(4rem, 1fr) 6.2rem 4.4rem; }
+.columns { position: sticky; top: 6.8rem; z-index: 2; height: 2rem; background: var(--page); color: var(--soft);
+  font-size: .75rem; line-height: .9rem; margin: 0 1px; padding: 0 .5rem .2rem; align-items: start; }
+.columns > * { overflow: hidden; text-overflow: ellipsis; min-width: 0; }
+.columns small { display: block; font-size: 1em; }
+.columns i { font-style: normal; }
+.member { border-top: 1px solid var(--line); height: 25px; cursor: grab; contain: layout paint; position: relative; }
 .member > * { overflow: hidden; text-overflow: ellipsis; min-width: 0; }
+.named { display: flex; align-items: center; gap: .3rem; }
+.named > .who { min-width: 0; overflow: hidden; text-overflow: ellipsis; }
+.member .sees { padding-left: .5rem; }
+.columns .sees { padding-left: .5rem; }
+.named > .tag { flex: none; }
+.figure { text-align: right; font-variant-numeric: tabular-nums; font-size: .88em; color: var(--soft); }
+.columns .figure { font-size: 1em; }
+.figure.bad, .figure.warn, .bad, .good { font-weight: 600; }
+.bad { color: var(--bad); }
+.good { color: var(--good); }
+.level { height: 24px; color: var(--soft); background: linear-gradient(var(--good), var(--good)) no-repeat 0 9px,
+  linear-gradient(var(--line), var(--line)) no-repeat 0 11px / 100% 2px; background-size: 0 6px, 100% 2px; }
+.quiet > .level { background-image: linear-gradient(var(--soft), var(--soft)),
+  linear-gradient(var(--line), var(--line)); }
+.level:not([data-step]) { background: none; }
+.level[data-step="1"] { background-size: 10% 6px, 100% 2px; }
+.level[data-step="2"] { background-size: 20% 6px, 100% 2px; }
+.level[data-step="3"] { background-size: 30% 6px, 100% 2px; }
+.level[data-step="4"] { background-size: 40% 6px, 100% 2px; }
+.level[data-step="5"] { background-size: 50% 6px, 100% 2px; }
+.level[data-step="6"] { background-size: 60% 6px, 100% 2px; }
+.level[data-step="7"] { background-size: 70% 6px, 100% 2px; }
+.level[data-step="8"] { background-size: 80% 6px, 100% 2px; }
+.level[data-step="9"] { background-size: 90% 6px, 100% 2px; }
+.level[data-step="10"] { background-size: 100% 6px, 100% 2px; }
+.spoken { position: absolute; width: 1px; height: 1px; overflow: hidden; clip-path: inset(50%); white-space: nowrap; }
+.quiet .who bdi { color: var(--soft); font-weight: 400; }
 .member.open { background: var(--drop); }
 .member.odd, .head.odd, .member.trouble { background: var(--odd); }
 .member.fresh { box-shadow: inset 3px 0 var(--accent); }
 .left { opacity: .75; }
 .left .who, .head.left h3, .left > .what, li.left { text-decoration: line-through; }
 .left[class] [aria-disabled] { cursor: default; }
-.state { color: var(--warn); text-align: center; font-size: .85em; }
+.state { text-align: center; font-size: .85em; }
 .warn { color: var(--warn); }
 .count b { font-weight: 600; }
 .member > .small { width: 4.4rem; }
@@ -118,6 +150,12 @@ button.fold { width: 24px; padding: 0; border: 0; background: none; }
 #detail .address { overflow-wrap: anywhere; margin: .2rem 0 .4rem; }
 #detail .row { display: grid; grid-template-columns: minmax(0, 1fr); gap: .1rem .4rem; align-items: center;
   padding: .2rem 0; }
+#detail .figures { display: grid; grid-auto-flow: column; grid-template-rows: auto auto; gap: 0 .4rem;
+  grid-template-columns: 1.5fr repeat(4, minmax(0, 1fr)); margin: .2rem 0 .4rem; font-size: .88em; }
+#detail .told { margin: 0; }
+#detail .told, .slot .counted, #detail > .counted { white-space: nowrap; overflow: hidden; text-overflow: ellipsis; }
+.figures dt { color: var(--soft); font-size: .92em; }
+.figures dd { margin: 0; font-variant-numeric: tabular-nums; white-space: nowrap; }
 #detail .row.slider { grid-template-columns: minmax(0, 1fr) 8rem auto; }
 #detail > .soft { margin-right: .5rem; }
 #detail .row > .what { justify-self: start; max-width: 100%; overflow: hidden; text-overflow: ellipsis;
@@ -157,10 +195,29 @@ dialog { border: 1px solid var(--line); border-radius: .5rem; background: var(--
   max-width: 30rem; }
 dialog input { width: 100%; }
 dialog p, dialog h2 { overflow-wrap: anywhere; }
-@media (max-width: 72rem) {
-  .member { grid-template-columns: 14px 24px minmax(7rem, 1.2fr) minmax(6rem, 1.2fr) 6.6rem 4.4rem; }
-  .member .sends { display: none; }
-  .head { grid-template-columns: 24px minmax(6rem, 1.2fr) 12rem minmax(0, .7fr) minmax(0, 1.3fr) 3.7rem 4.4rem; }
+/* Up to 60rem the list has the whole width, and above that less. */
+@media (max-width: 64rem), (min-width: 60.01rem) and (max-width: 88rem) {
+  .head { grid-template-columns: 24px minmax(6rem, 1.1fr) 15rem minmax(0, .5fr) minmax(0, 1.3fr) 3.7rem 4.4rem; }
+}
+@media (max-width: 54rem), (min-width: 60.01rem) and (max-width: 78rem) {
+  .member, .columns {
+    grid-template-columns: 14px 24px minmax(7rem, 1.3fr) 4.4rem repeat(4, 3.3rem) minmax(4rem, 1fr) 4.4rem; }
+  .member .sends, .columns .sends, .head .held { display: none; }
+  .head { grid-template-columns: 24px minmax(6rem, 1fr) minmax(0, 1.3fr) 3.7rem 4.4rem; }
+}
+@media (max-width: 42rem), (min-width: 60.01rem) and (max-width: 66rem) {
+  .member, .columns { grid-template-columns: 14px 24px minmax(0, 1fr) 4.4rem repeat(4, 3.3rem) 4.4rem; }
+  .member .sees, .columns .sees { display: none; }
+}
+@media (max-width: 34rem) {
+  .member, .columns { grid-template-columns: 14px 24px minmax(0, 1fr) 3.5rem 2.5rem 4.4rem; }
+  .columns { font-size: .7rem; }
+  .columns .out, .columns .jitter, .columns .trip, .columns i, .member > .jitter, .member > .trip, .member > .out,
+  .member.loses-out > .in, .who bdi + .soft { display: none; }
+  .member.loses-out > .out { display: block; }
+  .named > .tag { padding: 0 .25rem; font-size: .72em; }
+  .head { grid-template-columns: 24px minmax(0, 1fr) 3.7rem 4.4rem; grid-template-rows: 26px 20px; height: 50px; }
+  .head .count { grid-row: 2; grid-column: 2 / -1; }
 }
 @media (max-width: 60rem) {
   header { grid-template-columns: auto minmax(0, 1fr) auto; grid-template-rows: 2rem 2rem 1.6rem; height: 7rem; }
@@ -169,6 +226,8 @@ dialog p, dialog h2 { overflow-wrap: anywhere; }
   .history-buttons button { width: 10rem; }
   #redo { width: 7rem; }
   #bar { top: 7rem; }
+  .columns { top: 9.1rem; }
+  #sum > span { display: none; }
   main { grid-template-columns: minmax(0, 1fr); }
   aside { position: static; max-height: none; overflow: visible; }
   #detail { position: fixed; left: 0; right: 0; bottom: 2.6rem; max-height: 60vh; overflow: auto; z-index: 4;
@@ -176,8 +235,8 @@ dialog p, dialog h2 { overflow-wrap: anywhere; }
 }
 @media (max-width: 40rem) {
   main { padding: .2rem .4rem 4.4rem; }
-  header { padding: .3rem .4rem; grid-template-columns: auto minmax(0, 1fr); height: 8.9rem;
-    grid-template-rows: 1.6rem 2rem 2rem 1.7rem; }
+  header { padding: .3rem .4rem; grid-template-columns: auto minmax(0, 1fr); height: 9.3rem;
+    grid-template-rows: 1.6rem 2rem 2rem 2.1rem; }
   .history-buttons { grid-row: 3; grid-column: 1 / -1; }
   .history-buttons button { width: auto; flex: 1.4 1 0; }
   #redo { flex: 1 1 0; }
@@ -187,14 +246,10 @@ dialog p, dialog h2 { overflow-wrap: anywhere; }
   #search { width: 100%; }
   #fold { width: 5.4rem; }
   #sum { gap: .3rem; }
-  #sum > span { display: none; }
-  .number { min-width: 0; flex: 1 1 auto; padding: 0 .2rem; }
-  #bar { top: 8.9rem; }
-  .member { grid-template-columns: 14px 24px minmax(0, 1fr) auto 4.4rem; }
-  .member .sends, .member .sees { display: none; }
-  .head { grid-template-columns: 24px minmax(0, 1fr) 3.7rem 4.4rem; grid-template-rows: 26px 20px; height: 50px; }
-  .head .count { grid-row: 2; grid-column: 2 / -1; }
-  .head .held { display: none; }
+  .number { min-width: 0; flex: 1 1 auto; padding: 0 .1rem; height: 2rem; display: grid; line-height: 1rem; }
+  .number span { font-size: .8em; }
+  #bar { top: 9.3rem; }
+  .columns { top: 11.4rem; }
   footer { height: 3.6rem; grid-template-columns: minmax(0, 1fr) auto; padding: 0 .4rem; }
   footer p { max-height: 3.4rem; }
   footer .buttons { flex-direction: column; gap: 1px; }

@@ -1,18 +1,22 @@
 
 // What the bridge counts: asking for it, and the senders that are no source.
+// How long after a count the next one is asked for, in milliseconds. An answer for many sources is long.
+const OFTEN = 1000, SELDOM = 2000, MANY_SOURCES = 256;
+const countedEvery = () => (stats && stats.sources.size > MANY_SOURCES ? SELDOM : OFTEN);
 // Asks what the bridge counts, while somebody can see the page. Where the bridge doesn't know the question, the status
 // is no success, and nothing is shown of it.
 async function count() {
-  if (document.visibilityState !== "visible" || performance.now() - counted < COUNTED_EVERY) return;
+  if (counting || document.visibilityState !== "visible" || performance.now() - counted < countedEvery()) return;
+  counting = true;
   counted = performance.now();
-  let next = null;
   try {
     const reply = await ask("/stats");
-    if (reply.ok) next = parseStats(await reply.text(), stats);
+    takeStats(reply.ok ? parseStats(await reply.text(), stats, performance.now()) : null);
   } catch (error) {
+    // What was counted last stays where no answer came.
     if (error instanceof SyntaxError) console.error(error);
   }
-  takeStats(next);
+  counting = false;
 }
 function takeStats(next) {
   const before = stats;
@@ -22,6 +26,7 @@ function takeStats(next) {
   const turned = before || next ? turnedRooms(desk, before, next) : new Set();
   // Rooms with trouble rise, and who ceases to fit a filter goes, even where nothing has turned since the count before.
   render(filter ? null : turned, false);
+  drawFigures();
 }
 
 // The senders that are no source, where the bridge tells of any.

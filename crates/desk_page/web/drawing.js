@@ -36,19 +36,33 @@ function renderSelected() {
     does("Unmute", "unmute-chosen", "", what), does("Clear", "clear", "", "the selection")]);
 }
 
+// What is counted of a member, for its panel.
+function countedDetail(member) {
+  const figures = figuresOf(desk, stats, member), { level, isSpeaking } = figures;
+  const heard = level === null ? ["\u2013", "", ""] : [levelInWords(level), "", spanInWords(stats.span)];
+  const speech = isSpeaking ? `speaks${isMuted(desk, member.member) ? " while muted" : ""}` : "";
+  const cells = cellsOf(figures).map(([, text, kind], at) => [["Loss in", "Jitter", "Loss out", "Trip"][at],
+    text === "\u2013" ? text : `${text} ${["%", "ms"][at % 2]}`, kind.trim()]);
+  return { told: [STATES[troubleOf(desk, stats, member)][2], speech].filter(Boolean).join("; ") || "nothing stands out",
+    figures: [["Level", ...heard], ...cells],
+    mixed: stats && streamInWords(stats.streams.get(member.mix)) };
+}
+
 // What the panel of a member says.
 function detailOf(member) {
   const { sends: sources, floor } = memberLine(desk, names, member), room = member.room;
   const label = (ssrc) => labelled(sourceName(names, desk, ssrc), ssrc), hears = heard(desk, member);
   const isShown = (s) => s.gain !== 256 || widened.has(`${member.member} ${s.ssrc}`);
+  const counted = countedDetail(member);
   return { member: member.member, name: nameOf(names, "member", member.member), room, floor, address: member.address,
     codec: member.codec, mix: member.mix, roomLabel: `room ${labelled(nameOf(names, "room", room), room)}`,
+    ...counted,
     sources: sources.map((s) => ({ ...withCount(s), isPinned: desk.pins.get(room) === s.ssrc,
       count: countInWords(countOf(stats, desk, s.ssrc)) })),
     slots: slotsOf(desk, member.member).map((slot) => {
       const { source, by: rule, why } = seen(desk, slot);
       return { slot: slot.ssrc, index: slot.index, source, by: rule, why, isSubscribed: desk.subs.has(slot.ssrc),
-        label: source === null ? "" : label(source) };
+        label: source === null ? "" : label(source), count: stats && streamInWords(stats.streams.get(slot.ssrc)) };
     }),
     gains: hears.filter(isShown).map((s) => ({ ...s, label: label(s.ssrc) })),
     hears: hears.some((s) => !isShown(s)), others: membersIn(desk, room).length > 1 };

@@ -210,7 +210,7 @@ at("send-group").addEventListener("click", () => {
   dropGroup();
   call(line);
 });
-setInterval(judge, COUNTED_EVERY / 4);
-setInterval(count, COUNTED_EVERY / 4);
+setInterval(judge, JUDGED_EVERY);
+setInterval(count, EVERY);
 document.addEventListener("visibilitychange", count);
 show();

@@ -139,8 +139,7 @@ if (typeof module !== "undefined") {
     memberLine, roomLine, overview, parseNames, renamed, labelled, sourceName, cut, grouped, toggled, othersMuted,
     movedAll, goesAlong, changedRooms, nameRefusal, parseDesk, isMusic, roomsFor, codecOf, seen, videosFor, heard,
     lines, dropped, free, suggested, inWords, replyInWords, parseHistory, worded, callWords, begun, wayTo, wayWords,
-    callInTheWay,
-    changes, keptText, groupsIn, parseStats, agoInWords, isSilent, isLossy, countOf, countInWords, turnedRooms,
-    strangersIn, objectsOfRow, objectsOfLine, othersObjects, placeChanges, inOldPlaces, troubleOf, tallyOf, isCounted,
-    linkOf, linkInWords };
+    callInTheWay, changes, keptText, groupsIn, parseStats, agoInWords, isSilent, isLossy, countOf, countInWords,
+    streamInWords, turnedRooms, strangersIn, figuresOf, levelOf, speechAfter, levelInWords, spanInWords, objectsOfRow,
+    objectsOfLine, othersObjects, placeChanges, inOldPlaces, troubleOf, tallyOf, isCounted, linkOf, linkInWords };
 }

@@ -28,8 +28,9 @@ function memberLine(desk, names, member) {
     ({ ssrc: s.ssrc, kind: s.kind, muted: desk.mutes.has(s.ssrc), name: nameOf(names, "source", s.ssrc) }));
   const sees = slotsOf(desk, member.member).map((slot) => {
     const { source, by: rule, why } = seen(desk, slot);
+    const name = source === null ? "" : sourceName(names, desk, source);
     return source === null ? { slot: slot.ssrc, source, why } :
-      { slot: slot.ssrc, source, by: rule, label: labelled(sourceName(names, desk, source), source) };
+      { slot: slot.ssrc, source, by: rule, name, label: labelled(name, source) };
   });
   const audio = sends.filter((s) => s.kind === "audio"), floor = desk.floors.get(member.room) === member.member;
   const muted = audio.length > 0 && audio.every((s) => s.muted);
@@ -63,7 +64,7 @@ function memberFits(desk, names, member, words) {
 }
 
 // The rooms with the members that are shown: all of a room that fits itself, and otherwise those that fit. Where only
-// some are counted, rooms without one are left out. `placeOf` is a room's place among those with trouble.
+// some are counted, rooms without one are left out. `placeOf` is a room's place by trouble or by who speaks.
 function overview(desk, names, search, sort, isShown = null, placeOf = () => 0) {
   const words = wordsOf(search);
   const roomFits = (room) => words.length === 0 || fits(words, [`room ${room}`, nameOf(names, "room", room)]);
@@ -74,8 +75,8 @@ function overview(desk, names, search, sort, isShown = null, placeOf = () => 0) 
   }).filter(({ room, members }) => members.length > 0 || (!isShown && roomFits(room)));
   const text = ({ room }) => nameOf(names, "room", room).toLowerCase() || "\uffff";
   const order = { number: (a, b) => a.room - b.room, members: (a, b) => b.members.length - a.members.length,
-    name: (a, b) => text(a).localeCompare(text(b)), trouble: (a, b) => placeOf(a.room) - placeOf(b.room) };
-  return found.sort((a, b) => order[sort](a, b) || a.room - b.room);
+    name: (a, b) => text(a).localeCompare(text(b)) }, placed = (a, b) => placeOf(a.room) - placeOf(b.room);
+  return found.sort((a, b) => (order[sort] ?? placed)(a, b) || a.room - b.room);
 }
 
 // Groups. One of one command is that command, and none is nothing.

@@ -1,15 +1,15 @@
 // What the page knows, and what goes out.
-const EVERY = 250, COUNTED_EVERY = 2000, TRIES = 3, PATIENCE = 8000, REST = 400, SLOW = 1000;
+const EVERY = 250, JUDGED_EVERY = 500, TRIES = 3, PATIENCE = 8000, REST = 400, SLOW = 1000;
 const FEW_ROOMS = 8, FEW_MEMBERS = 4, ROW_HEIGHT = 25, HEAD_HEIGHT = 34, FADES = 5000, MARKED = 3000;
 const folded = new Map(), picked = new Set(), here = new Map();
 const widened = new Set(), resting = new Map(), suggestions = new Map();
 let desk = null, shownText = null, drag = null, group = [], timer = null, asking = false, opened = null, past = null;
-let names = {}, namesVersion = -1, walked = null, stats = null, counted = -COUNTED_EVERY;
+let names = {}, namesVersion = -1, walked = null, stats = null, counted = -Infinity;
 // The link: when news last came, what the program says of its bridge, and what the page makes of both.
 let lastNews = performance.now(), since = null, told = "", link = "connecting";
 // The versions that calls of this page made, when others have last changed an object, and which control is pressed.
 const mine = new Set(), touchedAt = new Map(), freshAt = new Map();
-let pressed = null, fading = null, newsFading = null;
+let pressed = null, fading = null, newsFading = null, counting = false;
 let token = document.querySelector('meta[name="desk-token"]').content;
 
 // What became of the last press. A success fades, a refusal stays until it is closed. Where a call of the history is

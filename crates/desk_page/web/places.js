@@ -3,8 +3,8 @@
 // Places. Nothing comes, goes or moves in the list or beside it while the pointer is there, a button is held, or a menu
 // is open, and until 600 ms after a touch. What a row says changes at once.
 const over = { board: false, aside: false }, TOUCH = 600;
-let down = null, heldBack = 0, heldAside = false, drawnPlan = [], movedAt = -Infinity, drawnPanel = null;
-let filter = "", order = new Map(), orderedAt = -Infinity;
+let down = null, heldBack = 0, heldAside = false, drawnPlan = [], movedAt = -Infinity, drawnPanel = null, drawnSum = "";
+let filter = "", order = new Map(), orderedAt = -Infinity, spoke = new Set();
 const lastFit = new Map();
 const isMenuOpen = () => CSS.supports("selector(:open)") && document.querySelector("select:open") !== null;
 function isHeld(part) { return over[part] || down === part || drag !== null || isMenuOpen(); }
@@ -61,22 +61,29 @@ function isShown(member) {
   if (isCounted(desk, stats, filter, member)) lastFit.set(member.member, now);
   return now - (lastFit.get(member.member) ?? -Infinity) < SETTLED;
 }
-// The rooms by trouble. Their order is made anew every few seconds at most.
+// The rooms by trouble, or by who speaks. Their order is made anew every few seconds at most.
 function sortRooms(isAsked) {
   if (!isAsked && order.size > 0 && (performance.now() - orderedAt < SETTLED || isHeld("board"))) return;
-  const weight = (room) => infoOf(room).tally.weight;
+  const key = at("sort").value === "speaking" ? "speaking" : "weight", weight = (room) => infoOf(room).tally[key];
   const rooms = [...desk.rooms].sort((a, b) => weight(b) - weight(a) || a - b);
   order = new Map(rooms.map((room, place) => [room, place]));
+  spoke = new Set(key === "weight" ? [] : desk.members.filter((one) => isCounted(desk, stats, key, one))
+    .map(({ member }) => member));
   orderedAt = performance.now();
 }
 const placeOf = (room) => order.get(room) ?? Number.MAX_SAFE_INTEGER;
+// Where rooms are by who speaks, their members are.
+const bySpeech = (members) => (spoke.size === 0 ? members :
+  [...members.filter((one) => spoke.has(one)), ...members.filter((one) => !spoke.has(one))]);
 
-// What should be drawn: each room, and of a folded one those in trouble.
+// What should be drawn: each room, and of a folded one those in trouble, and who speaks where the order is by that.
 function planOf(isNarrowed) {
   const found = overview(desk, names, at("search").value, at("sort").value, filter ? isShown : null, placeOf);
   return found.map(({ room, members }) => {
-    const isClosed = !isNarrowed && isFolded(room);
-    return { room, isClosed, members: isClosed ? infoOf(room).troubled : members.map(({ member }) => member) };
+    const isClosed = !isNarrowed && isFolded(room), { troubled } = infoOf(room);
+    const isBrief = isClosed && spoke.size === 0, all = isBrief ? troubled : members.map(({ member }) => member);
+    const shown = isClosed && !isBrief ? all.filter((one) => spoke.has(one) || troubled.includes(one)) : all;
+    return { room, isClosed, members: bySpeech(shown) };
   });
 }
 
@@ -116,26 +123,32 @@ function memberItem(room, number, members, known) {
   // One that has gone is drawn here as long as places are held.
   if (member?.room !== room) {
     const left = member ? `is now in room ${labelled(nameOf(names, "room", member.room), member.room)}` : "has left";
-    return { key: number, room, model: { ...known, left, isHere, isChosen: false, isFresh: false } };
+    const model = { ...known, left, isHere, isChosen: false, isFresh: false, trouble: "" };
+    return { key: number, room, figures: UNKNOWN, model };
   }
   const line = memberLine(desk, names, member), isFresh = performance.now() - freshAt.get(number) < MARKED;
-  return { key: number, room, model: { ...line, sends: line.sends.map(withCount),
-    trouble: troubleOf(desk, stats, member), isOpen: opened === number, isChosen: picked.has(number), isHere,
-    isFresh } };
+  const model = { ...line, sends: line.sends.map(withCount), trouble: troubleOf(desk, stats, member),
+    isOpen: opened === number, isChosen: picked.has(number), isHere, isFresh };
+  return { key: number, room, figures: figuresOf(desk, stats, member), model };
 }
 
-// The numbers of the whole bridge. Those of members are filters.
+// The numbers of the whole bridge. Those of members are filters, and the one of all members takes a filter away.
 function renderSum() {
-  const sum = (key) => desk.rooms.reduce((all, room) => all + infoOf(room).tally[key], 0);
-  const unknown = strangersIn(stats, desk).length;
-  const many = (count, what) => `${count.toLocaleString("en")} ${what}${count === 1 ? "" : "s"}`;
-  const number = (key, count = sum(key)) => el("button", { type: "button", class: `small number${count ? " some" : ""}`,
-    "data-key": `filter ${key}`, "data-act": "filter", "data-of": key, "aria-pressed": String(filter === key) },
-    `${count} ${key}`);
+  const keys = ["speaking", "silent", "losing", "muted"];
+  const sums = keys.map((key) => desk.rooms.reduce((all, room) => all + infoOf(room).tally[key], 0));
+  const unknown = strangersIn(stats, desk).length, rooms = desk.rooms.length, people = desk.members.length;
+  const look = [rooms, people, ...sums, unknown, filter].join();
+  if (look === drawnSum) return;
+  drawnSum = look;
+  const one = (count, what) => (count === 1 ? what.slice(0, -1) : what);
+  const number = (count, what, more) => el("button", { type: "button", class: `number${count ? " some" : ""}`,
+    ...more }, el("b", {}, count.toLocaleString("en")), " ", el("span", {}, what));
+  const counts = (key, count, what = key) => number(count, what, { "data-key": `filter ${what}`, "data-act": "filter",
+    "data-of": key, "aria-pressed": String(filter === key) });
   morphChildren(at("sum"), [
-    el("span", { "data-key": "rooms" }, many(desk.rooms.length, "room")),
-    el("span", { "data-key": "people" }, many(desk.members.length, "member")),
-    number("silent"), number("losing"), number("muted"),
-    el("button", { type: "button", class: `small number${unknown ? " some" : ""}`, "data-key": "unknown",
-      "data-act": "unknown", "data-of": "", disabled: unknown === 0 }, `${unknown} unknown`)]);
+    el("span", { "data-key": "rooms" }, `${rooms.toLocaleString("en")} ${one(rooms, "rooms")}`),
+    counts("", people, one(people, "members")),
+    ...keys.map((key, at) => counts(key, sums[at])),
+    number(unknown, "unknown", { "data-key": "unknown", "data-act": "unknown", "data-of": "",
+      disabled: unknown === 0 })]);
 }

@@ -60,31 +60,35 @@ function inOldPlaces(before, now, key) {
   return before.map((one) => found.get(one[key]) ?? { ...one, hasLeft: true });
 }
 
-// What troubles a member: nothing comes of a source, many packets are lost, or it has the floor and is muted.
+// What troubles a member: nothing comes of a source, many packets are lost on their way to the bridge or from it, or it
+// has the floor and is muted.
 function troubleOf(desk, stats, member) {
-  const sources = sourcesOf(desk, member.member);
-  if (sources.some((s) => isSilent(stats, desk, s.ssrc))) return "silent";
-  if (sources.some((s) => isLossy(stats, desk, s.ssrc))) return "losing";
+  const figures = figuresOf(desk, stats, member);
+  if (figures.isSilent) return "silent";
+  if (figures.isLosingIn) return "losing in";
+  if (figures.isLosingOut) return "losing out";
   const isOdd = desk.floors.get(member.room) === member.member && isMuted(desk, member.member);
   return isOdd ? "muted floor" : "";
 }
-const WEIGHTS = { "": 0, "muted floor": 1, losing: 2, silent: 2 };
+const WEIGHTS = { "": 0, "muted floor": 1, "losing in": 2, "losing out": 2, silent: 2 };
 function isMuted(desk, member) {
   const voices = sourcesOf(desk, member, "audio");
   return voices.length > 0 && voices.every((s) => desk.mutes.has(s.ssrc));
 }
-// Whether a member is one of those that a number counts.
+// Whether a member is one of those that a number counts. One may be silent with its picture and lose sound.
+const COUNTED = { speaking: (one) => one.isSpeaking, silent: (one) => one.isSilent,
+  losing: (one) => one.isLosingIn || one.isLosingOut };
 function isCounted(desk, stats, filter, member) {
-  return filter === "muted" ? isMuted(desk, member.member) : troubleOf(desk, stats, member) === filter;
+  return filter === "muted" ? isMuted(desk, member.member) : COUNTED[filter](figuresOf(desk, stats, member));
 }
 // What is counted of members: those of a room, or of the whole bridge.
 function tallyOf(desk, stats, members) {
-  const tally = { members: members.length, silent: 0, losing: 0, muted: 0, weight: 0 };
+  const tally = { members: members.length, speaking: 0, silent: 0, losing: 0, muted: 0, weight: 0 };
   for (const member of members) {
-    const trouble = troubleOf(desk, stats, member);
-    if (trouble in tally) tally[trouble] += 1;
-    if (isMuted(desk, member.member)) tally.muted += 1;
-    tally.weight += WEIGHTS[trouble];
+    for (const key of ["speaking", "silent", "losing", "muted"]) {
+      if (isCounted(desk, stats, key, member)) tally[key] += 1;
+    }
+    tally.weight += WEIGHTS[troubleOf(desk, stats, member)];
   }
   return tally;
 }

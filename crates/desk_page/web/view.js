@@ -57,7 +57,8 @@ function morph(node, next) {
     if (!isBusy(node) && node.type === "range") node.value = next.value;
     if (node.type === "checkbox") node.checked = next.checked;
   }
-  if (node.tagName !== "SELECT" || !isBusy(node)) morphChildren(node, [...next.childNodes]);
+  // What a list has drawn into a node is the list's.
+  if (!node.drawn && (node.tagName !== "SELECT" || !isBusy(node))) morphChildren(node, [...next.childNodes]);
 }
 const keyOf = (node) => node.dataset?.key ?? node.id ?? "";
 const isLike = (node, next) => node.nodeName === next.nodeName && keyOf(node) === keyOf(next);
@@ -95,10 +96,10 @@ function drawList(node, items, draw) {
   for (const item of items) {
     let entry = known.get(item.key);
     const look = item.isKept && entry ? entry.look : JSON.stringify(item.model);
-    if (!entry) entry = { node: draw(item), look };
+    if (!entry) entry = { node: draw(item), look, figures: item.figures };
     else if (entry.look !== look) {
       morph(entry.node, draw(item));
-      entry.look = look;
+      Object.assign(entry, { look, figures: item.figures });
     }
     if (item.model) entry.model = item.model;
     if (entry.node === place) place = place.nextElementSibling;
@@ -115,51 +116,13 @@ function titled(name, kind, number) {
 }
 const spoken = (name, kind, number) => (name ? `${name} ${kind} ${number}` : `${kind} ${number}`);
 
-// What stands out of how a source's packets come: a class, and words.
-function fate({ isSilent: silent, isLossy: lossy }) {
-  if (silent) return { mark: " silent", words: "no packet comes" };
-  return lossy ? { mark: " lossy", words: "over 2 percent of the packets are lost" } : { mark: "", words: null };
-}
-// A member's state: a sign, a class and words.
-const STATES = { silent: ["\u2716", "silent", "silent: no packet comes"],
-  losing: ["\u26a0", "losing", "losing over 2 percent of its packets"],
-  "muted floor": ["\u25cf", "floor-muted", "has the floor and is muted"] };
-
-// A member's line of the overview. One that has left stays in its place as long as places are held.
-function memberRow({ model, room }) {
-  const { member, name, floor, muted, odd, hasAudio, isOpen, isChosen, isHere, trouble, left, isFresh } = model;
-  const who = spoken(name, "member", member), [sign, state, words] = STATES[trouble] ?? ["", "", ""];
-  const short = name ? [bdi(name), soft(` ${member}`)] : [`member ${member}`];
-  const sent = model.sends.flatMap((s, place) => [place ? ", " : null,
-    el("span", { class: `source${s.muted ? " muted" : ""}${fate(s).mark}`,
-      title: fate(s).words, draggable: s.kind === "video" && !left ? "true" : null,
-      "data-source": s.ssrc }, `${s.kind} ${labelled(s.name, s.ssrc)}`)]);
-  const seenWords = model.sees.map((s) => (s.source === null ? "nothing" : s.label)).join(", ");
-  const off = left ? { "aria-disabled": "true" } : {};
-  const looks = [odd && " odd", trouble && " trouble", isOpen && " open", left && " left", isFresh && " fresh"];
-  return el("div", { class: `member${looks.filter(Boolean).join("")}`, role: "listitem",
-    draggable: left ? null : "true", "data-member": member, "data-room-of": room, "data-key": `member ${member}` },
-    el("span", { class: `state ${state}`, title: words || null, "aria-hidden": "true" }, sign),
-    el("label", { class: "pick" }, el("input", { type: "checkbox", tabindex: -1, "data-select": member, ...off,
-      checked: isChosen, "aria-label": `Select ${who}` })),
-    el("button", { type: "button", class: "who", tabindex: isHere ? 0 : -1, "data-act": "open", "data-of": member,
-      "data-key": `open ${member}`, "aria-expanded": String(isOpen), ...off,
-      "aria-label": `Open ${name ? `${name} ${member}` : who}${words && `, ${words}`}${left ? `, ${left}` : ""}` },
-      ...short),
-    el("span", { class: "sends soft" }, ...(sent.length ? sent : ["sends nothing"])),
-    el("span", { class: "sees soft" }, left || (model.sees.length ? `sees ${seenWords}` : "")),
-    el("span", { class: "says" }, floor ? el("span", { class: `tag${odd ? " bad" : ""}` },
-      odd ? "floor, muted" : "floor") : "", muted && !floor ? el("span", { class: "tag bad" }, "muted") : ""),
-    hasAudio ? does(muted ? "Unmute" : "Mute", "toggle", member, who,
-      { tabindex: -1, "aria-keyshortcuts": "m", ...off }) : el("span", {}));
-}
-
 // A room of the overview: its head, and a list for its members. All of the head has its place, whatever is said there.
 function roomHead(model) {
   const { room, name, isFolded, floor, pin, left, tally } = model, what = spoken(name, "room", room);
   const off = left ? { "aria-disabled": "true" } : {};
   const many = `${model.members} member${model.members === 1 ? "" : "s"}`;
-  const counts = [["silent", "warn"], ["losing", "warn"], ["muted", ""]].flatMap(([key, kind]) => (tally[key] ?
+  const kinds = [["silent", "warn"], ["losing", "bad"], ["speaking", "good"], ["muted", ""]];
+  const counts = kinds.flatMap(([key, kind]) => (tally[key] ?
     [", ", el("b", { class: kind }, `${tally[key]} ${key}`)] : []));
   return el("div", { class: `head${model.odd ? " odd" : ""}${left ? " left" : ""}` },
     el("button", { type: "button", class: "fold", "data-act": "fold", "data-of": room, "data-key": `fold ${room}`,
@@ -212,7 +175,7 @@ function sourceRow(room, source) {
       sends("Remove", lines.removeSource(ssrc), what, "danger")),
     count ? el("span", { class: "soft counted" }, count) : "");
 }
-function slotRow({ slot, index, source, label, by: rule, why, isSubscribed, hasLeft }) {
+function slotRow({ slot, index, source, label, by: rule, why, isSubscribed, hasLeft, count }) {
   const word = { sub: "subscribed", pin: "by the pin", floor: "by the floor" }[rule];
   return el("div", { class: `row slot${hasLeft ? " left" : ""}`, "data-slot": slot, "data-key": `slot row ${slot}` },
     el("span", { class: "what" }, `slot ${index} `, soft(`(${slot}): `),
@@ -220,7 +183,8 @@ function slotRow({ slot, index, source, label, by: rule, why, isSubscribed, hasL
     el("span", { class: "acts" },
       isSubscribed ? sends("Unsubscribe", lines.unsubscribe(slot), `slot ${slot}`) : "",
       chooses("Subscribe", `slot ${slot}`, `subscribe ${slot}`),
-      sends("Remove", lines.removeSlot(slot), `slot ${slot}`, "danger")));
+      sends("Remove", lines.removeSlot(slot), `slot ${slot}`, "danger")),
+    count ? el("span", { class: "soft counted" }, count) : "");
 }
 function detailPanel(model) {
   const { member, name, room, roomLabel, left } = model, who = spoken(name, "member", member);
@@ -231,6 +195,9 @@ function detailPanel(model) {
       does("Name", "name", `member ${member}`, who), does("Close", "close", member, who)),
     el("div", { class: "soft address" }, "in ", bdi(roomLabel), `, ${model.address} ${model.codec}, mix ${model.mix}`,
       left ? `, ${left}` : ""),
+    el("p", { class: "soft told", title: model.told }, model.told),
+    el("dl", { class: "figures" }, ...model.figures.flatMap(([what, text, kind, title]) =>
+      [el("dt", {}, what), el("dd", { class: kind || null, title: title || null }, text)])),
     el("div", { class: "acts" },
       model.floor ? sends("Take floor", lines.takeFloor(room), `from ${who}`, "", `floor-of ${member}`) :
         sends("Give floor", lines.giveFloor(room, member), `to ${who}`, "", `floor-of ${member}`),
@@ -240,6 +207,7 @@ function detailPanel(model) {
     ...part("Sends", model.sources.map((s) => sourceRow(room, s)), "nothing"),
     ...part("Sees", model.slots.map(slotRow), "it has no slot"),
     ...part("Hears", model.gains.map((g) => gainRow(member, who, g)), "all at their own level"),
+    model.mixed ? el("div", { class: "soft counted" }, `its mix: ${model.mixed}`) : "",
     model.hears ? chooses("Set gain of", `for ${who}`, `gain-of ${member}`) : "");
 }
 

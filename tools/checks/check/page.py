@@ -32,9 +32,11 @@ from checks.counting import shows_counts
 from checks.driving import drive, opened
 from checks.handling import handle, names_things, stays_small
 from checks.lasting import finds_another, keeps_the_desk, shows_stale
-from checks.make.page import WEB
+from checks.make.page import LINES, WEB
+from checks.page_plants import PLANTS
 from checks.showing import take_pictures
 from checks.staying import stays
+from checks.watching import watches
 from operators.models.desk import Log
 from operators.serving import Operator, free_port, settings
 from operators.shared import CRATES, add_program_or_build, fail, found_program, try_command
@@ -479,17 +481,31 @@ def find_commands(browser):
             )
 
 
-def try_functions():
-    """The functions of the page that choose a click's line, by themselves."""
-    parts = "lines.js", "overview.js", "kept.js", "stats.js", "rules.js", "history.js"
-    script = "".join((WEB / part).read_text() for part in parts)
+TRIES = "page_lines.js", "page_figures.js"
+
+
+def tried_by_node(files, tests):
+    """What node says of tries of the page's functions, by the texts of their web files."""
     with tempfile.TemporaryDirectory() as folder:
         path = pathlib.Path(folder) / "lines.js"
-        path.write_text(script)
-        tests = pathlib.Path(__file__).with_name("page_lines.js")
-        done = subprocess.run(["node", tests, path], capture_output=True, text=True, check=False)
-    check(done.returncode == 0, f"the page's functions are wrong\n{done.stdout}{done.stderr}")
-    print(done.stdout.strip())
+        path.write_text("\n".join(files.values()))
+        words = ["node", pathlib.Path(__file__).with_name(tests), path]
+        return subprocess.run(words, capture_output=True, text=True, check=False)
+
+
+def try_functions():
+    """The functions of the page that touch no page, by themselves. The tries notice each bug that is planted."""
+    files = {part: (WEB / part).read_text() for part in LINES.split()}
+    for tests in TRIES:
+        done = tried_by_node(files, tests)
+        check(done.returncode == 0, f"the page's functions are wrong\n{done.stdout}{done.stderr}")
+        print(done.stdout.strip())
+    for name, old, new in PLANTS:
+        check(files[name].count(old) == 1, f"web/{name} doesn't have `{old}` once: plant another bug there")
+        planted = files | {name: files[name].replace(old, new)}
+        missed = all(tried_by_node(planted, tests).returncode == 0 for tests in reversed(TRIES))
+        check(not missed, f"no try of the page's functions notices `{new}` in place of `{old}`")
+    print(f"{len(PLANTS)} bugs planted in the page's functions, each noticed")
 
 
 def browse(args, folder, page, operator):
@@ -543,6 +559,7 @@ def try_by_hand(args, folder, address, bridge):
         finds_another(one, bridge.other, bridge.shown, bridge.told)
         stays_small(one, [standing(*size) for size in ((1, 2), (1, 64), (64, 16))])
         stays(one)
+        watches(one)
     finally:
         one.close()
         two.close()

@@ -3,28 +3,7 @@
 const assert = require("node:assert");
 const page = require(process.argv[2]);
 
-const text = `room 1
-room 2
-member 0 10 1 127.0.0.1:6000 pcmu 9001 0 0
-member 1 11 1 127.0.0.1:6002 l16 9002 65530 0
-member 2 12 2 127.0.0.1:6004 pcmu 9003 0 0
-source 101 10 video
-source 102 10 video
-source 103 11 video
-source 201 10 audio
-source 202 11 audio
-slot 501 11 0 65535 1000
-slot 502 11 1 0 0
-slot 503 10 0 0 0
-sub 502 102
-mute 202
-gain 11 201 128
-pin 1 101
-floor 1 10
-end 17
-names 3
-state 0a-4
-`;
+const { text } = require("./page_desk.js");
 const desk = page.parseDesk(text);
 const slot = (ssrc) => desk.slots.find((s) => s.ssrc === ssrc);
 let tried = 0;
@@ -268,49 +247,6 @@ same([kept[1], kept.slice(0, 2).join("\n"), "", "# end: 0 groups of 0 commands\n
 const large = page.parseDesk(Array.from({ length: 130 }, (_, room) => `room ${room}`).join("\n"));
 same(page.groupsIn(page.keptText(large)).map((group) => group.split(" / ").length), [64, 64, 2]);
 
-// What the bridge counts: a source is found by the address of its member, and is silent after two seconds.
-const stats = page.parseStats(JSON.stringify({
-  sources: [{ address: "127.0.0.1:6000", ssrc: 101, packets: 9, lost: 1, ago_ms: 1999 },
-    { address: "127.0.0.1:6000", ssrc: 201, packets: 7, lost: 0, ago_ms: 2000 },
-    { address: "127.0.0.1:6000", ssrc: 202, packets: 5, lost: 0, ago_ms: 3 }],
-  strangers: [{ address: "127.0.0.1:6002", ssrc: 777, payload_type: 0, packets: 3 },
-    { address: "127.0.0.1:9", ssrc: 778, payload_type: 96, packets: 1 },
-    { address: "127.0.0.1:9", ssrc: 202, payload_type: 96, packets: 1 },
-    { address: "127.0.0.1:6002", ssrc: 202, payload_type: 0, packets: 8 }],
-}));
-same([101, 201, 202, 102].map((ssrc) => page.isSilent(stats, desk, ssrc)), [false, true, true, true]);
-same([101, 999].map((ssrc) => page.isSilent(null, desk, ssrc)), [false, false]);
-same([101, 201, 202].map((ssrc) => page.countInWords(page.countOf(stats, desk, ssrc))),
-  ["9 packets, 1 lost, the last one 1 s ago", "7 packets, 0 lost, the last one 2 s ago", "no packet came"]);
-same(page.countInWords(page.countOf(null, desk, 101)), "");
-same([0, 999, 1000, 59999, 60000, 3599999, 3600000].map(page.agoInWords),
-  ["just now", "just now", "1 s ago", "59 s ago", "1 min ago", "59 min ago", "1 h ago"]);
-same(page.strangersIn(stats, desk), [
-  { address: "127.0.0.1:6002", ssrc: 777, type: 0, packets: 3, member: 11, kind: "audio", isElsewhere: false },
-  { address: "127.0.0.1:9", ssrc: 778, type: 96, packets: 1, member: null, kind: "video", isElsewhere: false },
-  { address: "127.0.0.1:9", ssrc: 202, type: 96, packets: 1, member: null, kind: "video", isElsewhere: true }]);
-same(page.strangersIn(null, desk), []);
-same([...page.turnedRooms(desk, null, stats)], [1]);
-same([...page.turnedRooms(desk, stats, stats)], []);
-same([page.parseStats("{}").strangers, page.parseStats("{}").sources.size], [[], 0]);
-
-// A source begins to lose many at over 2 percent of the last six counts, and ceases under 1. One that began anew is
-// counted from its beginning.
-const lossOf = (expected, lost, before) => page.parseStats(JSON.stringify({
-  sources: [{ address: "127.0.0.1:6000", ssrc: 101, packets: 1, expected, lost, ago_ms: 3, jitter_ms: 4 }] }), before);
-const fair = lossOf(100, 2, null), many = lossOf(200, 5, fair);
-same([fair, many, lossOf(300, 5, many), lossOf(500, 5, many), lossOf(501, 5, many), lossOf(50, 1, many),
-  lossOf(50, 2, many)].map((one) => page.isLossy(one, desk, 101)), [false, true, true, true, false, false, true]);
-let slides = lossOf(1000, 170, null);
-same([1100, 1200, 1300, 1400, 1500].map((expected) => {
-  slides = lossOf(expected, 170, slides);
-  return page.isLossy(slides, desk, 101);
-}), [true, true, true, true, false]);
-same(page.countInWords(page.countOf(many, desk, 101)),
-  "1 packets, 5 lost, 2.5 percent of late, jitter 4 ms, the last one just now");
-same([[many, desk, 999], [null, desk, 101]].map((one) => page.isLossy(...one)), [false, false]);
-same([...page.turnedRooms(desk, fair, many)], [1]);
-
 // The objects of rows and of lines, and what of them others have changed.
 same(["member 0 10 1 127.0.0.1:6000 pcmu 9001 0 0", "source 101 10 video", "slot 501 11 0 0 0", "sub 502 102",
   "mute 202", "gain 11 201 128", "pin 1 101", "floor 1 10", "room 2 44100"].map(page.objectsOfRow),
@@ -335,19 +271,6 @@ same([[plan(), plan()], [plan([1, 10, 11]), plan([1, 10, 11])], [plan([1, 10, 11
   [plan(), plan([1, 10])]].map((pair) => page.placeChanges(...pair)), [0, 0, 1, 2, 1, 1, 2]);
 same(page.inOldPlaces([{ key: 1, text: "a" }, { key: 2, text: "b" }], [{ key: 3 }, { key: 2, text: "c" }], "key"),
   [{ key: 1, text: "a", hasLeft: true }, { key: 2, text: "c" }]);
-
-// Trouble: a silent source comes first, then a lossy one, then a floor that is muted.
-const quiet = page.parseStats(JSON.stringify({ sources: [[101, 0], [102, 3], [201, 0]].map(([ssrc, lost]) => (
-  { address: "127.0.0.1:6000", ssrc, packets: 9, expected: 100, lost, ago_ms: 1 })) }));
-const troubles = (of, counted) => of.members.map((member) => page.troubleOf(of, counted, member));
-same([troubles(desk, null), troubles(desk, stats), troubles(desk, quiet), troubles(silent, null)],
-  [["", "", ""], ["silent", "silent", ""], ["losing", "silent", ""], ["muted floor", "", ""]]);
-same(page.tallyOf(desk, quiet, desk.members), { members: 3, silent: 1, losing: 1, muted: 1, weight: 4 });
-same(page.tallyOf(silent, null, []), { members: 0, silent: 0, losing: 0, muted: 0, weight: 0 });
-same(["silent", "losing", "muted"].map((filter) => desk.members.filter((member) =>
-  page.isCounted(desk, quiet, filter, member)).map(({ member }) => member)), [[11], [10], [11]]);
-same(page.overview(desk, {}, "", "number", (member) => member.member === 12).map(({ room }) => room), [2]);
-same(page.overview(desk, {}, "", "trouble", null, (room) => -room).map(({ room }) => room), [2, 1]);
 
 // The link: live, late from 4 s, gone from 10 s, and what the program says of its bridge.
 same([0, 4000, 4001, 10000, 10001].map((ms) => page.linkOf("", ms)), ["live", "live", "late", "late", "gone"]);

@@ -50,8 +50,12 @@
       for (const id of node.getAttribute(attribute).split(/\s+/)) if (!ids.includes(id)) fault("no such id", node, id);
     }
   }
-  const ROLES = ["status", "alert", "search", "group", "list", "listitem", "button"];
+  const ROLES = ["status", "alert", "search", "group", "list", "listitem", "button", "meter"];
   for (const node of all("[role]")) if (!ROLES.includes(node.getAttribute("role"))) fault("an unknown role", node);
+  for (const node of all("[role=meter]")) {
+    const [least, now, most] = ["min", "now", "max"].map((one) => Number(node.getAttribute(`aria-value${one}`) ?? NaN));
+    if (!(least <= now && now <= most) || !node.ariaLabel || !node.ariaValueText) fault("a meter without words", node);
+  }
   for (const node of all("[role=list]")) {
     for (const child of node.children) if (child.getAttribute("role") !== "listitem") fault("not an item", child);
   }

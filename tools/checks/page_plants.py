@@ -1,0 +1,33 @@
+"""Bugs in the page's functions, each of which the tries under node have to notice."""
+
+# Each bug: a web file, what stands in it once, and what is planted in place of that.
+PLANTS = [
+    ("levels.js", "10 * Math.log10(", "20 * Math.log10("),
+    ("levels.js", "samples > 0 ?", "samples > 200 ?"),
+    ("levels.js", "energy * LOUD > samples * LOUDEST", "energy * LOUD >= samples * LOUDEST / 1.0001"),
+    ("levels.js", "energy * QUIET < samples * LOUDEST", "energy * QUIET < samples * LOUDEST * 1.0001"),
+    ("levels.js", "samples === 0 || ", ""),
+    ("levels.js", "LOUD_ROW = 2", "LOUD_ROW = 3"),
+    ("levels.js", "QUIET_ROW = 4", "QUIET_ROW = 3"),
+    ("levels.js", "isLoud ? Math.min(LOUD_ROW, loud + quarters) : 0", "isLoud ? loud + quarters : loud"),
+    ("levels.js", "isQuiet ? Math.min(QUIET_ROW, quiet + quarters) : 0", "isQuiet ? quiet + quarters : quiet"),
+    ("levels.js", "isSpeaking && quieter < QUIET_ROW", "!isQuiet"),
+    ("levels.js", "Math.round(ms / QUARTER)", "1"),
+    ("levels.js", " && before.samples <= now.samples", ""),
+    ("levels.js", " || ms > LONGEST_SPAN) return", ") return"),
+    ("levels.js", "before?.sound ?? NO_SOUND", "NO_SOUND"),
+    ("stats.js", "share >= FAIR : share > LOSSY };", "share > LOSSY : share > LOSSY };"),
+    ("stats.js", "one.at >= at - WINDOW", "one.at >= 0"),
+    ("stats.js", "fraction / 256", "fraction / 255"),
+    ("stats.js", "due > 0 ?", "due > -1 ?"),
+    ("stats.js", "  if (isQuiet) return;\n", ""),
+    ("stats.js", "addStream(all, stats.streams.get(mix));", ""),
+    ("stats.js", "Math.max(a ?? b, b)", "Math.min(a ?? b, b)"),
+    ("stats.js", "if (figures.desk !== desk)", "if (!figures.desk)"),
+    ("stats.js", '${all.isSpeaking ? "v" : ""}', ""),
+    ("rules.js", "if (figures.isSilent) return", "if (figures.isLosingIn) return"),
+    ("rules.js", 'if (figures.isLosingOut) return "losing out";', ""),
+    ("rules.js", "one.isLosingIn || one.isLosingOut", "one.isLosingIn"),
+    ("rules.js", "speaking: (one) => one.isSpeaking", "speaking: (one) => one.level !== null"),
+    ("overview.js", "(order[sort] ?? placed)", "(order[sort] ?? order.number)"),
+]
