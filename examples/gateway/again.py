@@ -18,8 +18,8 @@ NO_MEMBER = "You are no member of this call any more. Press Join to come back."
 
 
 class Absent(typing.NamedTuple):
-    """A member whose call has gone: since when, its mix, camera and room, and what operators made of it. And whether
-    its rows went with their bridge: else it is at the desk, if no operator removes it."""
+    """A member whose call has gone: since when, its mix, camera and room, and what operators made of it. Whether its
+    rows went with their bridge: else it is at the desk, if no operator removes it. And whether it has muted itself."""
 
     since: float
     mix: int | None
@@ -27,6 +27,7 @@ class Absent(typing.NamedTuple):
     room: int
     ties: list
     is_of_before: bool
+    is_own_mute: bool
 
 
 def key_of(secret, member, mix):
@@ -116,7 +117,8 @@ class Absents(dict):
         mix, camera, room = (call.mix, call.camera, call.room) if call else (None, None, None)
         camera = next((ssrc for ssrc, whose in rows.sources.items() if whose == (member, "video")), camera)
         mix, room = rows.mixes.get(member, mix), rows.members.get(member, room)
-        return Absent(time.monotonic(), mix, camera, room, ties_of(rows, member), False)
+        is_own_mute = bool(call and call.is_own_mute)
+        return Absent(time.monotonic(), mix, camera, room, ties_of(rows, member), False, is_own_mute)
 
     def add(self, member, rows, call=None):
         """Takes a member in, once."""

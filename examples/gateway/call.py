@@ -44,9 +44,11 @@ class Call:
         # itself when that was learnt; and how many packets of those of no source have come to the bridge. `asked`: how
         # often that was asked; `strange`: how many packets had come to rtpengine from elsewhere.
         self.is_transcoded, self.sends, self.strangers, self.asked, self.strange = False, None, None, 0, 0
-        # The keys that it has pressed last, and when; how many PINs were wrong; and the desk's call that has muted it
-        # by its keys.
-        self.keys, self.pressed, self.wrong, self.muted = "", 0.0, 0, None
+        # The keys that it has pressed last, and when; and how many PINs were wrong.
+        self.keys, self.pressed, self.wrong = "", 0.0, 0
+        # The desk's call by which it has muted itself last, and when its page has last asked for that; and whether it
+        # was muted when the desk was last looked at, and by itself.
+        self.muted, self.muting, self.was_muted, self.is_own_mute = None, 0.0, False, False
         # How many packets had come when they were last counted, and when a sign of life came last.
         self.packets, self.alive = 0, time.monotonic()
 

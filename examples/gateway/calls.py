@@ -10,17 +10,18 @@ import time
 import sdp
 from again import NO_MEMBER, Absents, calls_of, key_of, opened_by, tied
 from call import Call, log
-from desk import MUSIC, FULL, ROOMS, SPEECH, Desk, Rows, in_words
+from desk import FULL, MUSIC, ROOMS, SPEECH, Desk, Rows, groups_of, in_words
 from fleet_rooms import LEAST, Fleet
 from keys import Pins
+from meeting import Meeting
+from mutes import Mutes
 from own_rooms import EMPTY, OwnRooms
-from phone_calls import CALLS, KNOWN, MUX, PhoneCalls
+from phone_calls import KNOWN, MUX, PhoneCalls
+from pictures import Pictures
 from refused import Refused, words_of
 from rtpengine import Rtpengine
 from targets import Targets
 
-# A line of the desk holds 45 of the longest commands.
-LONGEST_GROUP = 44
 # An agent's members have as many numbers, from `first_member` of the settings on.
 NUMBERS = 100_000
 # For how many seconds an agent that ends waits until Kamailio asks which calls are over.
@@ -29,12 +30,7 @@ TELLING = 3
 LOOKS = 50
 
 
-def shown(slots, cameras):
-    """The commands by which cameras are seen in slots, as far as there are both."""
-    return [f"subscribe {slot} {camera}" for slot, camera in zip(slots, cameras)]
-
-
-class Calls(PhoneCalls):
+class Calls(PhoneCalls, Meeting, Mutes):
     def __init__(self, settings):
         self.settings, self.bridge = settings["calls"], settings["bridge"]["udp"]
         self.engine, self.desk = Rtpengine(settings["rtpengine"]["control"]), Desk(settings["bridge"]["tcp"])
@@ -55,6 +51,8 @@ class Calls(PhoneCalls):
         # Members whose calls may come again, and the secret by which a page shows that one is its own.
         self.absent = Absents(self.settings["away"])
         self.secret = self.fleet.secret if self.fleet else secrets.token_bytes(32)
+        # By which pictures follow who speaks, once it is started.
+        self.pictures = Pictures(self)
 
     def __iter__(self):
         return iter([*self.pages.values(), *self.phones.values()])
@@ -76,6 +74,7 @@ class Calls(PhoneCalls):
                 self.begins_anew(before)
             self.absent.see(now)
             self.leaving += [(member, one.camera) for member, one in self.absent.over().items()]
+            self.note_mutes(now)
             self.clear()
             return self.seen
 
@@ -87,7 +86,7 @@ class Calls(PhoneCalls):
             call.key = call.id if call.side == "browser" else call.key
             call.table[call.key] = call
         # In a fleet rooms end by its agents.
-        for room, member in {} if self.fleet else opened_by(self.desk.history(CALLS), self.numbers).items():
+        for room, member in {} if self.fleet else opened_by(self.desk.history(), self.numbers).items():
             if room in rows.rooms:
                 self.own_rooms.add(room, found[member].source if member in found else "")
         if found:
@@ -224,11 +223,12 @@ class Calls(PhoneCalls):
                 member = next(one for one in itertools.count(self.settings["first_member"]) if one not in taken)
                 # Where no answer comes, the bridge may have taken the group: the member goes once the desk is back.
                 self.leaving.append((member, None))
-                group = self.joining(call, member, rows)
+                group, *more = groups_of(self.joining(call, member, rows))
                 refusal = self.desk.group(group)
                 self.leaving.pop()
                 if refusal is None:
                     self.is_in(call, member, rows)
+                    self.do_all(more)
                     return
                 # Where an operator has changed the desk meanwhile: again on what it is now.
                 if self.desk.rows().version == rows.version:
@@ -259,20 +259,27 @@ class Calls(PhoneCalls):
         ties = tied(old.ties, call, member, rows)
         group += [*call.commands(member, call.address), *(one for one in ties if one.startswith("mute "))]
         more = [one for one in ties if not one.startswith("mute ")]
-        fit = max(0, LONGEST_GROUP - len(group))
+        fit = max(0, len(groups_of(group + more)[0]) - len(group))
         if self.desk.group(group + more[:fit]) is None:
             more = more[fit:]
         elif refusal := self.desk.group(group):
             raise Refused(in_words(refusal, group))
-        self.absent.pop(member, None)
+        kept = self.absent.pop(member, old)
         for one in more:
             # What is refused of these has changed meanwhile.
             self.desk.group([one])
         self.is_in(call, member, rows)
+        call.muted = None
+        if call.voice in self.seen.mutes:
+            self.is_muted_by(call, kept.is_own_mute)
         # Who has joined meanwhile.
-        met = self.meeting(call, self.seen)
-        if met:
-            self.desk.group(met[:LONGEST_GROUP])
+        self.do_all(groups_of(self.meeting(call, self.seen)))
+
+    def do_all(self, groups):
+        """Does what may be refused: it has changed meanwhile."""
+        for group in groups:
+            if group:
+                self.desk.group(group)
 
     def arrive(self, call):
         """Waits until a call's room is on the bridge that the fleet has chosen. It may be another one."""
@@ -284,26 +291,6 @@ class Calls(PhoneCalls):
                 self.fleet.place(call.room, call.source)
             time.sleep(0.1)
         raise Refused(f"Room {call.room} is on its way to a bridge. Join again in a second.")
-
-    def joining(self, call, member, rows):
-        """The commands by which a call becomes a member, sees the others of its room, and they it."""
-        group = [] if call.room in rows.rooms else [f"add-room {call.room}"]
-        group += call.commands(member, call.address)
-        return (group + self.meeting(call, rows))[:LONGEST_GROUP]
-
-    def meeting(self, call, rows):
-        """The commands by which a call sees the others of its room, and they it, where slots are free."""
-        others = [other for other in self.in_room(call.room, rows) if other is not call]
-        free = lambda one: [slot for slot in one.slots[1:] if slot not in rows.subs]
-        sees = lambda one, camera: camera in {rows.subs.get(slot) for slot in one.slots}
-        group = shown(free(call), [one.camera for one in others if one.camera and not sees(call, one.camera)])
-        for other in others:
-            group += shown(free(other), [call.camera] if call.camera and not sees(other, call.camera) else [])
-        return group
-
-    def in_room(self, room, rows):
-        """The calls whose members are in a room, as they joined. An operator may have moved or removed a member."""
-        return [one for one in self if rows.members.get(one.member) == room]
 
     # Leaving
 
@@ -359,8 +346,10 @@ class Calls(PhoneCalls):
             while self.leaving:
                 member, camera = self.leaving[0]
                 rows = self.desk.rows()
-                if member in rows.members and self.desk.group(self.parting(member, camera, rows)) is not None:
+                group, *more = groups_of(self.parting(member, camera, rows) if member in rows.members else [])
+                if group and self.desk.group(group) is not None:
                     self.desk.group([f"remove-member {member}"])
+                self.do_all(more)
                 self.leaving.pop(0)
 
     def end_empty_rooms(self, rows):
@@ -370,16 +359,3 @@ class Calls(PhoneCalls):
                 self.own_rooms.discard(room)
                 if self.desk.group([f"remove-room {room}"]) is None:
                     log(f"room {room} has had no member for {EMPTY} s, and has ended")
-
-    def parting(self, member, camera, rows):
-        """The commands by which a member goes, and others are seen in the slots that showed it."""
-        room, group = rows.members[member], [f"remove-member {member}"]
-        others = self.in_room(room, rows)
-        for other in others:
-            seen = {rows.subs.get(slot) for slot in other.slots} | {other.camera, None}
-            unseen = [one.camera for one in others if one.camera not in seen]
-            group += shown([slot for slot in other.slots if (slot, camera) in rows.subs.items()], unseen)
-        if (room in self.own_rooms or self.fleet) and list(rows.members.values()).count(room) == 1:
-            self.own_rooms.discard(room)
-            group.append(f"remove-room {room}")
-        return group[:LONGEST_GROUP]

@@ -16,6 +16,10 @@ MUSIC = "This room is for music at 44100 Hz. Browsers and phones can join a room
 REFUSALS = {"Exists": SAME_SSRC, "SsrcTaken": SAME_SSRC, "Full": FULL, "RateMismatch": MUSIC}
 # How many rooms a desk has at most (12 Full of docs/FORMATS.md), and the rate of a room for speech.
 ROOMS, SPEECH = 64, 8000
+# How many commands a group has at most, and how many octets a line.
+MOST_COMMANDS, MOST_OCTETS = 64, 4096
+# How many of the desk's last calls an agent looks through.
+MANY, FEW = 4096, 500
 
 
 def in_words(refusal, group=()):
@@ -30,6 +34,20 @@ def in_words(refusal, group=()):
         if name in ("Exists", "SsrcTaken"):
             return TAKEN.format(what)
     return REFUSALS[name].format(*more) if name in REFUSALS else f"The bridge refuses: {refusal}"
+
+
+def line_of(commands):
+    return "group " + " / ".join(commands)
+
+
+def groups_of(commands):
+    """The same commands in groups, as few as the desk takes them in."""
+    groups = [[]]
+    for command in commands:
+        if len(groups[-1]) == MOST_COMMANDS or len(line_of([*groups[-1], command])) > MOST_OCTETS:
+            groups.append([])
+        groups[-1].append(command)
+    return groups
 
 
 class Rows:
@@ -83,21 +101,39 @@ class Desk:
                 self.lines = None
                 raise Refused(BUSY if str(why) == "busy" else GONE) from why
 
-    def history(self, most):
+    def history(self):
         """The last calls in force."""
-        lines = self.ask(f"history {most}", lambda said: said.startswith("end "))[:-1]
-        return list(itertools.takewhile(lambda line: line != "undone", lines))
+        is_end = lambda said: said.startswith("end ")
+        try:
+            lines = self.ask(f"history {MANY}", is_end)
+        except Refused:
+            # The connection closes where these are over 4 million octets. So many are less, whatever they say.
+            lines = self.ask(f"history {FEW}", is_end)
+        return list(itertools.takewhile(lambda line: line != "undone", lines[:-1]))
 
     def rows(self):
         return Rows(self.ask("show", lambda said: said.startswith("end ")))
 
+    def version(self):
+        return int(self.ask("history 0", lambda said: said.startswith("end "))[-1].split()[1])
+
+    def levels(self):
+        """How loud sources are (docs/FORMATS.md, Levels). None where the bridge is older than that."""
+        if self.lines is None:
+            # A fault of a connection's first line would end it.
+            self.version()
+        lines = self.ask("levels", lambda said: said == "end" or said.startswith("fault "))
+        return None if lines[-1].startswith("fault ") else lines[:-1]
+
+    def stats(self):
+        return self.ask("stats", lambda said: said == "end")[:-1]
+
     def strangers(self, address):
         """The SSRCs that come from an address and are of no source: how many packets of each."""
-        lines = self.ask("stats", lambda said: said == "end")
-        rows = [line.split() for line in lines if line.startswith(f"stranger {address} ")]
+        rows = [line.split() for line in self.stats() if line.startswith(f"stranger {address} ")]
         return {int(row[2]): int(row[6]) for row in rows}
 
     def group(self, commands):
         """Gives commands as one change. The refusal, or None where it was accepted."""
-        said = self.ask("group " + " / ".join(commands))[0]
+        said = self.ask(line_of(commands))[0]
         return None if said.startswith("ok ") else said

@@ -30,6 +30,8 @@ from web import ForBrowsers, ForKamailio, served
 FOLDER = pathlib.Path(__file__).resolve().parent
 ADDRESSES = [("bridge", "udp"), ("bridge", "tcp"), ("rtpengine", "control"), ("page", "listen"), ("phones", "agent")]
 ADDRESSES += [("rtpengine", "keys")]
+# The desk gives a member 16 slots, of which one is its stage.
+MOST_PICTURES = 15
 # The settings that a file may leave out.
 DEFAULTS = {
     "page": {"proxies": []},
@@ -52,6 +54,8 @@ def read(path):
     for table, key in ADDRESSES:
         ip, _, port = settings[table][key].rpartition(":")
         settings[table][key] = ip, int(port)
+    if settings["calls"]["pictures"] not in range(MOST_PICTURES + 1):
+        raise ValueError(f"`pictures` of [calls] has to be from 0 to {MOST_PICTURES}")
     return settings
 
 
@@ -62,6 +66,7 @@ def agent(settings, _):
     calls = Calls(settings)
     watch, page = Watch(calls), settings["page"]
     Keys(settings["rtpengine"]["keys"], calls).start()
+    calls.pictures.start()
     servers = [
         served(ForBrowsers, page["listen"], calls=calls, watch=watch, sites=page["sites"], proxies=page["proxies"]),
         served(ForKamailio, settings["phones"]["agent"], calls=calls),

@@ -66,7 +66,7 @@ async function gathered(peer) {
 async function join() {
   at("join").disabled = at("name").disabled = at("room").disabled = true;
   say("Joining ..");
-  const mine = call = { base: "", pages: [], room: at("room").value, name: at("name").value, silent: 0 };
+  const mine = call = { base: "", pages: [], room: at("room").value, name: at("name").value, silent: 0, people: [] };
   try {
     mine.own = await devices();
     await connect(mine, mine.base);
@@ -76,6 +76,8 @@ async function join() {
     at("leave").disabled = false;
     at("microphone").disabled = !mine.own.getAudioTracks().length;
     at("camera").disabled = !mine.own.getVideoTracks().length;
+    mine.meter = metered(mine.own);
+    at("level").hidden = !mine.meter;
     mine.timers = [setInterval(look, 1000), setInterval(draw, 200)];
     look();
   } catch (why) {
@@ -149,7 +151,8 @@ async function look() {
     if (state.again || mine.silent >= SILENT && mine.pages.length) comeAgain(mine, state);
     return;
   }
-  Object.assign(mine, { names: state.names, silent: 0, pages: state.pages, room: state.room ?? mine.room });
+  const { names, pages, people, speech, view } = state;
+  Object.assign(mine, { names, silent: 0, pages, room: state.room ?? mine.room, people, speech, view });
   mine.told.again = state.again;
   if (state.cut && mine.pages.length && Date.now() > (mine.next || 0)) {
     mine.next = Date.now() + CUT;
@@ -161,43 +164,62 @@ async function look() {
   const parts = ["An operator has taken you out of the call."];
   if (isIn) parts[0] = `You are member ${member} in room ${state.room}.`;
   if (voice === null) parts.push("You only listen: there is no microphone that this page may use.");
-  if (state.muted.includes(voice)) parts.push("An operator has muted your voice.");
+  const me = people.find(one => one.member === member) || {};
+  if (me.muted === "operator") parts.push("An operator has muted your voice.", me.speaks ? "Nobody hears you." : "");
+  if (me.muted === "itself") parts.push("You have muted yourself.");
   if (state.muted.includes(camera)) parts.push("An operator has stopped your picture.");
+  if (view && view.weak) parts.push("Your connection loses packets: you get fewer pictures.");
   parts.push(state.trouble);
-  say(parts.join(" "), !isIn || state.trouble !== "");
+  say(parts.filter(Boolean).join(" "), !isIn || state.trouble !== "");
+  showPeople(mine);
+  showView(mine);
+  // The others see who has muted himself. An operator may have unmuted him: his microphone is off still.
+  if (isIn && voice !== null && me.muted !== "operator" && (me.muted === "itself") !== isOff()) tellMute();
+}
+
+const isOff = () => at("microphone").classList.contains("off");
+
+// Has the gateway mute or unmute the own voice at the desk. Where it doesn't, the next look asks again.
+function tellMute() {
+  if (call && call.told) ask(call.base, "mute", { id: call.id, muted: isOff() }).catch(() => {});
 }
 
 // The bridge names in each packet whose voices or picture it carries, by their SSRCs (the contributing sources of RFC
-// 3550). The agent knows who they are.
+// 3550). The agent knows who they are. An older bridge doesn't say who speaks: then all voices are named that come.
 function draw() {
-  const now = performance.timeOrigin + performance.now();
+  const now = performance.timeOrigin + performance.now(), figures = new Map();
+  if (call.meter) at("level").value = call.meter.level();
   for (const { mid, receiver } of call.peer.getTransceivers()) {
     // Who was last heard over a second ago isn't heard now.
-    const from = receiver.getContributingSources().filter(one => now - one.timestamp < 1000);
-    const names = from.map(one => (call.names || {})[one.source] || `source ${one.source}`).join(", ");
-    if (mid === "0") { at("heard").textContent = names ? `You hear ${names}.` : ""; continue; }
+    const from = receiver.getContributingSources().filter(one => now - one.timestamp < 1000).map(one => one.source);
+    const names = from.map(source => (call.names || {})[source] || `source ${source}`).join(", ");
+    if (mid === "0") { at("heard").textContent = names && !call.speech ? `You hear ${names}.` : ""; continue; }
     const figure = mid === "1" ? at("stage") : at("slot" + (mid - 1));
     figure.hidden = !names;
     figure.querySelector("figcaption").textContent = names;
+    figures.set(figure, from);
   }
+  showPictures(call, figures);
 }
 
 // Shows nobody.
 function clear() {
   document.querySelectorAll("[id^=slot]").forEach(one => one.remove());
-  at("stage").hidden = true;
+  at("stage").hidden = at("view").hidden = true;
   at("heard").textContent = "";
+  at("people").replaceChildren();
 }
 
 function leave(text, wrong = false) {
-  const { id, base, peer, own, timers = [] } = call || {};
+  const { id, base, peer, own, meter, timers = [] } = call || {};
   call = null;
   timers.forEach(clearInterval);
   if (id) ask(base, "leave", { id }).catch(() => {});
   if (peer) peer.close();
   if (own) own.getTracks().forEach(track => track.stop());
+  if (meter) meter.close();
   clear();
-  at("own").hidden = true;
+  at("own").hidden = at("level").hidden = true;
   at("join").disabled = at("name").disabled = at("room").disabled = false;
   for (const { name, texts } of switches) turn(at(name), texts, false, []);
   at("leave").disabled = at("microphone").disabled = at("camera").disabled = true;
@@ -217,8 +239,22 @@ function turn(button, texts, off, tracks) {
 }
 
 for (const { name, texts, tracks } of switches) {
-  at(name).onclick = () => turn(at(name), texts, !at(name).classList.contains("off"), tracks());
+  at(name).onclick = () => {
+    turn(at(name), texts, !at(name).classList.contains("off"), tracks());
+    if (name === "microphone") tellMute();
+  };
 }
+
+// Shows another part of the others, or who speaks.
+function turnTo(page) {
+  ask(call.base, "turn", { id: call.id, page }).catch(() => {});
+  Object.assign(call.view, { page });
+  showView(call);
+}
+
+at("speakers").onclick = () => turnTo(0);
+at("before").onclick = () => turnTo(call.view.page - 1);
+at("next").onclick = () => turnTo(call.view.page + 1);
 at("room").value = asked.get("room") || 1;
 at("name").value = asked.get("name") || "guest";
 at("form").onsubmit = event => { event.preventDefault(); join(); };

@@ -22,8 +22,6 @@ LEARNT = ["SIP-source-address", "strict-source", "port-latching"]
 NEAREST, LAST = "endpoint-learning-heuristic", "endpoint-learning-delayed"
 # For how many seconds rtpengine learns an address, and nothing may come from a phone before its new port is learnt.
 LEARNING = 3
-# In how many of the desk's last calls an agent looks for who has muted a source.
-CALLS = 4096
 
 
 class PhoneCalls:
@@ -173,34 +171,3 @@ class PhoneCalls:
         log(f"phone {call.name!r} has pressed a wrong PIN for room {call.room}")
         if call.wrong >= keys.WRONG or len(self.pins.late(call.source)) >= keys.MOST:
             self.end(call, "It has pressed too many wrong PINs.")
-
-    def mutes_itself(self, call):
-        """Mutes who calls, or unmutes him where he has muted himself."""
-        rows = self.desk.rows()
-        if call.voice not in rows.sources:
-            return
-        if call.voice not in rows.mutes:
-            self.desk.group([f"mute {call.voice}"])
-            call.muted = self.last_mute(call.voice)
-        elif call.muted is not None and self.last_mute(call.voice) == call.muted:
-            self.desk.group([f"unmute {call.voice}"])
-
-    def last_mute(self, ssrc):
-        """The call of the desk that has muted or unmuted a source last."""
-        return last_mute(self.desk.history(CALLS), ssrc)
-
-
-def last_mute(history, ssrc):
-    """The call that has muted or unmuted a source last, by the calls in force. None where the one before it did the
-    same, as where the call between them was reverted: one of both may be an operator's."""
-    last, did = None, None
-    for line in reversed(history):
-        number, _, words = line.split(" ", 2)
-        for part in reversed(words.removeprefix("group ").split(" / ")):
-            if part.startswith(f"add-source {ssrc} "):
-                return last
-            if part in (f"mute {ssrc}", f"unmute {ssrc}"):
-                if last:
-                    return None if part == did else last
-                last, did = number, part
-    return last

@@ -7,6 +7,7 @@ import traceback
 
 from call import log
 from desk import Rows, in_words
+from people import people
 from refused import FAILED, Refused, words_of
 from rtpengine import UnknownCall
 
@@ -162,14 +163,16 @@ class Watch:
             rows = self.calls.desk.rows()
             if call.why or call.member not in rows.members:
                 return
-            has_muted = call.muted is not None and self.calls.last_mute(call.voice) == call.muted
+            has_muted = self.calls.has_muted_itself(call)
             group = [] if call.voice is None else [f"remove-source {call.voice}"]
             group.append(f"add-source {ssrc} {call.member} audio")
             group += [f"mute {ssrc}"] if call.voice in rows.mutes else []
             refusal = self.calls.desk.group(group)
             if refusal is None:
                 call.voice, call.sends, call.strangers, call.asked = ssrc, sends, None, 0
-                call.muted = self.calls.last_mute(ssrc) if has_muted else None
+                call.muted = None
+                if f"mute {ssrc}" in group:
+                    self.calls.is_muted_by(call, has_muted)
             elif call.refused != ssrc:
                 # Another member has the SSRC. Once that one leaves, this one is heard.
                 call.refused = ssrc
@@ -183,10 +186,15 @@ class Watch:
         # What is undone of a call that came again brings back rows that aren't its own.
         room = rows.members.get(call.member) if rows.mixes.get(call.member) == call.mix else None
         others = [] if room is None else self.calls.in_room(room, rows)
+        speaks = self.calls.pictures.speaks
         return {
             "names": {ssrc: one.name for one in others for ssrc in (one.voice, one.camera) if ssrc is not None},
             "room": room,
             "muted": [ssrc for ssrc in (call.voice, call.camera) if ssrc in rows.mutes],
+            "people": [] if room is None else people(room, rows, self.calls, speaks),
+            # Whether the bridge tells who speaks.
+            "speech": speaks is not None,
+            "view": self.calls.pictures.told(call),
             "trouble": self.trouble,
             "cut": bool(self.calls.fleet and self.calls.fleet.cut),
         } | self.calls.way_back(call)

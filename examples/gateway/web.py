@@ -7,12 +7,13 @@ import re
 import traceback
 import urllib.parse
 
-from body import ROOM, fields_of, is_text, text
+from body import FLAG, ROOM, fields_of, is_text, text, whole
 from bounded import SECONDS, Bounded
 from refused import FAILED, Refused
 
 FOLDER = pathlib.Path(__file__).parent
-FILES = {"/": ("join.html", "text/html"), "/join.js": ("join.js", "text/javascript")}
+FILES = {"/": ("join.html", "text/html")}
+FILES |= {f"/{name}": (name, "text/javascript") for name in ("join.js", "room.js")}
 # The page takes nothing from elsewhere, and no other page shows it in a frame. In a fleet it asks the other gateways.
 POLICY = "default-src 'self'; connect-src 'self' {}; style-src 'self' 'unsafe-inline'; frame-ancestors 'none'"
 
@@ -102,6 +103,8 @@ class ForBrowsers(Handler):
         "offer": [{"room": ROOM, "name": NAME}, {"again": AGAIN}],
         "answer": [{"id": ID, "sdp": SDP}],
         "state": [{"id": ID}],
+        "mute": [{"id": ID, "muted": FLAG}],
+        "turn": [{"id": ID, "page": whole(99)}],
         "leave": [{"id": ID}],
     }
 
@@ -122,6 +125,10 @@ class ForBrowsers(Handler):
             raise Refused(*self.calls.ended.get(words["id"], (RESTARTED, 410, True)))
         if path == "answer":
             return self.calls.answer(call, words["sdp"])
+        if path == "mute":
+            return self.calls.page_mutes(call, words["muted"])
+        if path == "turn":
+            return self.calls.pictures.turn(call, words["page"])
         return self.watch.state(call) if path == "state" else self.calls.end(call, "It pressed Leave.")
 
     def source(self):
