@@ -7,12 +7,14 @@ It starts a bridge, rtpengine, Kamailio and the agent. Then come its parts, each
     music      a room for music, which browsers and phones can't join
     again      an agent, rtpengine and the bridge are killed in mid-call: calls come again by themselves
     pages      the same with Chromium, whose page comes again without a click
+    stage      eight pages at a model of the desk: their pictures follow who speaks, and a page mutes itself
     gone       a bridge and rtpengine that are gone; then, in a call, they are started anew, and a browser is killed
     phones     two baresips in the room: one is muted, and one hangs up
     sip        SIPp: a BYE for each call that is over, exchanges, sessions, TCP and TLS, rooms by name
     sound      SIPp: hold, a NAT that gives another port, PCMA, G.722 and Opus, keys
     recipes    a room is recorded, and music plays to who is alone in it
     browsers   three Chromiums: mutes, pins, the floor, removals and undos show in all; 2 percent of packets are lost
+    speakers   the three speak one after another, and their pictures follow who speaks
     firefox    Firefox joins them
     linphone   Linphone joins them
     nat        a Chromium and a baresip behind a NAT, which takes leave to make network namespaces
@@ -25,7 +27,7 @@ linphone-cli and iptables.
 
 Each check prints a line, `ok` or `FAILED`. Each wait is bounded: where a step is late, its line says what it waited for
 and how long, and the next part begins with a bridge of its own. With --model a model without media stands in for the
-bridge, for the parts `again`, `pages` and `sip`.
+bridge, for the parts `again`, `pages`, `stage` and `sip`.
 """
 
 import pathlib
@@ -68,6 +70,7 @@ PARTS = {
         [],
     ),
     "pages": ([], "", ["step_pages"]),
+    "stage": (["try_rule", "try_eight", "try_by_hand", "try_older"], "", []),
     "sip": (
         [
             *("try_goodbyes", "try_gone_for_good", "try_acks", "try_requires", "try_trunk", "try_ways"),
@@ -84,13 +87,14 @@ PARTS = {
         "ABC",
         ["step_mutes", "step_pins", "step_floor", "step_removals", "step_history", "step_losses"],
     ),
+    "speakers": ([], "ABC", ["step_speakers"]),
     "firefox": ([], "AD", ["step_firefox"]),
     "linphone": ([], "AD", ["step_linphone"]),
     "gone": (["try_without_rtpengine", "try_without_bridge"], "ABD", ["step_deaths"]),
     "nat": ([], "A", ["step_nat"]),
 }
 # The parts that need no media of the bridge.
-WITHOUT_MEDIA = ["again", "pages", "sip"]
+WITHOUT_MEDIA = ["again", "pages", "stage", "sip"]
 # Those in which SIPp calls.
 SIPPS = ["sip", "sound", "recipes"]
 # In seconds: the most that a step may take, and the callers of a part until all are in the room.

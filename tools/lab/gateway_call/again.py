@@ -19,7 +19,7 @@ ROOM, FIRST, PHONE = 7, 7000, 7900
 # A page's camera has an SSRC so much above its voice's.
 CAMERA = 500
 # The page's script beside gateways that it makes up, and how many checks that has.
-COMING, COMINGS = pathlib.Path(__file__).with_name("coming.js"), 8
+COMING, COMINGS = pathlib.Path(__file__).with_name("coming.js"), 15
 # How many seconds later than `away` a member may go.
 LATE = 20
 
@@ -87,6 +87,8 @@ class Again(Trial):
         self.do(f"group mute {FIRST} / set-gain {second} {FIRST} 128 / give-floor {ROOM} {first} / {pin}")
         muted = lambda: self.pages[0].state()[1]["muted"] == [FIRST]
         self.comes(muted, "an operator mutes one, and its page says so", self.rows)
+        once = lambda: not any(row.startswith("sub ") and row.endswith(f" {FIRST + CAMERA}") for row in self.rows())
+        self.comes(once, "what is pinned is sent once", self.rows)
 
     def phone_sends(self, seconds=1):
         """A phone's packets go on, whatever becomes of its call."""
@@ -104,15 +106,15 @@ class Again(Trial):
         subs = [row.split(" ")[1:] for row in rows if row.startswith("sub ")]
         slots = [[row.split(" ")[1] for row in rows if f" {one.told['member']} " in row] for one in self.pages]
         seen = [[camera for slot, camera in subs if slot in own] for own in slots]
-        wanted = [[str(self.pages[1].ssrc + CAMERA)], [str(ssrc + CAMERA)]]
-        self.check(seen == wanted, f"{text}: each sees the other one, once", (seen, rows))
+        # The first one's picture is pinned, and so on the other one's stage.
+        self.check(seen == [[str(self.pages[1].ssrc + CAMERA)], []], f"{text}: each sees the other one, once", rows)
 
     def try_page_script(self):
         """The page by itself, beside gateways that aren't there."""
         if lacking("node"):
             print(f"skipped: the page's script ({lacking('node')})")
             return
-        words = ["node", COMING, ROOT / "examples/gateway/join.js"]
+        words = ["node", COMING, *(ROOT / "examples/gateway" / one for one in ("room.js", "join.js"))]
         said = subprocess.run(words, capture_output=True, text=True, timeout=170, check=False)
         for line in said.stdout.splitlines():
             kind, _, text = line.partition(": ")

@@ -7,12 +7,14 @@ import time
 
 from lab.gateway_call.again import Again
 from lab.gateway_call.callers import RATE, PhoneCaller
+from lab.gateway_call.following import Following
 from lab.gateway_call.lossy import Lossy
 from lab.gateway_call.others import Others
 from lab.gateway_call.parts import ACCOUNTS, Parts, until
 from lab.gateway_call.phoning import Phoning
 from lab.gateway_call.recipes import Recipes
 from lab.gateway_call.refusals import Refusals
+from lab.gateway_call.staging import Staging
 from lab.gateway_call.strangers import Strangers
 from lab.gateway_call.trial import BROWSERS
 from lab.gateway_call.trunks import Trunks
@@ -23,7 +25,7 @@ SWITCHES = 12
 MOST_MS, LOST = 1000, 0.02
 
 
-class Call(Refusals, Strangers, Others, Again, Phoning, Trunks, Recipes):
+class Call(Refusals, Strangers, Others, Again, Staging, Following, Phoning, Trunks, Recipes):
     """The call of browsers and phones."""
 
     def gather(self, names):
@@ -107,7 +109,7 @@ class Call(Refusals, Strangers, Others, Again, Phoning, Trunks, Recipes):
         for turn in range(SWITCHES):
             shown = browsers[turn % 3]
             moment = time.time()
-            self.do(f"pin 1 {shown.joined['camera']}")
+            number = self.do(f"pin 1 {shown.joined['camera']}")
             for one in browsers:
                 if one is not shown:
                     until(lambda: one.shown_since(0, shown.name, moment) is not None, 8)
@@ -118,8 +120,8 @@ class Call(Refusals, Strangers, Others, Again, Phoning, Trunks, Recipes):
             self.check(good, f"{name} decodes the new picture within {MOST_MS} ms of each pin", times)
         every = [one for times in took.values() for one in times if one is not None]
         print(f"      {len(every)} new pictures: median {statistics.median(every)} ms, maximum {max(every)} ms")
-        self.undo(self.operator.show()[1])
-        self.sees(browsers[0], "the last pin is undone", stage=browsers[(SWITCHES - 2) % 3].name)
+        self.revert(number)
+        self.sees(browsers[0], "the last pin is reverted", stage=browsers[(SWITCHES - 2) % 3].name)
         self.do("unpin 1")
         self.sees(browsers[0], "nothing is pinned")
 
@@ -129,8 +131,8 @@ class Call(Refusals, Strangers, Others, Again, Phoning, Trunks, Recipes):
         for one in self.browsers():
             self.sees(one, "B has the floor", stage="B")
         self.take_pictures("floor")
-        self.undo(number)
-        self.sees(a, "the floor is taken back")
+        self.revert(number)
+        self.sees(a, "the floor is reverted")
 
     def step_removals(self):
         a, b, _ = self.browsers()

@@ -72,7 +72,10 @@ class AtPage(Caller):
         return self
 
     def leave(self):
-        self.run("document.getElementById('leave').click()")
+        self.press("leave")
+
+    def press(self, button):
+        self.run(f"document.getElementById('{button}').click()")
 
     def names(self):
         """The names that the page shows."""

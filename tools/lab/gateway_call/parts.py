@@ -65,6 +65,7 @@ class Parts:
         bridge_ip="127.0.0.1",
         phones=(),
         away=AWAY,
+        pictures=3,
     ):
         self.folder, self.running = folder, {}
         stream, datagram = socket.SOCK_STREAM, socket.SOCK_DGRAM
@@ -102,7 +103,7 @@ class Parts:
             "names": {NAME: NAMED},
             "pins": {str(LOCKED): PIN},
             "calls": {
-                "pictures": 3,
+                "pictures": pictures,
                 "open_rooms": fleet is None,
                 "first_member": first_member,
                 "silence": 6,

@@ -114,9 +114,14 @@ class Trial:
     def browsers(self):
         return [one for name, one in self.callers.items() if name in BROWSERS]
 
+    def revert(self, number):
+        """Takes a call back, whatever the gateway has done since."""
+        return self.do(f"revert {number}")
+
     def sees(self, one, text, stage="-", without=""):
-        """Checks that a browser sees all others but some, and on its stage one of them or nobody."""
-        others = "".join(other.name for other in self.browsers() if other is not one and other.name not in without)
+        """Checks that a browser sees all others but some, each once, and one of them or nobody on its stage."""
+        left = without + stage
+        others = "".join(other.name for other in self.browsers() if other is not one and other.name not in left)
         stage = "-" if stage == one.name else stage
         good, told = one.sees(stage, others)
         shown = f"{stage} on its stage, and " * (stage != "-") + (others or "nobody")

@@ -3,7 +3,8 @@
     served.py serve FILE
 
 FILE has a bridge's settings. It answers lines as docs/FORMATS.md says, with seats. Its answers wait without bound, it
-closes no connection for its silence, and it counts nothing for `stats` and `levels`.
+closes no connection for its silence, and it counts nothing for `stats` and `levels`: who makes a Front may say what it
+answers to these.
 """
 
 import os
@@ -36,6 +37,8 @@ class Front(socketserver.ThreadingTCPServer):
         super().__init__(address, Operator)
         self.log, self.lock, self.seats, self.taken, self.watching = Log(), threading.Lock(), seats, {}, set()
         self.log.desk.bridge = ssrc
+        # The answers to some lines.
+        self.answers = {"stats": lambda: ["end"], "levels": lambda: ["end"]}
 
 
 class Operator(socketserver.StreamRequestHandler):
@@ -89,7 +92,7 @@ class Operator(socketserver.StreamRequestHandler):
             self.server.watching.add(self)
             lines = [f"end {log.version}"]
         elif words in (["stats"], ["levels"]):
-            lines = ["end"]
+            lines = self.server.answers[words[0]]()
         else:
             lines = [log.call(words, seat)]
         self.says("\n".join(lines))

@@ -1,0 +1,84 @@
+"""Who speaks, and whose way is weak: the rules by numbers that a bridge tells."""
+
+import sys
+import types
+
+from operators.shared import ROOT
+
+sys.path.insert(0, str(ROOT / "examples/gateway"))
+
+from desk import Rows  # noqa: E402
+from links import NONE, Links  # noqa: E402
+from speaking import Speaking  # noqa: E402
+
+STEP = 0.25
+
+
+def level(dbov, samples=2000):
+    """The energy of so many samples at a level, in the bridge's units."""
+    return int(samples * 2**30 * 10 ** (dbov / 10) / 1024)
+
+
+def try_speech(check):
+    """Who speaks, by quarters of a second at these levels: None where nothing comes."""
+    for text, levels, wanted in (
+        ("two loud quarters in a row", [-44, -44], [0, 1]),
+        ("one loud quarter", [-44, -60, -44, -46, -44], [0] * 5),
+        ("-45 dBov isn't loud", [-45.01, -45.01], [0, 0]),
+        ("four quiet quarters in a row", [-30, -30, -53, -53, -53, -53, -30], [0, 1, 1, 1, 1, 0, 0]),
+        ("one between that isn't quiet", [-30, -30, -53, -53, -53, -51, -53, -53, -53, -53], [0] + [1] * 8 + [0]),
+        ("four in which nothing comes", [-30, -30, None, None, None, None], [0, 1, 1, 1, 1, 0]),
+        ("loud ones with a break", [-30, None, -30, -30], [0, 0, 0, 1]),
+    ):
+        one, samples, energy, said = Speaking(), 8000, 10**9, []
+        one.hears(["level 10.0.0.1:5000 7 8000 1000000000"], 0.0)
+        for at, each in enumerate(levels, 1):
+            samples, energy = (samples, energy) if each is None else (samples + 2000, energy + level(each))
+            lines = [] if each is None else [f"level 10.0.0.1:5000 7 {samples} {energy}"]
+            said.append(len(one.hears(lines, at * STEP)))
+        check(said == wanted, f"who speaks: {text}", said)
+    one = Speaking()
+    one.hears(["level 10.0.0.1:5000 7 8000 1000000000", "end"], 0.0)
+    said = [one.hears([f"level 10.0.0.1:5000 7 {2000 * at} {level(-30) * at}", "end"], at * STEP) for at in (1, 2)]
+    check(said == [set(), {7}], "a bridge that counts from 0 again is followed", said)
+
+
+# A member's streams at `stats`: its mix, and three pictures of which the last one has stopped.
+REPORTS = "stream {} fraction {} lost 1 highest 1 8 packets {} octets 5 resent 0 jitter 4 round-trip 35"
+MIX, SLOT = 1000, 3000
+STREAMS = {MIX: 50, SLOT: 60, SLOT + 1: 100, SLOT + 2: 0}
+# The desk of the member, as far as that matters.
+DESK = """room 1
+member 0 7 1 10.0.0.1:5000 pcmu 1000 0 0
+slot 3000 7 0 0 0
+slot 3001 7 1 0 0
+slot 3002 7 2 0 0
+slot 3003 7 3 0 0
+end 1"""
+
+
+def reports(fraction, seconds, way):
+    """How many small pictures are left at the end of each second in which so much is lost."""
+    said = []
+    for _ in range(seconds):
+        way.at += 1
+        lines = [REPORTS.format(ssrc, 255 if not rate else fraction, rate * way.at) for ssrc, rate in STREAMS.items()]
+        said.append(way.links.look(["seats 1 of 4", *lines], way.rows, way.at).get(7))
+    return said
+
+
+def try_links(check):
+    """What is left of pictures where packets are lost."""
+    way = types.SimpleNamespace(links=Links(), rows=Rows(DESK.split("\n")), at=0)
+    for text, fraction, seconds, wanted in (
+        ("nothing is lost", 0, 5, [None] * 5),
+        ("just under a tenth", 25, 20, [None] * 20),
+        ("over a tenth for two seconds, and then not", 26, 3, [None] * 3),
+        ("a good second", 0, 1, [None]),
+        ("over a tenth", 30, 13, [None] * 3 + [1] * 3 + [0] * 3 + [NONE] * 4),
+        ("good again", 10, 31, [NONE] * 10 + [0] * 10 + [1] * 10 + [2]),
+        ("too much", 60, 4, [2] * 3 + [1]),
+        ("good again: that takes twice as long now", 0, 22, [1] * 20 + [2, 2]),
+    ):
+        said = reports(fraction, seconds, way)
+        check(said == wanted, f"a way that loses packets: {text}", said)
