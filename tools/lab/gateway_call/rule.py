@@ -158,6 +158,22 @@ def try_pin(check):
     check(not one.faults, "and no slot has changed too soon", one.faults[:3])
 
 
+def try_steady(check):
+    """What changes nothing: who speaks and is muted, and more who speak at once than there are slots."""
+    one = Meeting(8, 3)
+    one.steps(HOLD)
+    one.do(f"mute {VOICE + 7}")
+    one.steps(2 * HOLD, 7)
+    check(not any(7 in one.shown(each) for each in range(8)), "who speaks and is muted is brought to nobody")
+    one.steps(4 * HOLD, 4, 5, 6)
+    seen = []
+    for _ in range(10):
+        one.steps(HOLD, 2, 3, 4, 5, 6)
+        seen += [one.shown(each) for each in (0, 1, 2, 3, 7)]
+    good = all(each == {4, 5, 6} for each in seen)
+    check(good, "where three speak who are seen, two more who speak change nothing for the others", seen)
+
+
 def try_turning(check):
     """Who pages by hand sees all others, whoever speaks meanwhile."""
     one = Meeting(12, 3)
@@ -251,5 +267,5 @@ def try_groups(check):
 
 
 def try_all(check):
-    for one in try_rounds, try_pin, try_turning, try_weak, try_anything, try_groups:
+    for one in try_rounds, try_pin, try_steady, try_turning, try_weak, try_anything, try_groups:
         one(check)
