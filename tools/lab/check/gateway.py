@@ -70,7 +70,7 @@ PARTS = {
         [],
     ),
     "pages": ([], "", ["step_pages"]),
-    "stage": (["try_rule", "try_eight", "try_by_hand", "try_older"], "", []),
+    "stage": (["try_rule", "try_eight", "try_by_hand", "try_sixteen", "try_older"], "", []),
     "sip": (
         [
             *("try_goodbyes", "try_gone_for_good", "try_acks", "try_requires", "try_trunk", "try_ways"),

@@ -1,11 +1,13 @@
 """Pictures follow who speaks, in a room of eight pages. A model of the desk tells how loud who is."""
 
+import subprocess
+import sys
 import threading
 import time
 
 from lab.gateway_call import hearing, rule
 from lab.gateway_call.again import CAMERA, Page
-from lab.gateway_call.parts import Parts
+from lab.gateway_call.parts import GATEWAY, Parts
 from lab.gateway_call.rule import HOLD
 from lab.gateway_call.trial import Trial
 from lab.models.served import Front
@@ -122,15 +124,16 @@ class Staging(Trial):
         hearing.try_links(self.check)
         rule.try_all(self.check)
 
-    def at_model(self, first_member, is_older=False):
+    def at_model(self, first_member, is_older=False, count=PAGES, pictures=3):
         """A model of the desk with a gateway of its own, and pages in a room of it."""
         front = Sound(is_older)
-        parts = Parts(self.folder, port_of(front.udp), front.server_address[1], self.parts.control, first_member)
+        ports = port_of(front.udp), front.server_address[1], self.parts.control
+        parts = Parts(self.folder, *ports, first_member, pictures=pictures)
         self.others.append(parts)
         parts.start("agent")
-        pages = [Page(parts, f"P{at}", FIRST + at, ROOM) for at in range(PAGES)]
+        pages = [Page(parts, f"P{at}", FIRST + at, ROOM) for at in range(count)]
         said = [one.said for one in pages]
-        self.check([status for status, _ in said] == [200] * PAGES, f"{PAGES} pages join", said)
+        self.check([status for status, _ in said] == [200] * count, f"{count} pages join", said)
         return front, parts, pages
 
     def go(self, front, parts, pages):
@@ -254,6 +257,21 @@ class Staging(Trial):
         good = all(len(seen) == 3 for who, seen in shown(front.rows()).items() if who != member)
         self.check(good, "the others see as many as ever", shown(front.rows()))
         self.comes(lambda: left() > 0, "when none is lost, they come back", left, 40)
+
+    def try_sixteen(self):
+        """Sixteen pages with fifteen pictures each: all see all, from the join of the last one on."""
+        front, parts, pages = self.at_model(850_000, count=16, pictures=15)
+        seen = [len(each) for each in shown(front.rows()).values()]
+        self.check(seen == [15] * 16, "sixteen pages with 15 pictures see all others", seen)
+        version = front.log.version
+        front.speaking = {one.ssrc for one in pages[:5]}
+        time.sleep(HOLD)
+        self.check(front.log.version == version, "and no slot follows who speaks", front.log.history(1))
+        self.go(front, parts, pages)
+        words = [sys.executable, "-B", GATEWAY, "agent", Parts(self.folder, 1, 1, first_member=1, pictures=16).path]
+        said = subprocess.run(words, capture_output=True, text=True, timeout=60, check=False)
+        good = said.returncode and "`pictures` of [calls] has to be from 0 to 15" in said.stderr
+        self.check(good, "16 pictures are a fault of the settings", said.stderr)
 
     def try_older(self):
         """A bridge that doesn't know levels: pictures stay as they are."""
