@@ -14,7 +14,7 @@ It starts a bridge, rtpengine, Kamailio and the agent. Then come its parts, each
     sound      SIPp: hold, a NAT that gives another port, PCMA, G.722 and Opus, keys
     recipes    a room is recorded, and music plays to who is alone in it
     browsers   three Chromiums: mutes, pins, the floor, removals and undos show in all; 2 percent of packets are lost
-    speakers   the three speak one after another, and their pictures follow who speaks
+    speakers   the three speak one after another, and their pictures follow who speaks; two lose packets
     firefox    Firefox joins them
     linphone   Linphone joins them
     nat        a Chromium and a baresip behind a NAT, which takes leave to make network namespaces
@@ -87,7 +87,7 @@ PARTS = {
         "ABC",
         ["step_mutes", "step_pins", "step_floor", "step_removals", "step_history", "step_losses"],
     ),
-    "speakers": ([], "ABC", ["step_speakers"]),
+    "speakers": ([], "ABC", ["step_speakers", "step_weak"]),
     "firefox": ([], "AD", ["step_firefox"]),
     "linphone": ([], "AD", ["step_linphone"]),
     "gone": (["try_without_rtpengine", "try_without_bridge"], "ABD", ["step_deaths"]),

@@ -5,13 +5,17 @@ import statistics
 import threading
 import time
 
+from lab.gateway_call.lossy import Lossy
 from lab.gateway_call.parts import Parts, until
 from lab.gateway_call.trial import Trial
 
 # The room, and how often each of three browsers speaks, for how many seconds.
 ROOM, ROUNDS, SPEAKS = 3, 4, 4
-# The most that a new picture may take, in ms: from a change of the desk to the first frame that is decoded.
+# The most that a new picture may take, in ms: from a change of the desk to the first frame that is decoded. A watch
+# tells a change up to 50 ms late, which are missing here.
 MEDIAN_MS, MOST_MS = 100, 300
+# The share of packets that is lost on a weak way.
+LOST = 0.6
 # The most that may pass from a click to the change, in seconds: speech is heard after half a second.
 CHANGES = 3
 
@@ -67,10 +71,44 @@ class Following(Trial):
             print(f"      median {statistics.median(every)} ms, maximum {max(every)} ms")
         for one in browsers:
             one.press("microphone")
+        self.come_home(browsers, parts)
+
+    def come_home(self, browsers, parts):
+        """They join the room of all others again."""
+        for one in browsers:
             one.leave()
             one.at_page(self.parts.page)
             one.join()
         parts.stop("agent")
+
+    def step_weak(self):
+        """Two browsers whose packets are lost get fewer pictures, and have them back when none is lost."""
+        lossy, pair = Lossy(self.udp, self.tcp, 0.0), self.browsers()[:2]
+        parts = Parts(self.folder, lossy.udp, lossy.tcp, self.parts.control, first_member=750_000)
+        self.others.append(parts)
+        parts.start("agent")
+        for one in pair:
+            one.leave()
+            one.at_page(parts.page, room=ROOM)
+            one.join()
+        for one in pair:
+            self.sees(one, "over another network", without="C")
+        lossy.share, lossy.ways = LOST, ["down"]
+        shown = lambda: [one.shows_now() for one in pair]
+        says = lambda: [one.says() for one in pair]
+        took = self.comes(lambda: not self.small(pair), f"{LOST:.0%} lost to them: no picture is sent", self.rows, 40)
+        self.comes(lambda: all("loses packets" in text for text in says()), "and the pages say why", says)
+        lossy.share = 0.0
+        back = self.comes(lambda: all(len(text.strip("-")) == 1 for text in shown()), "they come back", shown, 60)
+        print(f"      gone after {took or 0:.1f} s, back after {back or 0:.1f} s")
+        self.come_home(pair, parts)
+
+    def small(self, browsers):
+        """The slots of these that show somebody, but for their stages."""
+        members = [str(one.joined["member"]) for one in browsers]
+        rows = [row.split() for row in self.rows()]
+        slots = [row[1] for row in rows if row[0] == "slot" and row[2] in members and row[3] != "0"]
+        return [row for row in rows if row[0] == "sub" and row[1] in slots]
 
     def speaks(self, browsers, at, watch):
         """One unmutes itself and speaks for a while: the others see it. After how many ms, where they didn't before."""

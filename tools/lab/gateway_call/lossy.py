@@ -27,6 +27,8 @@ class Lossy:
         self.udp, self.tcp = self.near.getsockname()[1], self.listener.getsockname()[1]
         self.far, self.engines = {}, {}
         self.count = {"up": 0, "up lost": 0, "down": 0, "down lost": 0}
+        # The ways on which packets are lost.
+        self.ways = ["up", "down"]
         threading.Thread(target=self.pass_packets, daemon=True).start()
         threading.Thread(target=self.pass_lines, daemon=True).start()
 
@@ -60,7 +62,7 @@ class Lossy:
         # RTCP isn't lost: the second octet of its packets is 192 to 223.
         if 192 <= data[1] <= 223:
             return False
-        lost = self.random.random() < self.share
+        lost = self.random.random() < self.share and way in self.ways
         self.count[way] += 1
         self.count[way + " lost"] += lost
         return lost
