@@ -149,8 +149,8 @@ class Staging(Trial):
         """Each of eight pages speaks once."""
         front, _, pages = self.model = self.at_model(800_000)
         members = [one.told["member"] for one in pages]
-        four = lambda: all(len(seen) == 3 for seen in shown(front.rows()).values())
-        self.comes(four, "each sees three of the others", lambda: shown(front.rows()))
+        three = lambda: all(len(seen) == 3 for seen in shown(front.rows()).values())
+        self.comes(three, "each sees three of the others", lambda: shown(front.rows()))
         seen = Seen(front)
         for at, one in enumerate(pages):
             front.speaking = {one.ssrc}
@@ -186,7 +186,7 @@ class Staging(Trial):
         number = front.do(f"mute {muted.ssrc}").split()[1]
         version = front.log.version
         front.do(f"pin {ROOM} {pinned.ssrc + CAMERA}")
-        once = lambda: all(pinned.ssrc + CAMERA not in front.rows().subs.values() for _ in (1,))
+        once = lambda: pinned.ssrc + CAMERA not in front.rows().subs.values()
         self.comes(once, "a picture that is pinned is in no other slot", lambda: front.rows().subs, 3)
         for speaker in pages[5], pages[6], pages[7], pages[0], pages[1]:
             front.speaking = {speaker.ssrc}
