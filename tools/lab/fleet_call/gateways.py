@@ -38,7 +38,8 @@ class Engine(Answering):
             return {"sdp": offer_of([f"m=audio {next(self.ports)} RTP/AVPF 0 96", "a=ice-ufrag:x", "a=setup:actpass"])}
         if words["command"] == "query":
             self.calls[call] = self.calls.get(call, 0) + 1
-            return {"tags": {"browser": {"medias": [{"streams": [{"stats": {"packets": self.calls[call]}}]}]}}}
+            stats = {"packets": self.calls[call], "errors": 0}
+            return {"tags": {"browser": {"medias": [{"streams": [{"stats": stats}]}]}}}
         if words["command"] == "delete":
             self.calls.pop(call, None)
         return {"calls": []} if words["command"] == "list" else {}
