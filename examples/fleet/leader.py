@@ -4,6 +4,7 @@ It has put the key `leader` under its lease, where nobody had. Each change that 
 key is still that one: an agent that was late, and is a leader no longer, changes nothing.
 """
 
+import concurrent.futures
 import threading
 import time
 
@@ -13,8 +14,8 @@ from refused import Refused
 
 # After how many seconds a refused room is tried again, and a bridge that runs without its agent is asked again.
 AGAIN, ASKS = 5, 2
-# How many rooms are changed at once: etcd takes 128 changes.
-AT_ONCE = 100
+# How many rooms are changed at once: etcd takes 128 changes. And how many such changes are made at once.
+AT_ONCE, HANDS = 100, 8
 # How many seconds a room stays without a member, unless an operator has added it.
 EMPTY = 10
 TOO_MANY = 429
@@ -27,6 +28,8 @@ class Leader:
         self.woken, self.late = threading.Event(), threading.Event()
         # The bridges whose agents are late: when they are asked again, and what was seen of them last.
         self.missing = {}
+        # Those who make its changes.
+        self.hands = concurrent.futures.ThreadPoolExecutor(HANDS)
         self.copy.heard.append(self.hears)
 
     def hears(self, key):
@@ -79,8 +82,9 @@ class Leader:
                 elif room not in known.held and not self.is_settled(record, known) and len(later) < 10 * AT_ONCE:
                     self.plan(room, record, known, later)
         rooms = list(later)
-        for first in range(0, len(rooms), AT_ONCE):
-            self.change({room: later[room] for room in rooms[first : first + AT_ONCE]}, only_if)
+        parts = [rooms[first : first + AT_ONCE] for first in range(0, len(rooms), AT_ONCE)]
+        # At once: an etcd that is slow would make each of them a wait.
+        list(self.hands.map(lambda some: self.change({room: later[room] for room in some}, only_if), parts))
         for room, revision in ended:
             self.copy.end_room(room, revision)
 
