@@ -26,11 +26,11 @@ import urllib.error
 import urllib.request
 
 from body import FLAG, ROOM, text, whole
-from bridge import MEMBERS
 from desk import in_words
 from fleet_rooms import LEAST
 from fleet_secret import signed
 from known import NEW
+from past import MEMBERS
 from refused import Refused
 from server import Followed, Handler
 

@@ -8,21 +8,21 @@ import threading
 import time
 
 from desk import GONE
-from kept import ROW, by_room, change_of, commands_of, groups_of
+from kept import ROW, by_room, change_of, commands_of, groups_of, whole_of
+from made import further
+from past import LOOKED_AT, MEMBERS, MOVING, History, Past, Pasts, lines_of
 from printable import printable
 from refused import Refused
 from seat import Seat
 
-# A member's number is its room's times this, and more: no two rooms of a fleet have a member of one number.
-MEMBERS = 1000
 # After how many seconds a bridge that has told nothing is asked.
 HEARTBEAT = 1
 # A room's rows are put whole where there are so many changes to them, or where these have more octets than the rows,
 # and than so many.
 MOST_CHANGES, LEAST_OCTETS = 64, 2000
-# What etcd has of a room: its rows, the commands that make them, how many changes to the last whole there are, and
-# their octets.
-Kept = collections.namedtuple("Kept", "rows commands count octets")
+# What etcd has of a room: its rows and its past, the lines that make them, how many changes to the last whole there are,
+# and their octets.
+Kept = collections.namedtuple("Kept", "rows past lines count octets")
 
 
 def drawn():
@@ -56,6 +56,11 @@ class Bridge:
         self.empty, self.may_stop = {}, False
         # Whether the agent has lost the others, and which rooms have gone elsewhere since.
         self.is_cut, self.left = False, set()
+        # What operators did last, and what tells of that at the first look: it takes the bridge, and answers what etcd
+        # has of its rooms.
+        self.pasts, self.remembered = Pasts(self.desk), lambda bridge: {}
+        # Why rooms were brought by their rows alone.
+        self.alone = {}
 
     def see(self):
         """Sees the desk as it is: it is read where a call was told."""
@@ -82,33 +87,50 @@ class Bridge:
         strange = next((row for row in rows if row not in self.good and not ROW.fullmatch(row)), None)
         if strange is not None:
             raise Refused(f"Bridge {self.name} says what is no row: {printable(strange[:80])}")
-        if version < self.version:
-            self.is_anew, self.kept = True, {}
-        self.version, self.rooms, self.good, self.seen = version, by_room(rows), set(rows), time.monotonic()
+        rooms = by_room(rows)
+        self.follow(rooms, version)
+        self.version, self.rooms, self.good, self.seen = version, rooms, set(rows), time.monotonic()
         self.desk.is_new = False
         for room, member in list(self.doubtful):
             self.doubtful.discard((room, member))
             if member in self.members(room) and self.desk.group([f"remove-member {member}"]) is None:
                 self.look()
 
+    def follow(self, rooms, version):
+        """Sees which calls of operators have led to these rows."""
+        if version < self.version:
+            self.is_anew, self.kept, self.rooms, self.pasts.of = True, {}, {}, {}
+        if self.remembered:
+            self.pasts.of, self.remembered = self.remembered(self), None
+        calls = None if version < self.version else self.desk.taken(self.version, version)
+        history = None
+        if calls is None or any(call.startswith(MOVING) for _, _, call in calls):
+            history = History(self.desk.ask(f"history {LOOKED_AT}", is_end), version)
+        self.pasts.follow(self.rooms, rooms, calls, history)
+
+    def lines(self, room):
+        """What etcd is to have of a room."""
+        past = self.pasts.of.get(room)
+        return lines_of(past) if past else commands_of(self.rooms[room])
+
     def is_kept(self, room):
-        """Whether etcd has a room's rows as they are. Their members' places are those of all rooms, and don't count."""
-        kept, rows = self.kept.get(room), self.rooms[room]
-        if kept is not None and kept.rows != rows and kept.commands == commands_of(rows):
-            kept = self.kept[room] = kept._replace(rows=rows)
-        return kept is not None and kept.rows == rows
+        """Whether etcd has a room as it is. Its members' places are those of all rooms, and don't count."""
+        kept, rows, past = self.kept.get(room), self.rooms[room], self.pasts.of.get(room)
+        if kept is not None and (kept.rows != rows or kept.past is not past) and kept.lines == self.lines(room):
+            kept = self.kept[room] = kept._replace(rows=rows, past=past)
+        return kept is not None and kept.rows == rows and kept.past is past
 
     def changes_to_keep(self, room):
-        """What etcd has to be told of a room's rows: None and a list of all groups, or the number of a change and that.
-        And what is kept then."""
-        rows, commands = self.rooms[room], commands_of(self.rooms[room])
+        """What etcd has to be told of a room: None and all lines that make it, or the number of a change and that. And
+        what is kept then."""
+        rows, past, lines = self.rooms[room], self.pasts.of.get(room), self.lines(room)
         kept = self.kept.get(room)
-        change = kept and change_of(kept.commands, commands)
+        change = kept and change_of(kept.lines, lines)
         if change:
             octets = kept.octets + len(str(change))
-            if kept.count < MOST_CHANGES and octets < max(LEAST_OCTETS, sum(map(len, commands))):
-                return kept.count, change, Kept(rows, commands, kept.count + 1, octets)
-        return None, groups_of(commands), Kept(rows, commands, 0, 0)
+            if kept.count < MOST_CHANGES and octets < max(LEAST_OCTETS, sum(map(len, lines))):
+                return kept.count, change, Kept(rows, past, lines, kept.count + 1, octets)
+        return None, whole_of(lines), Kept(rows, past, lines, 0, 0)
 
     def rows(self, room, kind):
         """The words of a room's rows of a kind."""
@@ -118,30 +140,61 @@ class Bridge:
         return [int(row[2]) for row in self.rows(room, "member")]
 
     def bring(self, rooms):
-        """Makes rooms by their groups, which make nothing else. The refusal of each, which leaves nothing behind, or
-        None."""
+        """Makes rooms as they were kept. The refusal of each, which leaves nothing behind, or None. Where the calls of
+        operators can't be made again, `alone` says why: the room has its rows alone."""
+        self.alone = {}
         for room in rooms:
             self.kept.pop(room, None)
             if room in self.rooms:
                 # Half of a move that was cut.
                 self.remove(room)
+        refusals = self.make({room: one.base for room, one in rooms.items()})
+        self.alone = {room: why for room, why in refusals.items() if why and rooms[room].calls}
+        self.call_again({room: one for room, one in rooms.items() if refusals[room] is None})
+        for room in self.alone.keys() & self.rooms.keys():
+            self.remove(room)
+        if self.alone:
+            refusals |= self.make({room: rooms[room].rows for room in self.alone})
+            self.look()
+        return refusals
+
+    def make(self, rooms):
+        """Makes rooms by their commands. The refusal of each, or None."""
         # All at once: a bridge that has little of its processor would make each answer a wait.
-        groups = [group for one in rooms.values() for group in one]
-        if not groups:
-            return {}
-        said = iter(self.desk.ask("\n".join(groups), count=len(groups)))
-        refusals = {}
-        for room, one in rooms.items():
+        groups, refusals = {room: groups_of(commands) for room, commands in rooms.items()}, {}
+        lines = [group for one in groups.values() for group in one]
+        said = iter(self.desk.ask("\n".join(lines), count=len(lines)) if lines else ())
+        for room, one in groups.items():
             answers = [next(said) for _ in one]
             refusals[room] = next((each for each in answers if not each.startswith("ok ")), None)
             if refusals[room] and any(each.startswith("ok ") for each in answers):
                 self.remove(room)
-        self.look()
         return refusals
+
+    def call_again(self, rooms):
+        """Carries the calls of operators out, on rooms that have just been made: the oldest one first, each by itself.
+        Those of a room have to make the rows that it had."""
+        calls = sorted((number, room, call) for room, one in rooms.items() for number, call in one.calls)
+        said = self.desk.ask("\n".join(call for _, _, call in calls), count=len(calls)) if calls else []
+        made = {room: [] for _, room, _ in calls}
+        for (_, room, call), answer in zip(calls, said):
+            if answer.startswith("ok "):
+                made[room].append((int(answer[3:]), further(call)))
+            else:
+                self.alone.setdefault(room, f"`{call}` is answered `{answer}`")
+        # They are operators' still.
+        numbers = {number for some in made.values() for number, _ in some}
+        self.desk.own -= numbers
+        self.pasts.of |= {room: Past([*map(further, rooms[room].base)], some) for room, some in made.items()}
+        self.look()
+        for room in made.keys() - self.alone.keys():
+            # Where somebody else has done something since, that is seen as at any look.
+            if self.version == max(numbers) and commands_of(self.rooms[room]) != [*map(further, rooms[room].rows)]:
+                self.alone[room] = "the desk has other rows then"
 
     def remove(self, room):
         self.desk.group([f"remove-room {room}"])
-        for one in self.rooms, self.kept, self.empty:
+        for one in self.rooms, self.kept, self.empty, self.pasts.of:
             one.pop(room, None)
 
     def seconds_empty(self, room):

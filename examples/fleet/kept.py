@@ -7,6 +7,8 @@ import re
 
 # A group has at most so many commands, and its line so many octets.
 MOST_COMMANDS, MOST_OCTETS = 64, 4096
+# How a line begins that is an operator's call, behind which are its number and its words.
+CALL = "call "
 # A stream begins anew at its FIRST_SEQ. It is moved on by so much, or a receiver might take new packets for old ones.
 FURTHER = 1000
 
@@ -115,21 +117,33 @@ def change_of(before, after):
     return {"gone": [one for one in before if one not in has], "come": come}
 
 
-def with_changes(groups, changes):
-    """The groups that make a room, after some changes. Raises Unmade where something is no change, or no groups."""
-    if not changes:
-        return groups
-    if not isinstance(groups, list):
+def whole_of(lines):
+    """What makes a room, as etcd has it: the commands among these lines as groups, and then operators' calls."""
+    calls = [one for one in lines if one.startswith(CALL)]
+    return groups_of([one for one in lines if not one.startswith(CALL)]) + calls
+
+
+def lines_in(whole):
+    """The lines of such a whole. Raises Unmade where something is no list of them."""
+    if not isinstance(whole, list):
         raise Unmade
-    commands = [" ".join(words) for group in groups for words in makings(group)]
+    is_call = lambda one: isinstance(one, str) and one.startswith(CALL)
+    return [line for one in whole for line in ([one] if is_call(one) else map(" ".join, makings(one)))]
+
+
+def with_changes(whole, changes):
+    """What makes a room, after some changes. Raises Unmade where something is no change, or no such whole."""
+    if not changes:
+        return whole
+    lines = lines_in(whole)
     for change in changes:
         if not is_change(change):
             raise Unmade
         gone = set(change["gone"])
-        commands = [one for one in commands if one not in gone]
+        lines = [one for one in lines if one not in gone]
         for place, one in change["come"]:
-            commands.insert(place, one)
-    return groups_of(commands)
+            lines.insert(place, one)
+    return whole_of(lines)
 
 
 def is_change(one):

@@ -5,7 +5,7 @@
     /confbridge/fleet/bridges/NAME       a bridge that runs, whatever becomes of its agent
     /confbridge/fleet/draining/NAME      a bridge that gets no new room
     /confbridge/fleet/rooms/ROOM         where a room is, and where it goes
-    /confbridge/desks/ROOM               the groups that make the room's rows again
+    /confbridge/desks/ROOM               the groups and calls that make the room's rows again
     /confbridge/desks/ROOM/NUMBER        a change to them, the first one first
 
 A room is `on` a bridge, and goes `to` one. Only a bridge's own agent says that a room is on it, once its desk has it.
@@ -17,7 +17,8 @@ import collections
 import re
 
 from etcd import ANY, Etcd
-from kept import Unmade, room_made, with_changes
+from kept import Unmade, groups_of, lines_in, with_changes
+from past import restored
 from refused import Refused
 
 FLEET, DESKS = "/confbridge/fleet/", "/confbridge/desks/"
@@ -205,14 +206,18 @@ class Store(Etcd):
         """Changes a room, if it has this revision, and other keys with it. The revision of that, or 0."""
         return self.swap([(f"{FLEET}rooms/{room}", record, revision), *others])
 
-    def groups(self, rooms):
-        """The groups that make rooms again, by room: None where what is kept would do anything else."""
+    def restored(self, rooms):
+        """What makes rooms again, by room: None where what is kept would do anything else."""
         found, rooms = {}, list(rooms)
         for first in range(0, len(rooms), MOST_READ):
             some = rooms[first : first + MOST_READ]
             kept = self.folders([f"{DESKS}{room}" for room in some])
-            found |= {room: groups_of_room(room, *one) for room, one in zip(some, kept)}
+            found |= {room: restored_of(room, *one) for room, one in zip(some, kept)}
         return found
+
+    def groups(self, rooms):
+        """The groups that make the rows of rooms, without a call: None where what is kept does anything else."""
+        return {room: one and groups_of(one.rows) for room, one in self.restored(rooms).items()}
 
 
 def gone(room):
@@ -220,8 +225,9 @@ def gone(room):
     return [(f"{DESKS}{room}", None, ANY), (f"{DESKS}{room}/", None, ANY)]
 
 
-def groups_of_room(room, kept, changes):
+def restored_of(room, kept, changes):
     try:
-        return room_made(room, with_changes([f"group add-room {room}"] if kept is None else kept, changes))
+        whole = with_changes([f"group add-room {room}"] if kept is None else kept, changes)
+        return restored(room, lines_in(whole))
     except Unmade:
         return None

@@ -9,8 +9,9 @@ import threading
 from desk import BUSY, GONE, Desk
 from refused import Refused
 
-# How many octets are taken at once, and how many calls are remembered.
-OCTETS, CALLS = 65536, 64
+# How many octets are taken at once. How many calls are remembered: others', those that wait to be looked at, and the
+# numbers of the agent's own.
+OCTETS, CALLS, FRESH, OWN = 65536, 64, 1024, 16384
 
 
 class Seat(Desk):
@@ -19,8 +20,9 @@ class Seat(Desk):
     def __init__(self, address):
         self.address, self.lock, self.stream, self.octets, self.is_new = address, threading.Lock(), None, b"", False
         # The number of the last call that was told, and the last ones that others made: their numbers, operators and
-        # words. The numbers of those that the agent made itself.
-        self.told, self.others, self.own = 0, collections.deque(maxlen=CALLS), collections.deque(maxlen=CALLS)
+        # words. All that nobody has looked at yet, and the numbers of those that the agent made itself.
+        self.told, self.others = 0, collections.deque(maxlen=CALLS)
+        self.fresh, self.own = collections.deque(maxlen=FRESH), set()
         # What wakes who waits for a call.
         self.bell, self.rope = socket.socketpair()
         self.bell.setblocking(False)
@@ -35,12 +37,18 @@ class Seat(Desk):
             except OSError as why:
                 self.close()
                 raise Refused(BUSY if str(why) == "busy" else GONE) from why
-            self.own += [int(one[3:]) for one in said if one.startswith("ok ")]
+            self.own |= {int(one[3:]) for one in said if one.startswith("ok ")}
+            if len(self.own) > OWN:
+                self.own = {*sorted(self.own)[OWN // 2 :]}
             return said
 
     def connect(self):
         self.stream, self.octets = socket.create_connection(self.address, 10), b""
         self.told, self.is_new = int(self.asked("watch", lambda said: True, 1)[0][4:] or 0), True
+        self.fresh.clear()
+        if self.told < max(self.own, default=0):
+            # It is another bridge.
+            self.own.clear()
 
     def asked(self, line, is_last, count):
         self.stream.sendall(f"{line}\n".encode())
@@ -68,12 +76,22 @@ class Seat(Desk):
     def is_call(self, line):
         """Whether a line tells of a call."""
         word, *more = line.split(" ", 3)
-        if word != "call" or len(more) != 3 or not more[0].isdigit():
+        if word != "call" or len(more) != 3 or not (more[0] + more[1]).isdigit():
             return False
         self.told = max(self.told, int(more[0]))
+        self.fresh.append((int(more[0]), int(more[1]), more[2]))
         if int(more[0]) not in self.own:
             self.others.append(more)
         return True
+
+    def taken(self, after, version):
+        """The calls of others after one version up to another one. None where some of them haven't been told."""
+        told = {one[0]: one for one in self.fresh}
+        if self.is_new or any(one not in told and one not in self.own for one in range(after + 1, version + 1)):
+            return None
+        while self.fresh and self.fresh[0][0] <= version:
+            self.fresh.popleft()
+        return [one for one in told.values() if after < one[0] <= version and one[0] not in self.own]
 
     def hears(self):
         """Takes what the bridge has told meanwhile."""

@@ -8,6 +8,9 @@ Manifests are read by kubectl and compared with the settings, images and units t
 closes pods, tasks and units. The units' programs run with what the units take from them. Kamailio's dispatcher finds a
 room's bridge.
 
+What operators do travels with a room: its bridge is killed, its agent is killed, it moves, and each of their calls can
+be undone and reverted where it is then. On desks of calls that are drawn what is kept has to make the rows.
+
 An agent is killed while its bridge runs, and the leader's stands still: no room goes elsewhere. A machine is cut off,
 and says which calls are lost. Signalling follows a room. A watch of etcd ends, and its revisions are compacted. 10,000
 changes of rooms have to leave a database below 20 MB.
@@ -32,6 +35,7 @@ from lab.fleet_call.fleet import Fleet
 from lab.fleet_call.keeping import Keeping
 from lab.fleet_call.manifests import Manifests
 from lab.fleet_call.memory import Memory
+from lab.fleet_call.pasts import Drawn
 from lab.waits import carried_out, within
 from operators.shared import add_program, release_program
 
@@ -48,6 +52,7 @@ def options(parser):
 
 
 PARTS = [
+    (Drawn, [], ["step_drawn"]),
     (Keeping, [], ["step_round_trip", "step_refusals", "step_lines", "step_large"]),
     (Manifests, [], [
         "step_kubernetes", "step_pods", "step_compose", "step_podman", "step_nomad", "step_ports_of_job", "step_units",
@@ -56,7 +61,8 @@ PARTS = [
     (Memory, ["etcd"], ["step_changes", "step_watch", "step_many", "step_database"]),
     (Fleet, ["etcd"], [
         "step_opens", "step_bodies", "step_secret", "step_questions", "step_leave", "step_halves", "step_kill",
-        "step_etcd_lines", "step_empty", "step_move", "step_cut_moves", "step_agent_alone", "step_lease_lost",
+        "step_etcd_lines", "step_empty", "step_move", "step_past", "step_past_and_agent", "step_past_of_two",
+        "step_past_refused", "step_past_bounded", "step_cut_moves", "step_agent_alone", "step_lease_lost",
         "step_leader", "step_follows", "step_cut_off", "step_gateways", "step_etcd", "step_full_and_busy",
         "step_machine", "step_dispatcher", "step_drain",
     ]),

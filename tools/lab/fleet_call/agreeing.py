@@ -38,7 +38,9 @@ OF_UNIT = (
 VALUED = ("LimitNOFILE=", "TasksMax=", "RestartSec=")
 MOST_EXPOSED = 2.0
 # What the heads of the manifests have to say: the ports that stay closed to others.
-CLOSED = {"kubernetes.yaml": (7000, 7080, 8090, 8091, 2223, 2224, 8095, 5060, 5004), "confbridge.nomad": (7000, 8095, 5004)}
+CLOSED = {
+    "kubernetes.yaml": (7000, 7080, 8090, 8091, 2223, 2224, 8095, 5060, 5004), "confbridge.nomad": (7000, 8095, 5004),
+}  # fmt: skip
 
 
 def port_of(address):

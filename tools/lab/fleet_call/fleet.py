@@ -8,6 +8,7 @@ from checks.bridges import together
 from lab.fleet_call.dispatcher import Dispatched, Sink
 from lab.fleet_call.failing import Failing
 from lab.fleet_call.gateways import Gatewayed
+from lab.fleet_call.operated import Operated
 from lab.fleet_call.parts import LEASE, ROOMS, AgentPart, BridgePart, EtcdPart, commands_of, groups_of, until
 from lab.fleet_call.strangers import Strangers
 from lab.gateway_call.bodies import are_refused
@@ -31,8 +32,10 @@ def without_firsts(rows):
     return told
 
 
-class Fleet(Dispatched, Failing, Gatewayed, Strangers):
+class Fleet(Dispatched, Failing, Gatewayed, Operated, Strangers):
     """A fleet of bridges."""
+
+    without_firsts = staticmethod(without_firsts)
 
     def __init__(self, check, folder, program):
         self.check, self.folder, self.parts, self.ports = check, folder, [], iter(range(20_000, 60_000))
@@ -140,9 +143,11 @@ class Fleet(Dispatched, Failing, Gatewayed, Strangers):
 
     def lost(self, names, kill, most, text):
         """Kills some bridges, and sees their rooms come back while all others stay as they are."""
+        self.comes(self.are_kept, "all rooms are kept")
         before, gone = self.desks(), {}
         for name in names:
             gone |= before.pop(name)[0]
+        taken = self.given(gone)
         kill()
         rooms = [*gone, *(room for others, _ in before.values() for room in others)]
         text = f"{text}: its {len(gone)} rooms stand elsewhere, each on one"
@@ -151,10 +156,10 @@ class Fleet(Dispatched, Failing, Gatewayed, Strangers):
         for name, (others, version) in before.items():
             came = [room for room in after[name][0] if room not in others]
             same = all(after[name][0][room] == rows for room, rows in others.items())
-            given = sum(len(groups_of(commands_of(after[name][0][room]))) for room in came)
+            given = sum(taken.get(room, 0) for room in came)
             self.check(same, f"the {len(others)} other rooms of {name} are as they were")
             seen = after[name][1] - version
-            self.check(seen == given, f"its desk took {given} groups, and no other change", seen)
+            self.check(seen == given, f"its desk took {given} groups and calls, and no other change", seen)
         all_rows = {room: rows for rooms, _ in after.values() for room, rows in rooms.items()}
         same = [room for room in gone if without_firsts(all_rows[room]) == without_firsts(gone[room])]
         self.check(len(same) == len(gone), "each has all its members, sources, slots, mutes and pins", (gone, all_rows))
@@ -174,7 +179,7 @@ class Fleet(Dispatched, Failing, Gatewayed, Strangers):
 
     def step_move(self):
         room, desks = self.one_on("b"), self.desks()
-        rows = desks["b"][0][room]
+        rows, calls = desks["b"][0][room], self.calls(room)
         said = self.agents["c"].ask("move", room=room, to="a")
         self.told(said, 200, "'bridge': 'a'", f"room {room} moves from b to a")
         self.comes(lambda: self.places()[room] == ["a"], "it stands on a alone")
@@ -182,8 +187,10 @@ class Fleet(Dispatched, Failing, Gatewayed, Strangers):
         self.check(without_firsts(now) == without_firsts(rows), "it has all its rows", (rows, now))
         after = self.desks()
         steps = [after[name][1] - desks[name][1] for name in "abc"]
-        self.check(steps == [1, 1, 0], "that was one group on each", steps)
-        self.bridges["a"].do(f"undo {after['a'][1]}")
+        good = steps == [1 + len(calls), 1, 0]
+        self.check(good, f"that was one group on each, and {len(calls)} calls of an operator", steps)
+        for back in range(1 + len(calls)):
+            self.bridges["a"].do(f"undo {after['a'][1] + back}")
         self.comes(lambda: room not in self.records(), "an operator who undoes the group has removed the room")
         for text, words, status, why in (
             ("a room that isn't there", {"room": 999, "to": "a"}, 404, "There is no room 999"),

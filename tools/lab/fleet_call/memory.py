@@ -7,10 +7,11 @@ import threading
 from checks.bridges import together
 from lab.fleet_call.parts import EtcdPart, commands_of, groups_of, until
 
-from agent import MOST_KEPT, MOST_OCTETS as MOST_AT_ONCE, Agent, portions  # noqa: E402
+from agent import Agent  # noqa: E402
 from bridge import Bridge  # noqa: E402
 from copied import Copy  # noqa: E402
 from etcd import ANY, Ended  # noqa: E402
+from keeping import MOST_KEPT, MOST_OCTETS as MOST_AT_ONCE, portions  # noqa: E402
 from kept import change_of, with_changes  # noqa: E402
 from known import FLEET, NEW  # noqa: E402
 

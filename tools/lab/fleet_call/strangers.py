@@ -10,6 +10,8 @@ import urllib.request
 from checks.bridges import status_of
 from lab.fleet_call.parts import ROOMS_OF_SOURCE, SECRET, USER, Store, signature, signed, until
 
+from known import NEW  # noqa: E402
+
 # How many strangers ask, and the first of the rooms that they ask for.
 COUNT, FIRST = 32, 5001
 # What somebody writes to etcd in place of a room's groups. The room is 4242.
@@ -18,8 +20,20 @@ NO_ROWS = [
     ["group add-room 4242\nstop"], ["group add-room 4242 / add-member 7 1 127.0.0.1:9 pcmu 7 0 0"],
     ["group add-room 4243"], ["group add-room 4242 / mute 1"], [7], [], ["group add-room 4242 / watch"],
 ]  # fmt: skip
+# And in place of an operator's call, behind a member of the room that has a voice.
+MADE = "group add-room 4242 / add-member 7 4242 127.0.0.1:9 pcmu 70 0 0 / add-source 71 7 audio"
+NO_CALLS = [
+    "stop", "undo 1", "revert 1", "watch", "remove-room 4242", "add-room 4243", "move-member 7 1", "mute 72",
+    "mute 071", "unmute 71", "remove-member 1001", "remove-member 8", "take-floor 1", "unpin 1", "mute 71\nstop",
+    "add-member 8 1 127.0.0.1:8 pcmu 8 0 0", "add-member 8 4242 127.0.0.1:9 pcmu 8 0 0", "group mute 71 / stop",
+    "group mute 71 / remove-room 1", "group mute 71 / mute 71", "group", "",
+    " / ".join(["group mute 71", *32 * ["unmute 71", "mute 71"]]),
+]  # fmt: skip
+NO_ROWS += [[MADE, f"call 1 {one}"] for one in NO_CALLS] + [[MADE, f"call {one}mute 71"] for one in ("", "-1 ", "x ")]
+NO_ROWS += [["call 1 mute 71"], [MADE, *(f"call {at} {'un' * (at % 2)}mute 71" for at in range(66))]]
 # And as a change of a room.
 NO_CHANGES = [
+    {"gone": [], "come": [[1, "call 1 stop"]]}, {"gone": [], "come": [[1, "call 1 remove-room 1"]]},
     {"gone": [], "come": [[1, "stop"]]}, {"gone": [], "come": [[1, "add-room 4243"]]}, {"gone": [], "come": "mute 1"},
     {"gone": ["add-room 4242"], "come": [[0, "undo 1"]]}, {"gone": [7], "come": []}, {"come": []}, "stop", None,
     {"gone": [], "come": [[0, "add-room 4242 / stop"]]}, {"gone": [], "come": [[-1, "add-room 4242"]]},
@@ -136,6 +150,7 @@ class Strangers:
         self.written_groups(store)
         self.written_records(store)
         self.check(self.desks() == before, "no desk has changed", (before, self.desks()))
+        self.written_call(store)
         room = next(iter(self.records()))
         put(store, f"/confbridge/fleet/draining/{self.places()[room][0]}", {"move": "yes"})
         put(store, "/confbridge/fleet/draining/a", {"move": True})
@@ -171,6 +186,14 @@ class Strangers:
         self.check(True, f"{len(NO_CHANGES)} things in place of a change: no bridge gets a line of them")
         for key in "fleet/rooms/4242", "desks/4242", "desks/4242/":
             store.swap([(f"/confbridge/{key}", None, None)])
+
+    def written_call(self, store):
+        """A room and a call in the form that agents give them."""
+        put(store, "/confbridge/desks/4242", [MADE, "call 1 mute 71"])
+        put(store, "/confbridge/fleet/rooms/4242", NEW | {"to": "c"})
+        self.comes(lambda: "mute 71" in self.rows(4242), "a room and a call of the right form are made")
+        self.bridges["c"].do("remove-room 4242")
+        self.comes(lambda: 4242 not in self.records(), "and removed")
 
     def written_records(self, store):
         """Values that are no records, and keys that are no rooms."""

@@ -8,6 +8,7 @@ nothing had happened (`history 0`). served.py has all commands, and takes longer
 """
 
 import asyncio
+import collections
 import contextlib
 import itertools
 import pathlib
@@ -15,7 +16,7 @@ import socket
 import sys
 import time
 
-MOST_ROOMS, MOST_MEMBERS = 64, 1024
+MOST_ROOMS, MOST_MEMBERS, MOST_CALLS = 64, 1024, 256
 
 
 class No(Exception):
@@ -27,6 +28,8 @@ class Desk:
         self.name, self.log, self.version = name, log, 0
         # Rooms with their members; members with their rooms and the rest of their rows; sources with their rows.
         self.rooms, self.members, self.sources, self.watching, self.looks = {}, {}, {}, set(), 0
+        # The last calls, as a history has them.
+        self.calls = collections.deque(maxlen=MOST_CALLS)
 
     def call(self, line):
         """The answer to a call, which is carried out as a whole or not at all."""
@@ -40,6 +43,7 @@ class Desk:
                 back()
             return f"no {self.version} {why}"
         self.version += 1
+        self.calls.append(f"{self.version} 0 {line}")
         for text in (back.__doc__ for back in undo):
             if text:
                 self.log.write(f"{time.monotonic()} {self.name} {text}\n")
@@ -94,15 +98,22 @@ class Desk:
         lines += [f"source {ssrc} {' '.join(self.sources[ssrc])}" for ssrc in sorted(self.sources, key=int)]
         return "\n".join([*lines, f"end {self.version}"])
 
+    def answer(self, line):
+        if line == "watch":
+            return f"end {self.version}"
+        if line.startswith("history "):
+            calls = list(self.calls)[-int(line[8:]) :] if line != "history 0" else []
+            return "\n".join([*calls, f"end {self.version}"])
+        return self.shown() if line == "show" else self.call(line)
+
     async def serve(self, reader, writer):
         """A connection of an operator."""
         with contextlib.suppress(ConnectionError, asyncio.IncompleteReadError):
             while line := (await reader.readline()).decode().strip():
                 if line == "watch":
                     self.watching.add(writer)
-                said = f"end {self.version}" if line in ("watch", "history 0") else None
                 self.looks += line == "history 0"
-                said = self.shown() if line == "show" else said or self.call(line)
+                said = self.answer(line)
                 writer.write(f"{said}\n".encode())
                 for one in self.watching if said.startswith("ok ") else ():
                     one.write(f"call {self.version} 0 {line}\n".encode())
