@@ -134,15 +134,16 @@ class Agent(Keeping):
                     self.loses(bridge)
                 raise
             self.announce(bridge)
+            # Rooms that may be nowhere come first.
+            may_come = lambda one: one["to"] == bridge.name != one["on"] and (one["on"] is None or one["ready"])
+            coming = {room: one for room, one in self.records(bridge).items() if may_come(one[0])}
+            if coming:
+                self.bring(bridge, dict(list(coming.items())[:AT_ONCE]))
             here = {room: one for room, one in self.records(bridge).items() if one[0]["on"] == bridge.name}
             self.keep(bridge, here)
             for room, (record, revision) in here.items():
                 self.end_empty(bridge, room, record, revision)
             bridge.is_anew = False
-            may_come = lambda one: one["to"] == bridge.name != one["on"] and (one["on"] is None or one["ready"])
-            coming = {room: one for room, one in self.records(bridge).items() if may_come(one[0])}
-            if coming:
-                self.bring(bridge, dict(list(coming.items())[:AT_ONCE]))
             self.give_up(bridge)
             self.end_drain(bridge)
 

@@ -59,10 +59,10 @@ def restored(room, lines):
 def settled(base, calls, want):
     """The past of a room with these rows, by an older base and calls.
 
-    Calls that can't be carried out any more are given up, and so are those that make other rows than these. What they
-    did is a part of the base then.
+    Calls that can't be carried out any more are given up, and so are those that make other rows than these, or are too
+    long now. What they did is a part of the base then.
     """
-    calls = list(calls) if len(want) <= MOST_ROWS else []
+    calls = [one for one in calls if is_within(one[1])] if len(want) <= MOST_ROWS else []
     while calls:
         own = {key_of(one) for _, call in calls for one in parts_of(call) if one.split(" ")[0] not in TAKING}
         try:

@@ -5,10 +5,11 @@ import random
 from lab.fleet_call.parts import by_room, commands_of, groups_of
 from operators.models.desk import Log, made_line
 
-from kept import change_of, lines_in, whole_of, with_changes  # noqa: E402
+from kept import MOST_OCTETS, change_of, lines_in, whole_of, with_changes  # noqa: E402
 from known import restored_of  # noqa: E402
 from made import after, further  # noqa: E402
-from past import LOOKED_AT, MOST_CALLS, MOVING, History, Pasts, lines_of, restored  # noqa: E402
+from past import LOOKED_AT, MOST_CALL_OCTETS, MOST_CALLS, MOVING, History, Pasts, lines_of  # noqa: E402
+from past import restored, settled  # noqa: E402
 
 # How many desks are drawn, how many looks an agent takes at each, and of how many of a hundred calls of operators that
 # could travel so many have to. The desks are worse than any call: members come and go under one number all the time.
@@ -134,6 +135,29 @@ class Drawn:
         self.check(not wrong, text, wrong[:1])
         text = f"of {could} calls of operators that are in force {travel} travel"
         self.check(travel * 100 >= could * LEAST, text, travel)
+
+    def step_bounds(self):
+        """Calls that are too many, too large together, or too long alone once their streams begin further on."""
+        base = ["add-room 1", "add-member 7 1 10.0.0.1:9 pcmu 8 0 0", "add-source 9 7 audio"]
+        gains = [(at, f"set-gain 7 9 {at}") for at in range(MOST_CALLS + 10)]
+        rows = lambda calls: after(base, calls)[0]
+        past = settled(base, gains, rows(gains))
+        good = past.calls == gains[10:] and past.base == rows(gains[:10])
+        self.check(good, f"of {len(gains)} calls the last {MOST_CALLS} are kept, and the others are in the base", past)
+        slots = lambda first: " / ".join(f"add-slot {first + at} 7 {at} 7 1000000000" for at in range(16))
+        takes = lambda first: " / ".join(f"remove-slot {first + at}" for at in range(16))
+        large = [(at, f"group {slots(at)} / {takes(at)}") for at in range(20)]
+        past = settled(base, large, rows(large))
+        octets = sum(len(call) for _, call in past.calls)
+        good = past.calls == large[-len(past.calls) :] and octets <= MOST_CALL_OCTETS < octets + len(large[0][1])
+        self.check(good, f"of {len(large)} large calls {len(past.calls)} are kept, of {octets} octets", past)
+        adds = [f"add-member {10**9 + at} 1 10.0.0.{at}:5000 pcmu {2 * 10**9 + at} 9999 1" for at in range(64)]
+        adds = adds[: MOST_OCTETS // (len(adds[-1]) + len(" / "))]
+        long = f"group {' / '.join(adds)}"
+        few, far = ([(1, one), (2, "mute 9")] for one in (long, further(long)))
+        good = len(long) <= MOST_OCTETS < len(further(long)) and settled(base, few, rows(few)).calls == few
+        past = settled(base, far, rows(far))
+        self.check(good and past.calls == far[1:], "a call that no bridge would read isn't kept", (len(long), past))
 
     def close(self):
         pass
