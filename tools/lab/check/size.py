@@ -6,7 +6,8 @@ one that is killed and comes back, and with the leader's agent stopped for 20 s 
 
 Each time all members have to be in, and no room may be on two desks at any moment. The rooms of the dead machine have
 to be elsewhere a lease and two seconds after it was killed: two seconds after etcd has ended its lease. Agents and etcd
-together may take one core, and an agent reads what has changed and nothing else.
+together may take one core, and an agent reads what has changed and nothing else. Now and then an operator mutes a
+member: in the rooms of the dead machine these mutes are calls of their own where the rooms are then.
 
 Nothing of that rests on how fast the machine is. Seconds are those of the simulation's own clock: they are longer where
 its processes get less than a tenth of the processor time that they ask for, as the system counts it. Leases, and what
@@ -22,15 +23,16 @@ import pathlib
 import shutil
 import signal
 import statistics
-import subprocess
 import sys
 import tempfile
 import time
 
 from checks.bridges import seconds_of
 from lab.check.peers import Checks
+from lab.fleet_call.floor import floor_of
 from lab.fleet_call.machines import READS, Clock, Joining, Machine, Observer, Way, stays, twice
-from lab.fleet_call.parts import FLEET, LEASE, USER, EtcdPart
+from lab.fleet_call.operating import Operating
+from lab.fleet_call.parts import LEASE, EtcdPart
 
 NEEDS = "etcd; at its full size ten minutes a case on a machine with little other work, an hour on one with much"
 
@@ -43,17 +45,9 @@ HAPPENS, STOPPED = 10, 20
 # For how many seconds all may take to begin, and to settle; for how many of the machine's is seen what all takes while
 # nobody joins; and between two looks.
 BEGINS, SETTLES, STILL, PAUSE = 600, 120, 30, 0.2
-# How many single puts the floor is taken of, and what makes them.
-PUTS = 300
-PUTTING = """
-import sys
-sys.path += sys.argv[1:3]
-from etcd import ANY, Etcd
-store = Etcd([sys.argv[3]], (sys.argv[4], sys.argv[5]), 300)
-for at in range(int(sys.argv[6])):
-    store.swap([(f"/confbridge/floor/{at}", "x" * 200, ANY)])
-print(*__import__("os").times()[:2])
-"""
+# How many calls of operators there are for each join, and how many seconds before a machine is killed the last of those
+# was that travel for certain.
+OPERATED, CERTAIN = 0.1, 2
 
 
 def options(parser):
@@ -71,7 +65,7 @@ class Size:
         self.etcd.store.patience = READS
         self.way = self.begun(Way(folder, self.etcd.ports[0]))
         self.seen, self.clock = self.begun(Observer(self.etcd.store)), Clock(self.processes)
-        self.floor = self.floor_of(PUTS)
+        self.floor = floor_of(self.etcd)
         # How many seconds of this machine are one of the clock's: leases and what waits for etcd last as much longer.
         self.slower = max(1.0, 1 / self.clock.rate)
         print(f"  a second of the clock is {self.slower:.1f} of this machine's", flush=True)
@@ -118,9 +112,6 @@ class Size:
     def logs(self):
         return {one.name: one.log.read_text()[-600:] for one in self.machines}
 
-    def runs(self, machine):
-        return machine.agent.poll() is None
-
     def all_run(self):
         """Whether all agents and their bridges are known."""
         known = self.seen.known
@@ -132,23 +123,15 @@ class Size:
         stands = lambda one: one["on"] in bridges and one["to"] is None
         return records.keys() == set(rooms) and all(map(stands, records.values()))
 
-    def floor_of(self, count):
-        """The processor time of a single put, of who asks and of etcd."""
-        before = seconds_of(self.etcd.process)
-        words = [sys.executable, "-B", "-c", PUTTING, FLEET.parent, FLEET.parents[1] / "gateway", self.etcd.url, *USER]
-        done = subprocess.run([*words, str(count)], capture_output=True, text=True, check=True)
-        own = sum(map(float, done.stdout.split()))
-        return (own + seconds_of(self.etcd.process) - before) / count
-
     def processors(self):
         return {
-            "agents": sum(seconds_of(one.agent) for one in self.machines if self.runs(one)),
+            "agents": sum(seconds_of(one.agent) for one in self.machines if one.runs()),
             "etcd": seconds_of(self.etcd.process),
         }
 
     def looks(self):
         """How many looks there were of the machines that run, by their names."""
-        return {one.name: one.looks() for one in self.machines if self.runs(one)}
+        return {one.name: one.looks() for one in self.machines if one.runs()}
 
     def each_look(self):
         """What a look takes while nobody joins: of processors, and in octets."""
@@ -177,7 +160,9 @@ class Size:
         looks = self.looks()
         spent = {"agents": 0.0, "etcd": 0.0}
         joining = Joining(self.clock, self.machines, self.rooms, new, self.args.pace, self.args.seconds)
+        operating = Operating(self.clock, self.machines, OPERATED * self.args.pace, self.args.seconds)
         joining.start()
+        operating.start()
         self.clock.sleep(HAPPENS)
         self.count(spent, before)
         happens(leader)
@@ -190,6 +175,7 @@ class Size:
         with (self.folder / "rooms.log").open("a") as log:
             log.writelines(f"{killed} {tcp} x 0\n" for tcp, _ in dead.bridges.values())
         joining.join()
+        operating.join()
         self.comes(lambda: not any(one["on"] in dead.bridges for one in self.seen.rooms().values()), SETTLES)
         self.count(spent, before)
         seconds, looks = time.monotonic() - begun, self.looks_since(looks)
@@ -202,6 +188,7 @@ class Size:
         print(f"  {told:.0f} s of the clock, {seconds:.0f} s of the machine, {looks} looks at desks")
         self.judge(text, joining, spent, looks, octets, changes)
         self.judge_rooms(text, lost, dead, killed)
+        self.judge_calls(text, lost, operating, self.clock.at(killed) - CERTAIN)
         dead.rooms = [0] * len(dead.rooms)
         dead.start_models(0)
         dead.have_begun()
@@ -246,6 +233,13 @@ class Size:
         print(f"  the lease of {lasts} ended {over - killed:.1f} s after that was killed")
         doubled = twice(found)
         self.check(not doubled, f"{text}: no room is on two desks at any moment", doubled[:20])
+
+    def judge_calls(self, text, lost, operating, moment):
+        """Whether what operators did in the rooms of the machine that was killed is calls of their own elsewhere."""
+        desks = {name: tcp for one in self.machines for name, (tcp, _) in one.bridges.items()}
+        on = {room: desks[one["on"]] for room, one in self.seen.rooms().items()}
+        count, gone = operating.lost(moment, lost, on)
+        self.check(not gone, f"{text}: {count} mutes of operators in those rooms are calls of their own there", gone)
 
     def close(self):
         for part in reversed(self.parts):

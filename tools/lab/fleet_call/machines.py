@@ -182,6 +182,9 @@ class Machine:
     def processes(self):
         return [one.pid for one in (self.models, self.agent) if one and one.poll() is None]
 
+    def runs(self):
+        return self.agent.poll() is None
+
     def start_agent(self):
         self.agent = begun([sys.executable, "-B", FLEET, self.path], self.log)
 
@@ -246,7 +249,7 @@ class Joining(threading.Thread):
             # Where an answer was lost, the member may be there already: this one is another.
             words["voice"] = 2 * 10**9 + time.time_ns() % 10**9
             with self.lock:
-                running = [one.url for one in self.machines if one.agent.poll() is None]
+                running = [one.url for one in self.machines if one.runs()]
                 if not running:
                     return
                 url = self.drawn.choice(running)

@@ -1,4 +1,5 @@
-"""Stand-ins for the bridges of one machine: their desks over TCP, as far as joins and moves need them, without media.
+"""Stand-ins for the bridges of one machine: their desks over TCP, as far as joins, moves and mutes need them, without
+media.
 
     quick.py LOG TCP:UDP:FIRST:ROOMS:MEMBERS ..
 
@@ -16,7 +17,7 @@ import socket
 import sys
 import time
 
-MOST_ROOMS, MOST_MEMBERS, MOST_CALLS = 64, 1024, 256
+MOST_ROOMS, MOST_MEMBERS, MOST_CALLS = 64, 1024, 4096
 
 
 class No(Exception):
@@ -28,8 +29,8 @@ class Desk:
         self.name, self.log, self.version = name, log, 0
         # Rooms with their members; members with their rooms and the rest of their rows; sources with their rows.
         self.rooms, self.members, self.sources, self.watching, self.looks = {}, {}, {}, set(), 0
-        # The last calls, as a history has them.
-        self.calls = collections.deque(maxlen=MOST_CALLS)
+        # The sources that are muted, and the last calls, as a history has them.
+        self.mutes, self.calls = set(), collections.deque(maxlen=MOST_CALLS)
 
     def call(self, line):
         """The answer to a call, which is carried out as a whole or not at all."""
@@ -81,10 +82,17 @@ class Desk:
             room, rest = self.members.pop(given[0])
             self.rooms[room].discard(given[0])
             sources = {ssrc: one for ssrc, one in self.sources.items() if one[0] == given[0]}
+            muted = self.mutes & sources.keys()
+            self.mutes -= muted
             for ssrc in sources:
                 del self.sources[ssrc]
             undo.append(noted(lambda: (self.members.update({given[0]: (room, rest)}), self.rooms[room].add(given[0]))))
-            undo.append(noted(lambda: self.sources.update(sources)))
+            undo.append(noted(lambda: (self.sources.update(sources), self.mutes.update(muted))))
+        elif word == "mute":
+            self.demand(given[0] in self.sources, "4 NoSource")
+            self.demand(given[0] not in self.mutes, "10 Already")
+            self.mutes.add(given[0])
+            undo.append(noted(lambda: self.mutes.discard(given[0])))
         else:
             raise No("7 Unknown")
 
@@ -96,6 +104,7 @@ class Desk:
         lines = [f"room {room}" for room in sorted(self.rooms, key=int)]
         lines += [f"member {at} {one} {room} {rest}" for at, (one, (room, rest)) in enumerate(self.members.items())]
         lines += [f"source {ssrc} {' '.join(self.sources[ssrc])}" for ssrc in sorted(self.sources, key=int)]
+        lines += [f"mute {ssrc}" for ssrc in sorted(self.mutes, key=int)]
         return "\n".join([*lines, f"end {self.version}"])
 
     def answer(self, line):
