@@ -3,8 +3,8 @@
 A file of results begins with who measured (`by`), on which machine, what else ran (`while`), and the commit, if it is
 one for all rows. Behind an empty line stand the columns and the rows. A figure is what a tool printed, and nobody edits
 it in the document. A goal is in bold where it is missed. It is one for the figure where it has a unit, or where the row
-has no ratio or the goal is over 1,000; else it is one for the ratio. `goal: COLUMN at most FIGURE` gives a goal to a
-whole column, whose cells are in bold where they miss it.
+has no ratio or the goal is over 1,000; else it is one for the ratio. `goal: COLUMN, .. at most FIGURE` gives a goal to
+whole columns, whose cells are in bold where they miss it.
 """
 
 import re
@@ -49,9 +49,10 @@ def judged(cells):
 
 
 def judged_by_column(cells, goal):
-    """A row of which the cell of one column is in bold where it misses that column's goal."""
-    column, _, wanted = goal.partition(" at most ")
-    return {**cells, column: f"**{cells[column]}**"} if misses(cells[column], wanted) else cells
+    """A row of which the cells of some columns are in bold where they miss these columns' goal."""
+    columns, _, wanted = goal.partition(" at most ")
+    missed = [name for name in columns.split(", ") if misses(cells[name], wanted)]
+    return cells | {name: f"**{cells[name]}**" for name in missed}
 
 
 def row(cells):
