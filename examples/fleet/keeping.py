@@ -21,7 +21,7 @@ class Keeping:
         """The pasts of the rooms that are on a bridge, as etcd has them."""
         here = [room for room, (record, _) in self.records(bridge).items() if record["on"] == bridge.name]
         kept = self.store.restored(here)
-        return {room: Past(one.base, one.calls) for room, one in kept.items() if one and one.calls}
+        return {room: Past(one.base, one.calls) for room, one in kept.items() if one}
 
     def keep(self, bridge, rooms):
         """Keeps the rows of rooms, given by their records and revisions, where they have changed or where a room is

@@ -79,9 +79,10 @@ class Rows:
 
     def call(self, call):
         """Carries a call out, as a whole or not at all."""
-        before = dict(self.rows), set(self.used)
+        parts = parts_of(call)
+        before = (dict(self.rows), set(self.used)) if len(parts) > 1 else (self.rows, self.used)
         try:
-            for command in parts_of(call):
+            for command in parts:
                 self.carry_out(command)
         except Cannot:
             self.rows, self.used = before

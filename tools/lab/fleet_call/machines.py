@@ -4,6 +4,7 @@ import atexit
 import bisect
 import collections
 import contextlib
+import itertools
 import json
 import math
 import os
@@ -219,7 +220,8 @@ class Joining(threading.Thread):
     def __init__(self, clock, machines, rooms, new, pace, seconds):
         super().__init__(daemon=True)
         self.clock, self.machines, self.pace, self.count = clock, machines, pace, int(pace * seconds)
-        self.drawn = random.Random(92)
+        # No two members of all have one address.
+        self.drawn, self.net = random.Random(92), 1 + new[0] % 250
         # Rooms that are there, and now and then one that isn't yet.
         self.wanted = [self.drawn.choice(rooms) for _ in range(self.count)]
         for at, room in enumerate(new):
@@ -244,9 +246,10 @@ class Joining(threading.Thread):
 
     def join_room(self, at, due):
         room = self.wanted[at]
-        words = {"room": room, "address": f"10.9.{at % 250}.1:{at % 60000 + 1}"}
-        while True:
+        words = {"room": room}
+        for turn in itertools.count():
             # Where an answer was lost, the member may be there already: this one is another.
+            words["address"] = f"10.{self.net}.{at % 250}.{turn % 250}:{at % 60000 + 1}"
             words["voice"] = 2 * 10**9 + time.time_ns() % 10**9
             with self.lock:
                 running = [one.url for one in self.machines if one.runs()]
