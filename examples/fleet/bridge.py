@@ -10,7 +10,7 @@ import time
 from desk import GONE
 from kept import ROW, by_room, change_of, commands_of, groups_of, whole_of
 from made import further
-from past import LOOKED_AT, MEMBERS, MOVING, History, Past, Pasts, lines_of
+from past import LOOKED_AT, MEMBERS, MOVING, History, Past, Pasts, added_by, lines_of
 from printable import printable
 from refused import Refused
 from seat import Seat
@@ -221,7 +221,9 @@ class Bridge:
 
     def joining(self, room, words):
         """The commands that make a member, which sees others and is seen where slots are free; and its numbers."""
-        taken = self.members(room)
+        # A newcomer doesn't get the number of one whose removal an operator may revert.
+        past = self.pasts.of.get(room)
+        taken = {*self.members(room), *(added_by(" / ".join(past.base)) if past else ())}
         member = next(one for one in itertools.count(room * MEMBERS + 1) if one not in taken)
         mix, slots = drawn(), [drawn() for _ in range(words.get("slots", 0))]
         group = [f"add-member {member} {room} {words['address']} {words.get('codec', 'pcmu')} {mix} {firsts()}"]

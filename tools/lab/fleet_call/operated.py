@@ -58,17 +58,20 @@ class Operated:
         (one, voice, camera), (_, second, _), (_, third, _) = members
         bridge = self.bridges["b"]
         bridge.do(f"mute {voice}")
-        _, fourth, _ = self.talker(ROOM)
+        removed, fourth, _ = self.talker(ROOM)
         bridge.do(f"group mute {second} / pin {ROOM} {camera}")
         bridge.do(f"mute {third}")
         bridge.do(f"undo {bridge.desk()[1]}")
         bridge.do(f"mute {fourth}")
         bridge.do(f"revert {bridge.desk()[1]}")
+        bridge.do(f"remove-member {removed}")
         bridge.do(f"set-gain {one} {second} 100")
+        # A newcomer doesn't get the number of one that an operator may bring back.
         leaves, fifth, _ = self.talker(ROOM)
         bridge.do(f"mute {fifth}")
         self.agents["c"].ask("leave", room=ROOM, member=leaves)
-        calls = [f"mute {voice}", f"group mute {second} / pin {ROOM} {camera}", f"set-gain {one} {second} 100"]
+        calls = [f"mute {voice}", f"group mute {second} / pin {ROOM} {camera}", f"remove-member {removed}"]
+        calls.append(f"set-gain {one} {second} 100")
         self.calls_are(ROOM, calls, "of what operators do is kept what is in force, and can be done again")
         rows, text = self.rows(ROOM), "its bridge is killed"
         self.falls(ROOM)
@@ -76,6 +79,9 @@ class Operated:
         bridge.do(f"undo {bridge.desk()[1]}")
         gone = [row for row in rows if row not in self.rows(ROOM) and row.startswith("gain ")]
         self.check(gone == [f"gain {one} {second} 100"], "an undo there takes back the last call of an operator", gone)
+        bridge.do(f"revert {numbers[calls[2]]}")
+        back = f"source {fourth} {removed} audio" in self.rows(ROOM)
+        self.check(back, "a revert there brings a member back that an operator had removed before", self.rows(ROOM))
         bridge.do(f"revert {numbers[calls[0]]}")
         left = [row for row in self.rows(ROOM) if row.startswith(("mute ", "pin ", "gain "))]
         good = left == [f"mute {second}", f"pin {ROOM} {camera}"]
