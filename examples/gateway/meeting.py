@@ -44,7 +44,7 @@ class Meeting:
 
     def staged(self, room, rows):
         """The camera that the stages of a room show, if the pictures of its slots follow who speaks."""
-        if self.pictures.speaks is None:
+        if not self.pictures.follows:
             return None
         members = {member for member, one in rows.members.items() if one == room}
         cameras = [ssrc for ssrc, (member, kind) in rows.sources.items() if kind == "video" and member in members]

@@ -24,8 +24,9 @@ class Pictures(threading.Thread):
     def __init__(self, calls):
         super().__init__(daemon=True)
         self.calls, self.stage, self.speaking, self.links = calls, Stage(), Speaking(), Links()
-        # The SSRCs of those who speak, None where the bridge is older than that.
-        self.speaks = None
+        # The SSRCs of those who speak, None where the bridge doesn't say. And whether it is one that does, as far as that
+        # is known.
+        self.speaks, self.follows = None, True
         # The pages that members want, when each last got one, and which of how many each has.
         self.wanted, self.turned, self.views = {}, {}, {}
         # Until when nothing is asked, until when nothing is changed, since a change was refused, and when reports were
@@ -50,6 +51,7 @@ class Pictures(threading.Thread):
     def look(self, now):
         """Hears who speaks, and changes what is due."""
         lines = self.calls.desk.levels()
+        self.follows = lines is not None
         if lines is None:
             self.speaks, self.pause = None, now + LATER
             return
