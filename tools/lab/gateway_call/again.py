@@ -20,7 +20,8 @@ ROOM, FIRST, PHONE = 7, 7000, 7900
 CAMERA = 500
 # The page's script beside gateways that it makes up, and how many checks that has.
 COMING, COMINGS = pathlib.Path(__file__).with_name("coming.js"), 15
-# How many seconds later than `away` a member may go.
+# How often a page tries to come again, and how many seconds later than `away` a member may go.
+TRIES = 5
 LATE = 20
 
 
@@ -65,8 +66,15 @@ class Page:
         return isinstance(self.parted, dict) and self.parted["again"]
 
     def comes_again(self, ssrc):
+        """Comes again, and tries that anew as a browser's page does: an rtpengine that is started anew may give it the
+        port of a member who hasn't come again yet."""
         self.ssrc = ssrc
-        return self.connected(again=self.told["again"])
+        for _ in range(TRIES):
+            said = self.connected(again=self.told["again"])
+            if said[0] != 503:
+                break
+            time.sleep(1)
+        return said
 
 
 class Again(Trial):
