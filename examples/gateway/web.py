@@ -9,6 +9,7 @@ import urllib.parse
 
 from body import FLAG, ROOM, fields_of, is_text, text, whole
 from bounded import SECONDS, Bounded
+from desk import GONE
 from refused import FAILED, Refused
 
 FOLDER = pathlib.Path(__file__).parent
@@ -121,6 +122,9 @@ class ForBrowsers(Handler):
         if path == "offer":
             return self.calls.offer(room_of(words, self.calls.names), words["name"], self.source(), words.get("again"))
         call = self.calls.pages.get(words["id"])
+        if call is None and self.calls.seen.version < 0:
+            # The calls of an agent before this one aren't taken up yet.
+            raise Refused(GONE)
         if call is None:
             raise Refused(*self.calls.ended.get(words["id"], (RESTARTED, 410, True)))
         if path == "answer":
