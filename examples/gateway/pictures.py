@@ -24,7 +24,7 @@ class Pictures(threading.Thread):
     def __init__(self, calls):
         super().__init__(daemon=True)
         self.calls, self.stage, self.speaking, self.links = calls, Stage(), Speaking(), Links()
-        # The SSRCs of those who speak, None where the bridge doesn't say. And whether it is one that does, as far as that
+        # The SSRCs of those who speak, None where the bridge doesn't say. And whether it is one that does, as far as it
         # is known.
         self.speaks, self.follows = None, True
         # The pages that members want, when each last got one, and which of how many each has.
@@ -62,29 +62,39 @@ class Pictures(threading.Thread):
                 # The watch takes up the calls of an agent before this one, and brings calls to another bridge.
                 return
             if self.stage.rows is None or version != self.stage.rows.version:
-                rows = self.calls.desk.rows()
-                self.stage.see(rows, now)
-                self.calls.seen = rows
-                self.calls.note_mutes(rows)
+                self.see(now)
             self.stage.speak(self.speaks, now)
             self.turn_pages(now)
             if now - self.reported >= SECOND and self.stage.slots:
                 self.reported = now
                 self.stage.left = self.links.look(self.calls.desk.stats(), self.stage.rows, now)
-            self.change(now)
+            if self.change(now):
+                self.see(now)
+
+    def see(self, now):
+        """Reads the desk."""
+        rows = self.calls.desk.rows()
+        if rows.version < self.calls.seen.version:
+            # It is another bridge's: the watch sees to that.
+            return
+        self.stage.see(rows, now)
+        self.calls.seen = rows
+        self.calls.note_mutes(rows)
 
     def change(self, now):
-        """Makes the next change of each room."""
+        """Makes the next change of each room. Whether there was one."""
         stage, members = self.stage, self.stage.rows.members
         viewers = {call.member for call in self.calls if call.slots and call.member in members}
         self.views = {one: (stage.pages.get(one, 0), stage.count(one), one in stage.left) for one in viewers}
         if now < self.rest or self.is_over(stage.rows.version):
-            return
-        for room in {members[one] for one in viewers}:
-            for group in groups_of(stage.change(room, viewers, now)):
-                if group and self.calls.desk.group(group) is not None:
-                    # An operator has changed the desk meanwhile, or it is full.
-                    self.rest = now + SECOND
+            return False
+        rooms = {members[one] for one in viewers}
+        groups = [group for room in rooms for group in groups_of(stage.change(room, viewers, now)) if group]
+        for group in groups:
+            if self.calls.desk.group(group) is not None:
+                # An operator has changed the desk meanwhile, or it is full.
+                self.rest = now + SECOND
+        return bool(groups)
 
     def is_over(self, version):
         """Whether the desk has taken so many calls that slots stay as they are."""

@@ -111,11 +111,15 @@ class Again(Trial):
         wanted = {f"mute {ssrc}", f"gain {second} {ssrc} 128", f"floor {ROOM} {member}", f"pin {ROOM} {ssrc + CAMERA}"}
         good = wanted <= {*rows}
         self.check(good, f"{text}: what an operator muted stays muted, and so do gains, pin and floor", rows)
-        subs = [row.split(" ")[1:] for row in rows if row.startswith("sub ")]
-        slots = [[row.split(" ")[1] for row in rows if f" {one.told['member']} " in row] for one in self.pages]
-        seen = [[camera for slot, camera in subs if slot in own] for own in slots]
         # The first one's picture is pinned, and so on the other one's stage.
-        self.check(seen == [[str(self.pages[1].ssrc + CAMERA)], []], f"{text}: each sees the other one, once", rows)
+        wanted = [[str(self.pages[1].ssrc + CAMERA)], []]
+        self.comes(lambda: self.seen() == wanted, f"{text}: each sees the other one, once", self.rows, 3)
+
+    def seen(self):
+        """What the slots of each page show."""
+        rows = [row.split(" ") for row in self.rows()]
+        own = [[row[1] for row in rows if row[:3:2] == ["slot", str(one.told["member"])]] for one in self.pages]
+        return [[row[2] for row in rows if row[0] == "sub" and row[1] in slots] for slots in own]
 
     def try_page_script(self):
         """The page by itself, beside gateways that aren't there."""

@@ -8,6 +8,7 @@ import time
 from lab.gateway_call.lossy import Lossy
 from lab.gateway_call.parts import Parts, until
 from lab.gateway_call.trial import Trial
+from operators.shared import fail
 
 # The room, and how often each of three browsers speaks, for how many seconds.
 ROOM, ROUNDS, SPEAKS = 3, 4, 4
@@ -26,12 +27,16 @@ class Watching(threading.Thread):
     def __init__(self, tcp):
         super().__init__(daemon=True)
         self.given, self.connection = [], socket.create_connection(("127.0.0.1", tcp), 30)
-        self.connection.settimeout(None)
+        self.lines = self.connection.makefile()
         self.connection.sendall(b"watch\n")
+        said = self.lines.readline()
+        if not said.startswith("end "):
+            fail(f"`watch` is answered {said!r}")
+        self.connection.settimeout(None)
         self.start()
 
     def run(self):
-        for line in self.connection.makefile():
+        for line in self.lines:
             moment = time.time()
             for part in line.removeprefix("call ").strip().replace(" group ", " / ").split(" / ")[1:]:
                 word, *numbers = part.split(" ")

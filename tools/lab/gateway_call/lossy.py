@@ -50,6 +50,8 @@ class Lossy:
             threading.Thread(target=self.pass_answers, args=[desk, agent], daemon=True).start()
             for line in lines:
                 desk.sendall(self.behind(line).encode())
+            # The thread that waits for answers ends, and the seat is free.
+            desk.shutdown(socket.SHUT_RDWR)
             desk.close()
 
     def pass_answers(self, desk, agent):
