@@ -24,7 +24,7 @@ TOO_MANY = 429
 class Leader:
     def __init__(self, agent):
         self.agent, self.copy, self.lease, self.url = agent, agent.copy, agent.lease, agent.url
-        # `woken`: something is to be settled. `late`: an agent has lost its lease.
+        # `woken`: something is to be settled. `late`: an agent has lost its lease, or there is another leader.
         self.woken, self.late = threading.Event(), threading.Event()
         # The bridges whose agents are late: when they are asked again, and what was seen of them last.
         self.missing = {}
@@ -35,7 +35,7 @@ class Leader:
     def hears(self, key):
         """Sees whether a change needs the leader."""
         kind, _, name = (key or "").partition("/")
-        if kind == "agents" or key is None:
+        if kind in ("agents", "leader") or key is None:
             self.late.set()
         record, _ = self.copy.known.rooms.get(int(name), (None, 0)) if kind == "rooms" and name.isdigit() else (None, 0)
         if kind != "rooms" or record and not self.is_settled(record, self.copy.known):

@@ -45,8 +45,8 @@ HAPPENS, STOPPED = 10, 20
 # For how many seconds all may take to begin, and to settle; for how many of the machine's is seen what all takes while
 # nobody joins; and between two looks.
 BEGINS, SETTLES, STILL, PAUSE = 600, 120, 30, 0.2
-# How many calls of operators there are for each join, and how many seconds before a machine is killed the last of those
-# was that travel for certain.
+# How many calls of operators there are for each join until something happens, and how many seconds before a machine is
+# killed the last of those was that travel for certain.
 OPERATED, CERTAIN = 0.1, 2
 
 
@@ -160,7 +160,7 @@ class Size:
         looks = self.looks()
         spent = {"agents": 0.0, "etcd": 0.0}
         joining = Joining(self.clock, self.machines, self.rooms, new, self.args.pace, self.args.seconds)
-        operating = Operating(self.clock, self.machines, OPERATED * self.args.pace, self.args.seconds)
+        operating = Operating(self.clock, self.machines, OPERATED * self.args.pace, HAPPENS)
         joining.start()
         operating.start()
         self.clock.sleep(HAPPENS)
