@@ -76,8 +76,8 @@ class Call(Refusals, Strangers, Others, Again, Staging, Following, Phoning, Trun
         """A phone is muted, and another one hangs up."""
         number = self.do(f"mute {self.source_of('D')}")
         self.everyone_hears("phone D is muted", silent="D")
-        self.undo(number)
-        self.everyone_hears("the mute is undone")
+        self.revert(number)
+        self.everyone_hears("the mute is reverted")
         self.is_held("E")
         self.callers["E"].offer_again()
         self.goes_on("E", "has sent a further INVITE")
@@ -91,16 +91,16 @@ class Call(Refusals, Strangers, Others, Again, Staging, Following, Phoning, Trun
         number = self.do(f"mute {b.joined['voice']}")
         self.everyone_hears("B is muted", silent="B")
         self.check("muted your voice" in b.says(), "B's page says so", b.says())
-        self.undo(number)
-        self.everyone_hears("the mute is undone")
+        self.revert(number)
+        self.everyone_hears("the mute is reverted")
         slots = {one: one.shows_now().index("B") for one in (a, c)}
         number = self.do(f"mute {b.joined['camera']}")
         for one in a, c:
             self.sees(one, "B's picture is muted", without="B")
         moment = time.time()
-        self.undo(number)
+        self.revert(number)
         for one in a, c:
-            self.sees(one, "the picture's mute is undone")
+            self.sees(one, "the picture's mute is reverted")
             print(f"      B's picture is back at {one.name} after {one.shown_since(slots[one], 'B', moment)} ms")
 
     def step_pins(self):

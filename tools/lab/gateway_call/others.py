@@ -50,7 +50,7 @@ class Others(Holding):
         source = next(row for row in self.rows() if row.startswith("source ") and row.split()[2] == self.last_member())
         number = self.do(f"mute {source.split()[1]}")
         self.everyone_hears("Linphone is muted", silent="L")
-        self.undo(number)
+        self.revert(number)
         self.is_held("L")
         self.callers.pop("L").close()
         self.comes(lambda: self.members() == before, "Linphone hangs up, and is no member", self.rows)

@@ -87,6 +87,10 @@ class Trial:
     def undo(self, number):
         return self.do(f"undo {number}")
 
+    def revert(self, number):
+        """Takes one call back. The agent may have made calls of its own since, of who sees whom."""
+        return self.do(f"revert {number}")
+
     def browser(self, name, page=None, flags=()):
         """A browser at a page that hasn't joined yet."""
         one = self.callers[name] = BrowserCaller(name, self.args.browser, self.folder, flags)
