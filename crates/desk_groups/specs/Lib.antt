@@ -1,0 +1,3 @@
+pub mod Making
+pub mod Rooms
+pub mod inner
