@@ -1,2 +1,3 @@
 pub mod AcceptedCall
 pub mod Lists
+pub mod Stamp

@@ -2,7 +2,7 @@
 //!
 //! Begin with [`CallLists::new`], and [`CallLists::note`] each accepted call with what stands for it, such as an
 //! [`AcceptedCall`]. Contracts see two lists. [`lists_are_the_desks`] says that they are those of the desk, entry by
-//! entry.
+//! entry. A [`StampedCall`] has the moment, too, and the name of its operator's connection.
 //!
 //! ```rust
 //! let mut lists = CallLists::new(alloc);
@@ -16,7 +16,9 @@
 mod accepted_call;
 mod laws;
 mod lists;
+mod stamp;
 
 pub use self::accepted_call::AcceptedCall;
 pub use self::laws::lists_are_the_desks;
 pub use self::lists::CallLists;
+pub use self::stamp::{CallStamp, StampedCall};

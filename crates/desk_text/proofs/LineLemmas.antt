@@ -8,8 +8,10 @@ use Rattle.desk_edit.specs.Asked.CallOf.{Group}
 use Rattle.desk_text.specs.Values.{value_text, of_row}
 use Rattle.desk_text.specs.Calls.{name_text, fields_of, command_words, group_words, call_line}
 use Rattle.call_history.specs.AcceptedCall.{AcceptedOf}
+use Rattle.call_history.specs.Stamp.{StampedOf}
 use Rattle.desk_text.specs.HistoryText.{made_line}
-use Rattle.desk_text.specs.inner.Pieces.{next_value, command_line, other_part, parts_behind, head_of}
+use Rattle.desk_text.specs.StampedText.{stamped_line}
+use Rattle.desk_text.specs.inner.Pieces.{next_value, command_line, other_part, parts_behind, head_of, number_rest}
 
 -- words, each with a space before it
 abbrev behind : List (List ℕ) → List ℕ
@@ -62,3 +64,7 @@ group_joined (command ∷ commands) =
 -- the two pieces of the line of an accepted call
 pub made_joined : (m : AcceptedOf) → head_of m ++ (call_line m.call ++ 10 ∷ []) ≡ made_line m
 made_joined m = simp append_assoc refl
+
+-- the two pieces of the line of an accepted call with its stamp
+pub stamped_joined : (s : StampedOf) → codes "call " ++ number_rest s ≡ stamped_line s
+stamped_joined s = simp append_assoc refl

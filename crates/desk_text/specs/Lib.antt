@@ -6,6 +6,7 @@ pub mod Values
 pub mod Calls
 pub mod Text
 pub mod Shown
+pub mod StampedText
 pub mod RowLines
 pub mod HistoryText
 pub mod NewsText

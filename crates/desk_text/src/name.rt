@@ -5,7 +5,7 @@ ghost use Rattle.desk_text.specs.Calls.{name_of, setting_of, head_of};
 
 /// The name of a command.
 #[derive(Clone, Copy)]
-pub(crate) enum Name {
+pub enum Name {
     AddRoom,
     RemoveRoom,
     AddMember,
@@ -27,7 +27,7 @@ pub(crate) enum Name {
 }
 
 /// The name that a word is.
-pub(crate) fn parse_name(word: &[u8]) -> Option<Name>
+pub fn parse_name(word: &[u8]) -> Option<Name>
     ensures { result ≡ name_of word.now }
 {
     if word == b"add-room".as_slice() {
@@ -82,7 +82,7 @@ fn parse_setting(word: &[u8]) -> Option<Name>
 
 /// The first word of a call that is no single command.
 #[derive(Clone, Copy)]
-pub(crate) enum Head {
+pub enum Head {
     Undo,
     Redo,
     Revert,
@@ -90,7 +90,7 @@ pub(crate) enum Head {
 }
 
 /// The head that a word is.
-pub(crate) fn parse_head(word: &[u8]) -> Option<Head>
+pub fn parse_head(word: &[u8]) -> Option<Head>
     ensures { result ≡ head_of word.now }
 {
     if word == b"undo".as_slice() {

@@ -3,7 +3,7 @@
 ghost use Rattle.std.specs.Prelude.{◌≡◌, ◌+◌, ◌<◌, ◌∷◌, ◌++◌, [], length, OnOk, OnErr, vec_len, vec_capacity};
 ghost use Rattle.desk_text.specs.inner.Growing.{buffer_of, Grows};
 ghost use Rattle.desk_text.specs.HistoryText.{end_line, called_line, said_by};
-ghost use Rattle.desk_text.specs.NewsText.{news_line, news_text};
+ghost use Rattle.desk_text.specs.NewsText.{news_line};
 
 use crate::appending::{append, append_part};
 use crate::history::{append_end, append_made, append_rest};
@@ -11,7 +11,7 @@ use call_history::AcceptedCall;
 use std::alloc::{AllocError, Allocator};
 
 /// Appends the line that tells of an accepted call.
-fn append_told<A: Allocator>(
+pub(crate) fn append_told<A: Allocator>(
     made: &AcceptedCall<'_>,
     out: &mut Vec<u8, A>,
 ) -> Result<(), AllocError>
@@ -19,37 +19,6 @@ fn append_told<A: Allocator>(
 {
     append(b"call ", out)?;
     append_made(made, out)
-}
-
-/// Appends the lines that tell of accepted calls. Out of memory leaves what was appended before.
-fn append_news<A: Allocator>(
-    all: &[AcceptedCall<'_>],
-    out: &mut Vec<u8, A>,
-) -> Result<(), AllocError>
-    ensures { Grows (buffer_of out.old) (buffer_of out.new) (news_text all.now) result }
-{
-    for made in all {
-        append_told(made, out)?;
-    }
-    Ok(())
-}
-
-/// Appends a line for each of these calls: `call`, and its line of a history. On out of memory, the only error, nothing
-/// changes.
-pub fn print_news<A: Allocator>(
-    all: &[AcceptedCall<'_>],
-    out: &mut Vec<u8, A>,
-) -> Result<(), AllocError>
-    ensures ok { OnOk result (out.new.items ≡ out.old.items ++ news_text all.now) }
-    ensures err { OnErr result (out.new.items ≡ out.old.items) }
-    ensures full { OnErr result (vec_capacity out.old < vec_len out.old + length (news_text all.now)) }
-{
-    let before = out.len();
-    let answer = append_news(all, out);
-    if answer.is_err() {
-        out.truncate(before);
-    }
-    answer
 }
 
 /// Appends the operator of an accepted call, the words of the call, and the end of its line.

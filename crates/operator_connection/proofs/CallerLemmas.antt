@@ -4,7 +4,7 @@ use Rattle.std.proofs.Math.Seq.{take-length}
 use Rattle.std.proofs.Common.{◌≡◌, ◌<◌, ◌-◌, ◌∙◌, ℕ, nat_lt, true, List, [], ◌∷◌, ◌++◌, length, take, drop, length-drop}
 use Rattle.std.proofs.Common.{arith, rules, false, map, Option, Some, None, is_some, Result, Ok, Err, OnErr, refl, sym}
 use Rattle.std.proofs.Common.{ap, subst, Bool, not}
-use Rattle.operator_lines.specs.Operators.{Replying, Showing}
+use Rattle.operator_lines.specs.Operators.{TimedReplying, Showing}
 use Rattle.operator_connection.specs.declared.talking.LinkState.{LinkState}
 use Rattle.operator_connection.specs.declared.talking.LinkState.TheVariants.{Open, Ending, Lost, Stopping}
 use Rattle.operator_lines.specs.declared.feeding.Fed.{Fed}
@@ -24,7 +24,7 @@ pub deeds_both : (xs ys : List Deed) (a b c : Connection) → AreDeeds xs a b �
 deeds_both [] ys a b c g h = subst (λ (s : Connection). AreDeeds ys s c) (sym g) h
 deeds_both (x ∷ xs) ys a b c g h = (g.0, g.1, deeds_both xs ys g.0 b c g.2 h)
 
-pub seated_both : {D : Type 0} (replies : Replying D) (shows : Showing D) (xs ys : List SeatedDeed)
+pub seated_both : {D : Type 0} (replies : TimedReplying D) (shows : Showing D) (xs ys : List SeatedDeed)
     (a b c : D × Connection)
     → AreSeatedDeeds replies shows xs a b → AreSeatedDeeds replies shows ys b c
     → AreSeatedDeeds replies shows (xs ++ ys) a c
@@ -33,7 +33,8 @@ seated_both {D} replies shows [] ys a b c g h =
 seated_both replies shows (x ∷ xs) ys a b c g h = (g.0, g.1, seated_both replies shows xs ys g.0 b c g.2 h)
 
 -- what is done without a desk is done with one that stays as it is
-pub seated_alone : {D : Type 0} (replies : Replying D) (shows : Showing D) (xs : List Deed) (d : D) (a b : Connection)
+pub seated_alone : {D : Type 0} (replies : TimedReplying D) (shows : Showing D)
+    (xs : List Deed) (d : D) (a b : Connection)
     → AreDeeds xs a b → AreSeatedDeeds replies shows (map alone xs) (d, a) (d, b)
 seated_alone {D} replies shows [] d a b g = ap (λ (s : Connection). (d, s)) g
 seated_alone replies shows (x ∷ xs) d a b g = ((d, g.0), (refl, g.1), seated_alone replies shows xs d g.0 b g.2)
@@ -85,7 +86,8 @@ pub other_turn : (h : Option (Fed Global)) (beginning : Beginning) → is_some h
 other_turn None beginning e = (beginning, refl)
 other_turn (Some heard) beginning e = search rules
 
-pub round_cut : {D : Type 0} (replies : Replying D) (shows : Showing D) (b : Beginning) (d : D) (old new : Connection)
+pub round_cut : {D : Type 0} (replies : TimedReplying D) (shows : Showing D)
+    (b : Beginning) (d : D) (old new : Connection)
     → AreDeeds (deeds_begun b) old new → moment_of b ≡ None
     → AreSeatedDeeds replies shows (round_seated b) (d, old) (d, new)
 round_cut replies shows b d old new h e =
@@ -94,10 +96,12 @@ round_cut replies shows b d old new h e =
     (seated_both replies shows (map alone (deeds_begun b)) [] (d, old) (d, new) (d, new)
     (seated_alone replies shows (deeds_begun b) d old new h) refl)
 
-pub round_whole : {D : Type 0} (replies : Replying D) (shows : Showing D) (b : Beginning) (moment : ℕ) (d d' d'' : D)
+pub round_whole : {D : Type 0} (replies : TimedReplying D) (shows : Showing D)
+    (b : Beginning) (moment : ℕ) (d d' d'' : D)
     (old mid more most new : Connection)
-    → AreDeeds (deeds_begun b) old mid → moment_of b ≡ Some moment → HasHeard replies shows moment d d' mid more
-    → HasToldNews replies d' d'' more most → HasWritten moment most new
+    → AreDeeds (deeds_begun b) old mid → moment_of b ≡ Some moment
+    → HasHeard (replies moment) shows moment d d' mid more
+    → HasToldNews (replies moment) d' d'' more most → HasWritten moment most new
     → AreSeatedDeeds replies shows (round_seated b) (d, old) (d'', new)
 round_whole replies shows b moment d d' d'' old mid more most new h e heard told written =
     subst (λ (m : Option ℕ). AreSeatedDeeds replies shows (map alone (deeds_begun b) ++ heard_at m) (d, old) (d'', new))

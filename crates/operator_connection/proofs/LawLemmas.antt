@@ -6,7 +6,7 @@ use Rattle.std.proofs.lemmas.Grind.{flat_map-append}
 use Rattle.std.proofs.lemmas.List.{append-nil, take-append-drop, take-append-le}
 use Rattle.std.specs.Bool.{MatchBool}
 use Rattle.operator_lines.specs.Fed.{Kept, StandsFor}
-use Rattle.operator_lines.specs.Operators.{Replying, Showing, busy_line}
+use Rattle.operator_lines.specs.Operators.{Replying, TimedReplying, Showing, busy_line}
 use Rattle.operator_lines.specs.Outbound.{piece}
 use Rattle.operator_connection.proofs.TalkLemmas.{open_is}
 use Rattle.operator_connection.specs.Acts.{Act, waited, looked, read, wrote, read_by, written_by, all_read, all_written}
@@ -395,16 +395,18 @@ deeds_go_on [] old new s h = same_goes_on old new s (sym h)
 deeds_go_on (deed ∷ deeds) old new s h =
     let one = deed_goes_on deed old h.0 s h.1 in goes_on_both old h.0 new one (deeds_go_on deeds h.0 new one.stream h.2)
 
-seated_goes_on : {D : Type 0} (replies : Replying D) (shows : Showing D) (deed : SeatedDeed) (old new : D × Connection)
+seated_goes_on : {D : Type 0} (replies : TimedReplying D) (shows : Showing D) (deed : SeatedDeed)
+    (old new : D × Connection)
     → IsStream old.1
     → IsSeatedDeed replies shows old deed new → GoesOn old.1 new.1
 seated_goes_on replies shows (alone deed) old new s h = deed_goes_on deed old.1 new.1 s h.1
 seated_goes_on replies shows (answers moment) old new s h =
-    answers_goes_on replies shows moment old.1.heeded old.0 new.0 old.1 new.1 s h
-seated_goes_on replies shows (hears moment) old new s h = hears_goes_on replies shows moment old.0 new.0 old.1 new.1 s h
-seated_goes_on replies shows tells old new s h = tells_goes_on replies old.0 new.0 old.1 new.1 s h
+    answers_goes_on (replies moment) shows moment old.1.heeded old.0 new.0 old.1 new.1 s h
+seated_goes_on replies shows (hears moment) old new s h =
+    hears_goes_on (replies moment) shows moment old.0 new.0 old.1 new.1 s h
+seated_goes_on replies shows (tells moment) old new s h = tells_goes_on (replies moment) old.0 new.0 old.1 new.1 s h
 
-pub seated_go_on : {D : Type 0} (replies : Replying D) (shows : Showing D) (deeds : List SeatedDeed)
+pub seated_go_on : {D : Type 0} (replies : TimedReplying D) (shows : Showing D) (deeds : List SeatedDeed)
     (old new : D × Connection)
     → IsStream old.1
     → AreSeatedDeeds replies shows deeds old new → GoesOn old.1 new.1
@@ -479,19 +481,20 @@ answer_ends replies shows moment (Some h) d d' old new e t = cases (is_open old.
     (λ opened p. absurd (let u : true ≡ false = sym opened ∙ e in (search rules)))
     (λ opened q. (q.0, ended_as old new old.standing q.2 e (ap all_read t.acts)))
 
-seated_ends : {D : Type 0} (replies : Replying D) (shows : Showing D) (deed : SeatedDeed) (old new : D × Connection)
+seated_ends : {D : Type 0} (replies : TimedReplying D) (shows : Showing D) (deed : SeatedDeed)
+    (old new : D × Connection)
     → is_open old.1.standing ≡ false → IsSeatedDeed replies shows old deed new
     → (new.0 ≡ old.0) × StaysEnded old.1 new.1
 seated_ends replies shows (alone deed) old new e h = (h.0, deed_ends deed old.1 new.1 e h.1)
 seated_ends replies shows (answers moment) old new e h =
-    answer_ends replies shows moment old.1.heeded old.0 new.0 old.1 new.1 e h
+    answer_ends (replies moment) shows moment old.1.heeded old.0 new.0 old.1 new.1 e h
 seated_ends replies shows (hears moment) old new e h = cases (old.1.ready.readable && is_heard old.1) h
     (λ may r. closed old.1 e may) (λ may q. (q.0, ended_same old.1 new.1 e q.1))
-seated_ends replies shows tells old new e t = cases (is_open old.1.standing) t.told
+seated_ends replies shows (tells moment) old new e t = cases (is_open old.1.standing) t.told
     (λ opened p. absurd (let u : true ≡ false = sym opened ∙ e in (search rules)))
     (λ opened q. (q.0, ended_as old.1 new.1 old.1.standing q.2 e (ap all_read t.acts)))
 
-pub seated_end : {D : Type 0} (replies : Replying D) (shows : Showing D) (deeds : List SeatedDeed)
+pub seated_end : {D : Type 0} (replies : TimedReplying D) (shows : Showing D) (deeds : List SeatedDeed)
     (old new : D × Connection)
     → is_open old.1.standing ≡ false → AreSeatedDeeds replies shows deeds old new
     → (new.0 ≡ old.0) × StaysEnded old.1 new.1

@@ -2,7 +2,7 @@
 use Rattle.std.proofs.Common.{Bool, true, false, List, [], ◌∷◌, ◌++◌, Option, Some, None, inl, inr, refl, sym, subst}
 use Rattle.std.specs.List.{AllByRecursion, flat_map}
 use Rattle.std.proofs.lemmas.Grind.{flat_map-append}
-use Rattle.operator_lines.specs.Operators.{Replying, Showing}
+use Rattle.operator_lines.specs.Operators.{TimedReplying, Showing}
 use Rattle.operator_connection.specs.Connection.{Heeded, Connection}
 use Rattle.operator_connection.specs.Deeds.{Deed, SeatedDeed, AreDeeds, AreSeatedDeeds}
 use Rattle.operator_connection.specs.Talks.{IsRoundAlone, HasWaitedFor, HasHadRounds, IsRoundSeated, HasSat, IsTurn}
@@ -44,14 +44,16 @@ had_more a b c g h = (
       (deeds_both (flat_map (λ deeds. deeds) (g.0 ∷ g.1)) (flat_map (λ deeds. deeds) h.0) a b c g.4 h.2),
 )
 
-pub sat_none : {D : Type 0} (replies : Replying D) (shows : Showing D) (a : D × Connection) → HasSat replies shows a a
+pub sat_none : {D : Type 0} (replies : TimedReplying D) (shows : Showing D)
+    (a : D × Connection) → HasSat replies shows a a
 sat_none replies shows a = ([], tt, refl)
 
-pub sat_one : {D : Type 0} (replies : Replying D) (shows : Showing D) (deeds : List SeatedDeed) (a b : D × Connection)
+pub sat_one : {D : Type 0} (replies : TimedReplying D) (shows : Showing D)
+    (deeds : List SeatedDeed) (a b : D × Connection)
     → IsRoundSeated deeds → AreSeatedDeeds replies shows deeds a b → HasSat replies shows a b
 sat_one replies shows deeds a b is done = (deeds ∷ [], (is, tt), seated_both replies shows deeds [] a b b done refl)
 
-pub sat_both : {D : Type 0} (replies : Replying D) (shows : Showing D) (a b c : D × Connection)
+pub sat_both : {D : Type 0} (replies : TimedReplying D) (shows : Showing D) (a b c : D × Connection)
     → HasSat replies shows a b → HasSat replies shows b c → HasSat replies shows a c
 sat_both replies shows a b c g h = (
   g.0 ++ h.0,
@@ -66,7 +68,7 @@ turn_is None deeds is = inl is
 turn_is (Some heeded) deeds is = inr is
 
 -- what a step did, whether the connection goes on or not
-pub sat_step : {D : Type 0} (replies : Replying D) (shows : Showing D) (goes_on : Bool) (heeded : Option Heeded)
+pub sat_step : {D : Type 0} (replies : TimedReplying D) (shows : Showing D) (goes_on : Bool) (heeded : Option Heeded)
     (deeds : List SeatedDeed) (a b c : D × Connection)
     → HasSat replies shows a b → IsStep goes_on heeded deeds → AreSeatedDeeds replies shows deeds b c
     → HasSat replies shows a c

@@ -6,7 +6,7 @@ use Rattle.std.specs.List.{FoldsTo}
 use Rattle.operator_lines.specs.Fed.{StandsFor, Brings}
 use Rattle.operator_lines.specs.Outbound.{piece}
 use Rattle.operator_lines.specs.DeskAsk.{news}
-use Rattle.operator_lines.specs.Operators.{Replying, Showing, AppendsReply, busy_line}
+use Rattle.operator_lines.specs.Operators.{Replying, TimedReplying, Showing, AppendsReply, busy_line}
 use Rattle.operator_lines.specs.declared.answering.Next.TheVariants.{Stay}
 use Rattle.operator_connection.specs.declared.talking.Came.{Came}
 use Rattle.operator_connection.specs.declared.talking.LinkState.{LinkState}
@@ -220,20 +220,20 @@ pub data SeatedDeed : Type 0 where
   -- what may have come was read and answered
   hears : (moment : ℕ) → SeatedDeed
   -- the news of a watch were told
-  tells : SeatedDeed
+  tells : (moment : ℕ) → SeatedDeed
 
--- this was done on a connection and its desk, and nothing else
+-- this was done on a connection and its desk, and nothing else: the desk is asked at the moment of the round
 abbrev pub IsSeatedDeed :
-    {D : Type 0} → Replying D → Showing D → D × Connection → SeatedDeed → D × Connection → Type 0
+    {D : Type 0} → TimedReplying D → Showing D → D × Connection → SeatedDeed → D × Connection → Type 0
 IsSeatedDeed replies shows old (alone deed) new = (new.0 ≡ old.0) × IsDeed old.1 deed new.1
 IsSeatedDeed replies shows old (answers moment) new =
-    HasAnswered replies shows moment old.1.heeded old.0 new.0 old.1 new.1
-IsSeatedDeed replies shows old (hears moment) new = HasHeard replies shows moment old.0 new.0 old.1 new.1
-IsSeatedDeed replies shows old tells new = HasToldNews replies old.0 new.0 old.1 new.1
+    HasAnswered (replies moment) shows moment old.1.heeded old.0 new.0 old.1 new.1
+IsSeatedDeed replies shows old (hears moment) new = HasHeard (replies moment) shows moment old.0 new.0 old.1 new.1
+IsSeatedDeed replies shows old (tells moment) new = HasToldNews (replies moment) old.0 new.0 old.1 new.1
 
 -- these were done, one after another, and nothing else
 abbrev pub AreSeatedDeeds :
-    {D : Type 0} → Replying D → Showing D → List SeatedDeed → D × Connection → D × Connection → Type 0
+    {D : Type 0} → TimedReplying D → Showing D → List SeatedDeed → D × Connection → D × Connection → Type 0
 AreSeatedDeeds replies shows deeds old new = FoldsTo (IsSeatedDeed replies shows) old deeds new
 
 -- how a round began: the system failed; or it was waited for, and the clock failed; or the clock told a moment, and the
@@ -272,7 +272,7 @@ round_alone beginning = deeds_begun beginning ++ greeted_at (moment_of beginning
 -- what a round does with a seat once it has begun
 abbrev pub heard_at : Option ℕ → List SeatedDeed
 heard_at None = []
-heard_at (Some moment) = hears moment ∷ tells ∷ alone (writes moment) ∷ []
+heard_at (Some moment) = hears moment ∷ tells moment ∷ alone (writes moment) ∷ []
 
 -- a round with a seat
 abbrev pub round_seated : Beginning → List SeatedDeed

@@ -2,7 +2,7 @@
 use Rattle.std.specs.Prelude.{◌≡◌, ◌⊎◌, ℕ, Bool, true, false, List, [], ◌++◌, ◌∷◌, Option, Some, None}
 use Rattle.std.specs.List.{AllByRecursion, flat_map}
 use Rattle.operator_lines.specs.Fed.{StandsFor}
-use Rattle.operator_lines.specs.Operators.{Replying, Showing}
+use Rattle.operator_lines.specs.Operators.{TimedReplying, Showing}
 use Rattle.operator_connection.specs.declared.talking.LinkState.TheVariants.{Open}
 use Rattle.operator_connection.specs.Acts.{all_read, all_written}
 use Rattle.operator_connection.specs.Connection.{Heeded, Connection}
@@ -35,7 +35,7 @@ IsRoundSeated deeds =
     ⊎ ((moment : Option ℕ) × (deeds ≡ first_seated moment))
 
 -- From the one to the other a connection and its desk had rounds with a seat, and nothing else was done.
-abbrev pub HasSat : {D : Type 0} → Replying D → Showing D → D × Connection → D × Connection → Type 0
+abbrev pub HasSat : {D : Type 0} → TimedReplying D → Showing D → D × Connection → D × Connection → Type 0
 HasSat replies shows start now =
     (rounds : List (List SeatedDeed)) × AllByRecursion IsRoundSeated rounds
     × AreSeatedDeeds replies shows (flat_map (λ deeds. deeds) rounds) start now

@@ -13,22 +13,24 @@ use std::alloc::{AllocError, Global};
 use std::sync::atomic::{AtomicBool, Ordering};
 
 impl Talk {
-    /// Answers a line. An `Err` appends nothing, but a call may be carried out.
+    /// Answers a line at this moment. An `Err` appends nothing, but a call may be carried out.
     fn answer_line<D: LineDesk>(
         &mut self,
         alloc: Global,
         desk: &mut D,
+        moment: u64,
         line: &[u8],
         text: &mut Vec<u8>,
     ) -> Result<Next, AllocError>
         ensures answer { IfOk result (λ next.
-            AnswersLine D.replies D.shows desk.old desk.new line.now self.old.outgoing self.new.outgoing next) }
+            AnswersLine (D.replies moment) D.shows desk.old desk.new line.now
+            self.old.outgoing self.new.outgoing next) }
         ensures standing { IfOk result (λ next. self.new.standing ≡ after_line next self.new.outgoing) }
         ensures err { OnErr result (self.new.outgoing ≡ self.old.outgoing) }
         ensures lines { self.new.lines ≡ self.old.lines }
     {
         text.clear();
-        let next = answer(alloc, desk, line, text)?;
+        let next = answer(alloc, desk, moment, line, text)?;
         self.outgoing.append(text)?;
         self.standing = self.after(next);
         Ok(next)
@@ -40,22 +42,23 @@ impl Talk {
         &mut self,
         alloc: Global,
         desk: &mut D,
+        moment: u64,
         lines: &[Vec<u8>],
         text: &mut Vec<u8>,
         stopped: &AtomicBool,
     ) -> Result<bool, AllocError>
         requires open { self.old.standing ≡ LinkState.Open }
-        ensures first { IfOk result (λ stops. AnswersFirst D.replies D.shows (texts lines.now)
+        ensures first { IfOk result (λ stops. AnswersFirst (D.replies moment) D.shows (texts lines.now)
             desk.old desk.new self.old.outgoing self.new.outgoing self.new.standing stops) }
         ensures broke { OnErr result
-            (AnswersSome D.replies D.shows (texts lines.now) desk.old self.old.outgoing self.new.outgoing) }
+            (AnswersSome (D.replies moment) D.shows (texts lines.now) desk.old self.old.outgoing self.new.outgoing) }
         ensures lines { self.new.lines ≡ self.old.lines }
     {
         for line in lines {
             if stopped.load(Ordering::SeqCst) {
                 return Ok(true);
             }
-            self.answer_line(alloc, desk, line, text)?;
+            self.answer_line(alloc, desk, moment, line, text)?;
             if !self.is_open() {
                 return Ok(false);
             }
@@ -87,26 +90,26 @@ impl Talk {
         Ok(())
     }
 
-    /// Answers these lines, and then refuses one that is too long, if there is one. Returns whether the bridge was
-    /// found to be stopped. After an `Err` the connection is of no use, and a call may have been carried out.
+    /// Answers the lines that were heard, and then refuses one that is too long, if there is one. Returns whether the
+    /// bridge was found to be stopped. After an `Err` the connection is of no use, and a call may have been made.
     fn answer_all<D: LineDesk>(
         &mut self,
         alloc: Global,
         desk: &mut D,
-        lines: &[Vec<u8>],
-        is_too_long: bool,
+        moment: u64,
+        heard: &Fed,
         text: &mut Vec<u8>,
         stopped: &AtomicBool,
     ) -> Result<bool, AllocError>
         requires stands { self.old.standing ≡ LinkState.Open }
-        ensures all { IfOk result (λ stops. AnswersAll D.replies D.shows (texts lines.now) is_too_long
-            desk.old desk.new self.old.outgoing self.new.outgoing self.new.standing stops) }
-        ensures broke { OnErr result
-            (AnswersSome D.replies D.shows (texts lines.now) desk.old self.old.outgoing self.new.outgoing) }
+        ensures all { IfOk result (λ stops. AnswersAll (D.replies moment) D.shows (texts heard.now.lines.items)
+            heard.now.too_long desk.old desk.new self.old.outgoing self.new.outgoing self.new.standing stops) }
+        ensures broke { OnErr result (AnswersSome (D.replies moment) D.shows (texts heard.now.lines.items)
+            desk.old self.old.outgoing self.new.outgoing) }
         ensures lines { self.new.lines ≡ self.old.lines }
     {
-        let stops = self.answer_lines(alloc, desk, lines, text, stopped)?;
-        self.refuse_too_long(alloc, is_too_long, stops, text)?;
+        let stops = self.answer_lines(alloc, desk, moment, &heard.lines, text, stopped)?;
+        self.refuse_too_long(alloc, heard.too_long, stops, text)?;
         Ok(stops)
     }
 
@@ -123,18 +126,18 @@ impl Talk {
     ) -> Result<bool, AllocError>
         requires stands { self.old.standing ≡ LinkState.Open }
         ensures heard { IfOk result (λ stops. (before : List ℕ) → StandsFor self.old.lines before
-            → AnswersOctets D.replies D.shows before octets.now desk.old desk.new self.old.outgoing self.new.outgoing
-            self.new.standing stops) }
+            → AnswersOctets (D.replies now) D.shows before octets.now desk.old desk.new
+            self.old.outgoing self.new.outgoing self.new.standing stops) }
         ensures kept { IfOk result (λ stops. (before : List ℕ) → StandsFor self.old.lines before
             → StandsFor self.new.lines (before ++ octets.now)) }
         ensures since { self.new.since ≡ now }
         ensures lost { OnErr result (self.new.standing ≡ LinkState.Lost) }
         ensures broke { OnErr result ((before : List ℕ) → StandsFor self.old.lines before
-            → BreaksOff D.replies D.shows before octets.now desk.old self.old.outgoing self.new.outgoing) }
+            → BreaksOff (D.replies now) D.shows before octets.now desk.old self.old.outgoing self.new.outgoing) }
     {
         match self.lines.feed(alloc, octets) {
             Ok(fed) => {
-                let said = self.answer_all(alloc, desk, &fed.lines, fed.too_long, text, stopped);
+                let said = self.answer_all(alloc, desk, now, &fed, text, stopped);
                 self.since = now;
                 self.or_lost(said)
             }
@@ -150,17 +153,18 @@ impl Talk {
         &mut self,
         alloc: Global,
         desk: &mut D,
+        moment: u64,
         text: &mut Vec<u8>,
     ) -> Result<(), AllocError>
         ensures news { OnOk result
-            (AppendsReply D.replies desk.old desk.new news self.old.outgoing self.new.outgoing) }
+            (AppendsReply (D.replies moment) desk.old desk.new news self.old.outgoing self.new.outgoing) }
         ensures standing { OnOk result (self.new.standing ≡ after_line Next.Stay self.new.outgoing) }
         ensures err { OnErr result (self.new.outgoing ≡ self.old.outgoing) }
         ensures lines { self.new.lines ≡ self.old.lines }
         ensures since { self.new.since ≡ self.old.since }
     {
         text.clear();
-        desk.tell_news(alloc, text)?;
+        desk.tell_news(alloc, moment, text)?;
         self.outgoing.append(text)?;
         self.standing = self.after(Next::Stay);
         Ok(())
@@ -172,19 +176,20 @@ impl Talk {
         &mut self,
         alloc: Global,
         desk: &mut D,
+        moment: u64,
         heard: &Fed,
         text: &mut Vec<u8>,
         stopped: &AtomicBool,
     ) -> Result<bool, AllocError>
         requires stands { self.old.standing ≡ LinkState.Open }
-        ensures all { IfOk result (λ stops. AnswersAll D.replies D.shows (texts heard.now.lines.items)
+        ensures all { IfOk result (λ stops. AnswersAll (D.replies moment) D.shows (texts heard.now.lines.items)
             heard.now.too_long desk.old desk.new self.old.outgoing self.new.outgoing self.new.standing stops) }
         ensures lines { self.new.lines ≡ self.old.lines }
         ensures lost { OnErr result (self.new.standing ≡ LinkState.Lost) }
-        ensures broke { OnErr result (AnswersSome D.replies D.shows (texts heard.now.lines.items)
+        ensures broke { OnErr result (AnswersSome (D.replies moment) D.shows (texts heard.now.lines.items)
             desk.old self.old.outgoing self.new.outgoing) }
     {
-        let said = self.answer_all(alloc, desk, &heard.lines, heard.too_long, text, stopped);
+        let said = self.answer_all(alloc, desk, moment, heard, text, stopped);
         self.or_lost(said)
     }
 }

@@ -202,7 +202,7 @@ impl<L: CallerLine + Drop> Caller<L> {
             }
         } else if let Some(now) = self.begin(stopped) {
             self.read(alloc, desk, now, stopped);
-            self.tell_news(alloc, desk);
+            self.tell_news(alloc, desk, now);
             self.write(now);
         }
     }

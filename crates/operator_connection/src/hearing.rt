@@ -45,7 +45,7 @@ impl<L: CallerLine + Drop> Caller<L> {
     )
         requires stands { self.old.connection.standing ≡ LinkState.Open }
         requires few { count ≤ length self.old.chunk }
-        ensures { HearsPiece D.replies D.shows now (take count self.old.chunk) desk.old desk.new
+        ensures { HearsPiece (D.replies now) D.shows now (take count self.old.chunk) desk.old desk.new
             self.old.connection self.new.connection }
     {
         let octets = &self.chunk[..count];
@@ -69,7 +69,7 @@ impl<L: CallerLine + Drop> Caller<L> {
         now: u64,
         stopped: &AtomicBool,
     )
-        ensures { HasHeard D.replies D.shows now desk.old desk.new
+        ensures { HasHeard (D.replies now) D.shows now desk.old desk.new
             self.old.connection self.new.connection }
     {
         if !self.may_read() {
@@ -127,7 +127,7 @@ impl<L: CallerLine + Drop> Caller<L> {
         stopped: &AtomicBool,
     )
         requires open { self.old.connection.standing ≡ LinkState.Open }
-        ensures said { AnswersHeeded D.replies D.shows (heeded_in heard) desk.old desk.new
+        ensures said { AnswersHeeded (D.replies now) D.shows (heeded_in heard) desk.old desk.new
             self.old.connection self.new.connection }
         ensures since { self.new.connection.since ≡ now }
         ensures kept { self.new.connection.kept ≡ self.old.connection.kept }
@@ -137,7 +137,7 @@ impl<L: CallerLine + Drop> Caller<L> {
     {
         let said = self
             .talk
-            .answer_heard(alloc, desk, &heard, &mut self.text, stopped);
+            .answer_heard(alloc, desk, now, &heard, &mut self.text, stopped);
         self.talk.since = now;
         match said {
             Ok(true) => self.talk.note_stop(now),
@@ -156,7 +156,7 @@ impl<L: CallerLine + Drop> Caller<L> {
         now: u64,
         stopped: &AtomicBool,
     )
-        ensures { HasAnswered D.replies D.shows now self.old.connection.heeded desk.old desk.new
+        ensures { HasAnswered (D.replies now) D.shows now self.old.connection.heeded desk.old desk.new
             self.old.connection self.new.connection }
     {
         let Some(heard) = self.heard.take() else {
@@ -168,12 +168,12 @@ impl<L: CallerLine + Drop> Caller<L> {
     }
 
     /// Appends the news of a watch to what waits, while the connection is open.
-    pub(crate) fn tell_news<D: LineDesk>(&mut self, alloc: Global, desk: &mut D)
-        ensures { HasToldNews D.replies desk.old desk.new
+    pub(crate) fn tell_news<D: LineDesk>(&mut self, alloc: Global, desk: &mut D, now: u64)
+        ensures { HasToldNews (D.replies now) desk.old desk.new
             self.old.connection self.new.connection }
     {
         if self.talk.is_open() {
-            let told = self.talk.append_news(alloc, desk, &mut self.text);
+            let told = self.talk.append_news(alloc, desk, now, &mut self.text);
             let _ = self.talk.or_lost(told);
         }
     }

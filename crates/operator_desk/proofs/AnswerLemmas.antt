@@ -4,6 +4,7 @@ use Rattle.std.proofs.Common.{sym, ap, subst, ◌∙◌, length-append, inr, app
 use Rattle.std.specs.Prelude.{IfSome, IfNone, MatchBool}
 use mathlib.Core.List.{IsPrefix}
 use Rattle.logbook.specs.Pages.{Book}
+use Rattle.call_history.specs.Stamp.{StampOf}
 use Rattle.desk_rows.specs.Desk.{Desk}
 use Rattle.desk_edit.specs.Asked.{CallOf}
 use Rattle.desk_edit.specs.Calls.{refusal_of}
@@ -58,13 +59,14 @@ pub wants_memory : (start : Desk) (log : List EntryOf) (beyond : Option EntryOf)
 wants_memory start log beyond call free = inr (refl, free)
 
 -- a seat that has seen the whole log makes the next call
-pub accepted : (start : Desk) (publisher : Book) (old new : SeatOf) (log : List EntryOf) (call : CallOf) (n : ℕ)
-    (notice : NoticeOf)
-    → old.seen ≡ log → new.op ≡ old.op → new.seen ≡ log ++ record { op = old.op; call = call } ∷ [] → n ≡ length log + 1
+pub accepted : (start : Desk) (publisher : Book) (old new : SeatOf) (log : List EntryOf) (call : CallOf)
+    (stamp : StampOf) (n : ℕ) (notice : NoticeOf)
+    → old.seen ≡ log → new.op ≡ old.op
+    → new.seen ≡ log ++ record { op = old.op; call = call; stamp = stamp } ∷ [] → n ≡ length log + 1
     → IsLegal start new.seen → length (numbers old.op old.seen) ≡ old.count → new.count ≡ old.count + 1
-    → Tells start publisher new.seen notice → IsAccepted start publisher old new call n notice
-accepted start publisher old new log call n notice seen op goes number legal counted count tells =
-    let entry : EntryOf = record { op = old.op; call = call } in
+    → Tells start publisher new.seen notice → IsAccepted start publisher old new call stamp n notice
+accepted start publisher old new log call stamp n notice seen op goes number legal counted count tells =
+    let entry : EntryOf = record { op = old.op; call = call; stamp = stamp } in
     let own : numbers old.op new.seen ≡ numbers old.op old.seen ++ n ∷ [] =
     ap (numbers old.op) goes
     ∙ (own_numbers old.op log entry refl

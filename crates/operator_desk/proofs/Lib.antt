@@ -3,3 +3,4 @@ pub mod LogLemmas
 pub mod AnswerLemmas
 pub mod SeatLemmas
 pub mod PastLemmas
+pub mod StampLemmas

@@ -3,6 +3,7 @@ use Rattle.std.specs.Prelude.{◌≡◌, ◌⊎◌, ℕ, List, [], ◌∷◌, �
 use mathlib.Core.List.{IsPrefix}
 use Rattle.logbook.specs.Pages.{Book}
 use Rattle.desk_rows.specs.Desk.{Desk}
+use Rattle.call_history.specs.Stamp.{StampOf}
 use Rattle.desk_edit.specs.Asked.{CallOf}
 use Rattle.desk_edit.specs.declared.refusal.Refusal.TheVariants.{OutOfMemory}
 use Rattle.desk_edit.specs.declared.refusal.Carried.TheVariants.{Nothing}
@@ -40,14 +41,15 @@ abbrev pub IsCopy : Desk → ℕ → Desk → Type 0
 IsCopy start version rows =
     (log : List EntryOf) × IsLegal start log × (length log ≡ version) × (rows ≡ desk_now (after_log start log))
 
--- the call is the last one of a legal log that goes on from what the seat had seen; of its operator the log has the
--- calls that the seat had made and this one, and no others. The notice is that of this log
-pub record IsAccepted (start : Desk) (publisher : Book) (old new : SeatOf) (call : CallOf) (number : ℕ)
-    (notice : NoticeOf) : Type 0 where
+-- the call is the last one of a legal log that goes on from what the seat had seen, with this stamp; of its operator
+-- the log has the calls that the seat had made and this one, and no others. The notice is that of this log
+pub record IsAccepted (start : Desk) (publisher : Book) (old new : SeatOf) (call : CallOf) (stamp : StampOf)
+    (number : ℕ) (notice : NoticeOf) : Type 0 where
   pub op : new.op ≡ old.op
   pub at : length new.seen ≡ number
   pub legal : IsLegal start new.seen
-  pub ends : (between : List EntryOf) × (new.seen ≡ (old.seen ++ between) ++ record { op = old.op; call = call } ∷ [])
+  pub ends : (between : List EntryOf)
+      × (new.seen ≡ (old.seen ++ between) ++ record { op = old.op; call = call; stamp = stamp } ∷ [])
   pub own : numbers old.op new.seen ≡ numbers old.op old.seen ++ number ∷ []
   pub count : length (numbers old.op new.seen) ≡ new.count
   pub tells : Tells start publisher new.seen notice
@@ -70,10 +72,11 @@ pub record IsRefused (start : Desk) (old new : SeatOf) (call : CallOf) (version 
   pub count : new.count ≡ old.count
   pub reason : IsWhy start new.seen new.beyond call why
 
--- a call of a seat is accepted or refused
-abbrev pub IsAnswered : Desk → Book → SeatOf → SeatOf → CallOf → Answer → Type 0
-IsAnswered start publisher old new call (Accepted number notice) = IsAccepted start publisher old new call number notice
-IsAnswered start publisher old new call (Refused version why) = IsRefused start old new call version why
+-- a call of a seat is accepted with this stamp, or refused
+abbrev pub IsAnswered : Desk → Book → SeatOf → SeatOf → CallOf → StampOf → Answer → Type 0
+IsAnswered start publisher old new call stamp (Accepted number notice) =
+    IsAccepted start publisher old new call stamp number notice
+IsAnswered start publisher old new call stamp (Refused version why) = IsRefused start old new call version why
 
 -- the seat has seen a beginning of the log, in which its operator has the calls that the seat has seen and no others
 abbrev pub IsOurs : SeatOf → List EntryOf → Type 0

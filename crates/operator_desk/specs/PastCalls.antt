@@ -2,6 +2,7 @@
 use Rattle.std.specs.Prelude.{◌≡◌, ℕ, ◌+◌, List, [], ◌∷◌}
 use Rattle.desk_rows.specs.Desk.{Desk}
 use Rattle.call_history.specs.AcceptedCall.{AcceptedOf}
+use Rattle.call_history.specs.Stamp.{StampedOf}
 use Rattle.call_history.specs.Lists.{ListsOf, lists_of, in_force, last_few}
 use Rattle.operator_desk.specs.Entry.{EntryOf}
 use Rattle.operator_desk.specs.LegalLogs.{IsLegal}
@@ -14,6 +15,16 @@ made_from first (e ∷ es) = record { number = first; op = e.op; call = e.call }
 -- the accepted calls of a log, of which the first is number 1
 abbrev pub made_of : List EntryOf → List AcceptedOf
 made_of log = made_from 1 log
+
+-- the same, with their stamps
+abbrev pub stamped_from : ℕ → List EntryOf → List StampedOf
+stamped_from first [] = []
+stamped_from first (e ∷ es) =
+    record { made = record { number = first; op = e.op; call = e.call }; stamp = e.stamp } ∷ stamped_from (first + 1) es
+
+-- the accepted calls of a log with their stamps, of which the first is number 1
+abbrev pub stamped_of : List EntryOf → List StampedOf
+stamped_of log = stamped_from 1 log
 
 -- those of them that are done, and those that can be redone
 abbrev pub lists_in : List EntryOf → ListsOf

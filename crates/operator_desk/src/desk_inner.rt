@@ -22,7 +22,7 @@ use crate::fault::CallFault;
 use crate::log::Log;
 use crate::seat::Seat;
 use crate::tokens::{agree, catch_up, none_of};
-use call_history::CallLists;
+use call_history::{AcceptedCall, CallLists, CallStamp};
 use desk_calls::{Desk, Prepared};
 use desk_edit::{Call, Refusal};
 use desk_rows::Edit;
@@ -197,15 +197,16 @@ impl<'a, H: DeskBrand> DeskInner<'a, H> {
         alloc: Global,
         seat: &mut Seat<'a, H>,
         call: Call,
+        stamp: CallStamp,
     ) -> Result<Answer, CallFault>
-        ensures answer { IfOk result (IsAnswered H.start H.publisher seat.old seat.new (asked_by call)) }
+        ensures answer { IfOk result (IsAnswered H.start H.publisher seat.old seat.new (asked_by call) stamp) }
         ensures fault { IfErr result (IsUnanswered H.start seat.old seat.new (asked_by call)) }
         ensures foreign { result ≡ Err CallFault.SeatForeign → ¬ IsOurs seat.old self.old.log }
     {
         if !self.show(seat) {
             return Err(CallFault::SeatForeign);
         }
-        match self.answer(rt, alloc, seat, call) {
+        match self.answer(rt, alloc, seat, call, stamp) {
             Some(answer) => Ok(answer),
             None => Err(CallFault::Ended),
         }
@@ -218,9 +219,10 @@ impl<'a, H: DeskBrand> DeskInner<'a, H> {
         alloc: Global,
         seat: &mut Seat<'a, H>,
         call: Call,
+        stamp: CallStamp,
     ) -> Option<Answer>
         requires seen { seat.old.seen ≡ self.old.log }
-        ensures answer { IfSome result (IsAnswered H.start H.publisher seat.old seat.new (asked_by call)) }
+        ensures answer { IfSome result (IsAnswered H.start H.publisher seat.old seat.new (asked_by call) stamp) }
         ensures ended { IfNone result (IsEnded H.start seat.old seat.new (asked_by call)) }
     {
         let at = self.desk.version();
@@ -233,7 +235,7 @@ impl<'a, H: DeskBrand> DeskInner<'a, H> {
             Err(why) => return Some(refused(at, why)),
         };
         match self.desk.edit_of(alloc, &call, &prepared) {
-            Ok(edits) => self.write(rt, seat, call, prepared, edits),
+            Ok(edits) => self.write(rt, seat, call, stamp, prepared, edits),
             Err(_) => Some(refused(at, Refusal::OutOfMemory)),
         }
     }
@@ -247,6 +249,7 @@ impl<'a, H: DeskBrand> DeskInner<'a, H> {
         rt: &R,
         seat: &mut Seat<'a, H>,
         call: Call,
+        stamp: CallStamp,
         prepared: Prepared,
         edits: Edits<Edit>,
     ) -> Option<Answer>
@@ -256,15 +259,15 @@ impl<'a, H: DeskBrand> DeskInner<'a, H> {
         requires fit { fits self.old.desk.desk edits ≡ true }
         requires free { refusal_of (after_log H.start self.old.log) (asked_by call) ≡ None }
         requires beyond { self.old.beyond ≡ None }
-        ensures answer { IfSome result (IsAnswered H.start H.publisher seat.old seat.new (asked_by call)) }
+        ensures answer { IfSome result (IsAnswered H.start H.publisher seat.old seat.new (asked_by call) stamp) }
         ensures ended { IfNone result (IsEnded H.start seat.old seat.new (asked_by call)) }
     {
         let at = self.desk.version();
         if self.lists.reserve().is_err() || self.publisher.stage(edits).is_err() {
             return Some(refused(at, Refusal::OutOfMemory));
         }
-        let next = self.entries.len();
-        match self.log.write(rt, next, LogEntry::new(seat.op, call)) {
+        let end = self.entries.len();
+        match self.log.write(rt, end, LogEntry::new(seat.op, call, stamp)) {
             Ok(token) => {
                 let Some(_version) = self.publisher.publish(rt) else {
                     self.ended = true;
@@ -272,7 +275,7 @@ impl<'a, H: DeskBrand> DeskInner<'a, H> {
                     seat.next = Some(token);
                     return None;
                 };
-                let entry = self.log.read(next, &token);
+                let entry = self.log.read(end, &token);
                 self.entries.push_reserved(token.again());
                 seat.seen.push_reserved(token);
                 seat.next = None;

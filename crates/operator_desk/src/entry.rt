@@ -3,18 +3,19 @@
 ghost use Rattle.std.specs.Prelude.{◌≡◌, IfOk};
 ghost use Rattle.desk_edit.specs.Asked.{asked_by};
 
-use call_history::AcceptedCall;
+use call_history::{AcceptedCall, CallStamp, StampedCall};
 use desk_edit::Call;
 use std::alloc::{AllocError, Global};
 use std::marker::Model;
 
-/// An accepted call, and the operator who made it.
+/// An accepted call, the operator who made it, and when it was accepted under which name.
 ///
-/// Contracts see the operator, and what the call asks.
+/// Contracts see the operator, what the call asks, and the stamp.
 #[derive(Drop)]
 pub struct LogEntry {
     op: u32,
     call: Call,
+    stamp: CallStamp,
 }
 
 impl Model for LogEntry {
@@ -23,14 +24,14 @@ impl Model for LogEntry {
 
     ghost Value = { EntryOf };
 
-    ghost view = { λ e. record { op = e.op; call = asked_by e.call } };
+    ghost view = { λ e. record { op = e.op; call = asked_by e.call; stamp = e.stamp } };
 }
 
 impl LogEntry {
-    pub(crate) fn new(op: u32, call: Call) -> LogEntry
-        ensures { result ≡ record { op = op; call = asked_by call } }
+    pub(crate) fn new(op: u32, call: Call, stamp: CallStamp) -> LogEntry
+        ensures { result ≡ record { op = op; call = asked_by call; stamp = stamp } }
     {
-        LogEntry { op, call }
+        LogEntry { op, call, stamp }
     }
 
     /// The operator who made the call.
@@ -54,11 +55,22 @@ impl LogEntry {
         AcceptedCall::new(no, self.op, &self.call)
     }
 
+    /// The same with its stamp.
+    pub(crate) fn stamped(&self, no: u64) -> StampedCall<'_>
+        ensures { result ≡ record {
+          made = record { number = no; op = self.now.op; call = self.now.call };
+          stamp = self.now.stamp;
+        } }
+    {
+        StampedCall::new(self.accepted(no), &self.stamp)
+    }
+
     /// The call itself. It uses the entry up.
     pub fn into_call(self) -> Call
         ensures { asked_by result ≡ self.call }
     {
-        self.call
+        let LogEntry { call, .. } = self;
+        call
     }
 
     /// The same entry again.
@@ -68,6 +80,7 @@ impl LogEntry {
         Ok(LogEntry {
             op: self.op,
             call: copied(alloc, &self.call)?,
+            stamp: self.stamp.copy(alloc)?,
         })
     }
 }

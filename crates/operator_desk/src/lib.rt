@@ -2,8 +2,9 @@
 //!
 //! Begin with [`Log::new`], then [`SharedDesk::new`], which returns a [`Seat`] for each operator and the readers of
 //! the published rows. An operator calls by [`SharedDesk::call`], and sees what others called by
-//! [`SharedDesk::catch_up`] and [`SharedDesk::calls_after`]. In the end [`SharedDesk::gather`] takes all seats
-//! back and returns the whole log, or [`SharedDesk::end`] gives it up.
+//! [`SharedDesk::catch_up`] and [`SharedDesk::calls_after`]. The log keeps with each call when it was given and under
+//! which name, which no row and no version has: [`SharedDesk::stamped_after`]. In the end [`SharedDesk::gather`] takes
+//! all seats back and returns the whole log, or [`SharedDesk::end`] gives it up.
 //!
 //! Contracts see a seat as what its operator knows: the log that it has seen, and how many of its own calls were
 //! accepted. All seats see beginnings of one log. Contracts say nothing of time: a call may wait for calls of others.
@@ -13,7 +14,8 @@
 //! let log = Log::new(alloc)?;
 //! let (desk, mut seats, readers) = SharedDesk::<H>::new(&rt, alloc, &log, names, 1, 2, 1)?; // two seats
 //! let call = Call::Apply(Command::AddRoom(Room { room: 1, rate: 8_000 }));
-//! let answer = desk.call(&rt, alloc, &mut seats[0], call)?; // its number and notice, or why it is refused
+//! let stamp = CallStamp::new(alloc, 1_764_360_000_123, b"bob")?;
+//! let answer = desk.call(&rt, alloc, &mut seats[0], call, stamp)?; // its number and notice, or why it is refused
 //! match desk.gather(&rt, alloc, seats) {
 //!     Ok((all, _notice)) => println!(rt; "{} calls", all.len())?, // the whole log, since all seats are back
 //!     Err((desk, _seats, _fault, _behind)) => desk.end(&rt),

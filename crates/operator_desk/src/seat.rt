@@ -3,15 +3,15 @@
 ghost use Rattle.std.specs.Prelude.{◌≡◌, ◌+◌, ◌≤◌, length, drop, IfOk, OnOk};
 ghost use mathlib.Core.List.{IsPrefix};
 ghost use Rattle.operator_desk.specs.LegalLogs.{IsLegal};
-ghost use Rattle.operator_desk.specs.PastCalls.{made_of};
+ghost use Rattle.operator_desk.specs.PastCalls.{made_of, stamped_of};
 ghost use Rattle.operator_desk.specs.Seats.{new_seat, new_seats};
 ghost use Rattle.operator_desk.specs.inner.Tokens.{shown, AreFirst};
 
 use crate::desk_brand::DeskBrand;
 use crate::entry::LogEntry;
 use crate::log::Log;
-use crate::tokens::{accepted_after, agree};
-use call_history::AcceptedCall;
+use crate::tokens::{accepted_after, agree, stamped_after};
+use call_history::{AcceptedCall, StampedCall};
 use std::alloc::{AllocError, Global};
 use std::marker::Model;
 use std::sync::OnceToken;
@@ -104,6 +104,19 @@ impl<'a, H: DeskBrand> Seat<'a, H> {
         ensures { IfOk result (λ calls. calls.items ≡ drop version (made_of self.now.seen)) }
     {
         accepted_after(alloc, log, &self.seen, version)
+    }
+
+    /// The same with their stamps.
+    pub(crate) fn stamped_after(
+        &self,
+        alloc: Global,
+        log: &'a Log,
+        version: usize,
+    ) -> Result<Vec<StampedCall<'a>>, AllocError>
+        requires log { log.now ≡ H.cells }
+        ensures { IfOk result (λ calls. calls.items ≡ drop version (stamped_of self.now.seen)) }
+    {
+        stamped_after(alloc, log, &self.seen, version)
     }
 
     /// Gives its share back. What it has seen is a beginning of the log.

@@ -7,7 +7,7 @@ ghost use Rattle.desk_rows.specs.Desk.{blank as no_rows, good};
 ghost use Rattle.desk_edit.specs.Asked.{asked_by};
 ghost use Rattle.published_desk.specs.Published.{new_reader};
 ghost use Rattle.operator_desk.specs.LegalLogs.{IsLegal};
-ghost use Rattle.operator_desk.specs.PastCalls.{IsPast, made_of};
+ghost use Rattle.operator_desk.specs.PastCalls.{IsPast, made_of, stamped_of};
 ghost use Rattle.operator_desk.specs.Seats.{SeatOf, new_seats};
 ghost use Rattle.operator_desk.specs.Answers.{IsAnswered, IsUnanswered, IsNotice, IsCopy, Tells};
 ghost use Rattle.operator_desk.specs.Answers.{HasCaughtUp, IsForeign};
@@ -23,7 +23,7 @@ use crate::gathering::judged;
 use crate::log::Log;
 use crate::past::Past;
 use crate::seat::{Seat, seats_for};
-use call_history::{AcceptedCall, CallLists};
+use call_history::{AcceptedCall, CallLists, CallStamp, StampedCall};
 use desk_calls::Desk;
 use desk_edit::Call;
 use desk_rows::Rows;
@@ -138,7 +138,7 @@ impl<'a, H: DeskBrand> SharedDesk<'a, H> {
         }
     }
 
-    /// Answers a call of one of this desk's seats.
+    /// Answers a call of one of this desk's seats. The log keeps an accepted one with this stamp.
     ///
     /// A seat of another desk has no answer, and stays as it was. Nor has any call from the first one on that could not
     /// be published: to its seat an entry stands behind the log.
@@ -150,13 +150,14 @@ impl<'a, H: DeskBrand> SharedDesk<'a, H> {
         alloc: Global,
         seat: &mut Seat<'a, H>,
         call: Call,
+        stamp: CallStamp,
     ) -> Result<Answer, CallFault>
         ensures answer { IfOk result (λ answer.
-            IsAnswered H.start H.publisher seat.old seat.new (asked_by call) answer) }
+            IsAnswered H.start H.publisher seat.old seat.new (asked_by call) stamp answer) }
         ensures fault { IfErr result (λ fault. IsUnanswered H.start seat.old seat.new (asked_by call) fault) }
     {
         let mut held = self.inner.lock(rt);
-        let answer = held.call(rt, alloc, seat, call);
+        let answer = held.call(rt, alloc, seat, call, stamp);
         MutexGuard::unlock(held);
         answer
     }
@@ -185,6 +186,18 @@ impl<'a, H: DeskBrand> SharedDesk<'a, H> {
         ensures { IfOk result (λ calls. calls.items ≡ drop version (made_of seat.now.seen)) }
     {
         seat.calls_after(alloc, self.log, version)
+    }
+
+    /// The same with their stamps.
+    pub fn stamped_after(
+        &self,
+        alloc: Global,
+        seat: &Seat<'a, H>,
+        version: usize,
+    ) -> Result<Vec<StampedCall<'a>>, AllocError>
+        ensures { IfOk result (λ calls. calls.items ≡ drop version (stamped_of seat.now.seen)) }
+    {
+        seat.stamped_after(alloc, self.log, version)
     }
 
     /// The notice of what is published now.

@@ -3,12 +3,12 @@
 ghost use Rattle.std.specs.Prelude.{◌≡◌, ◌≢◌, ◌≤◌, ◌<◌, length, take, drop, vec_len, vec_capacity, IfOk};
 ghost use Rattle.std.specs.Bool.{OnTrue, OnFalse};
 ghost use Rattle.operator_desk.specs.OwnCalls.{numbers};
-ghost use Rattle.operator_desk.specs.PastCalls.{made_of};
+ghost use Rattle.operator_desk.specs.PastCalls.{made_of, stamped_of};
 ghost use Rattle.operator_desk.specs.inner.Tokens.{marks, shown, AreFirst};
 
 use crate::entry::LogEntry;
 use crate::log::Log;
-use call_history::AcceptedCall;
+use call_history::{AcceptedCall, StampedCall};
 use std::alloc::{AllocError, Global};
 use std::sync::OnceToken;
 
@@ -95,6 +95,23 @@ pub fn accepted_after<'a>(
     let mut calls = Vec::new(alloc);
     for k in version..entries.len() {
         calls.push(log.read(k, &entries[k]).accepted(k as u64 + 1))?;
+    }
+    Ok(calls)
+}
+
+/// The accepted calls that these tokens show, with their stamps, but for so many first ones.
+pub fn stamped_after<'a>(
+    alloc: Global,
+    log: &'a Log,
+    entries: &Vec<OnceToken<'a, LogEntry>>,
+    version: usize,
+) -> Result<Vec<StampedCall<'a>>, AllocError>
+    requires entries { AreFirst log.now entries.now.items }
+    ensures { IfOk result (λ calls. calls.items ≡ drop version (stamped_of (shown entries.now.items))) }
+{
+    let mut calls = Vec::new(alloc);
+    for k in version..entries.len() {
+        calls.push(log.read(k, &entries[k]).stamped(k as u64 + 1))?;
     }
     Ok(calls)
 }

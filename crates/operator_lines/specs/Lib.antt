@@ -1,9 +1,15 @@
+pub mod Advice
 pub mod Cut
 pub mod DeskAsk
 pub mod Fed
+pub mod Forms
+pub mod Help
 pub mod Inbound
 pub mod Openings
 pub mod Operators
 pub mod Outbound
+pub mod Own
+pub mod Topics
+pub mod Why
 pub mod inner
 pub mod laws

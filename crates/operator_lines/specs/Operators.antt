@@ -1,35 +1,43 @@
 -- What operators' lines ask for, and how they are answered (own).
-use Rattle.std.specs.Prelude.{◌≡◌, ℕ, Bool, not, if◌then◌else◌, List, [], ◌∷◌, ◌++◌}
-use Rattle.std.specs.Prelude.{take, codes, decimal, Option, Some, None, Result, Ok, Err}
+use Rattle.std.specs.Prelude.{◌≡◌, ℕ, Bool, true, false, not, ◌&&◌, if◌then◌else◌, List, [], ◌∷◌, ◌++◌, length}
+use Rattle.std.specs.Prelude.{take, codes, decimal, nat_lt, nat_le, Option, Some, None, Result, Ok, Err}
 use Rattle.std.specs.List.{list_all}
 use Rattle.std.specs.Str.{bytes_eq}
 use Rattle.desk_edit.specs.Asked.{CallOf, asked_by}
 use Rattle.desk_text.specs.declared.fault.Fault.{Fault}
 use Rattle.desk_text.specs.declared.fault.Fault.TheVariants.{LineTooLong, BadByte, UnknownWord, MissingWord}
 use Rattle.desk_text.specs.declared.fault.Fault.TheVariants.{ExtraWord, BadNumber, BadAddress, BadHex, BadFrame}
-use Rattle.desk_text.specs.Words.{cut_of, value_or}
+use Rattle.desk_text.specs.Words.{◌>>=◌, value_or, word_at, none_left}
 use Rattle.desk_text.specs.Numbers.{decimal_of}
 use Rattle.desk_text.specs.Calls.{spoken_call, spoken_words}
 use Rattle.desk_text.specs.Lines.{is_printable}
 use Rattle.desk_text.specs.Text.{fault_text}
-use Rattle.operator_lines.specs.DeskAsk.{DeskAsk, calls, watches}
+use Rattle.operator_lines.specs.DeskAsk.{DeskAsk, calls, watches, lists, renames, faults}
+use Rattle.operator_lines.specs.Help.{help_text}
+use Rattle.operator_lines.specs.Own.{own_of}
+use Rattle.operator_lines.specs.Topics.{topic_of}
 use Rattle.operator_lines.specs.declared.asking.LineAsk.{LineAsk}
 use Rattle.operator_lines.specs.declared.asking.LineAsk.TheVariants as variants
 use Rattle.operator_lines.specs.declared.asking.Verb.{Verb}
-use Rattle.operator_lines.specs.declared.asking.Verb.TheVariants.{Show, Watch, Quit, Stop}
+use Rattle.operator_lines.specs.declared.asking.Verb.TheVariants.{Show, Calls, Watch, Help, Quit, Stop}
 use Rattle.operator_lines.specs.declared.line_desk.View.{View}
-use Rattle.operator_lines.specs.declared.line_desk.View.TheVariants.{Rows, History, Stats, Levels}
+use Rattle.operator_lines.specs.declared.line_desk.View.TheVariants.{Rows, History, Stats, Levels, Why}
+use Rattle.operator_lines.specs.declared.own.Own.{Own}
+use Rattle.operator_lines.specs.declared.own.Own.TheVariants as owns
+use Rattle.operator_lines.specs.declared.topic.Topic.{Topic}
 use Rattle.operator_lines.specs.declared.answering.Next.{Next}
 use Rattle.operator_lines.specs.declared.answering.Next.TheVariants as next
 
--- what a line asks for: a call of the desk, or what a line asks for that is no call
+-- what a line asks for: a call of the desk, a name for the connection, or what needs no octets of the line's own
 pub data AskOf : Type 0 where
   spoken : CallOf → AskOf
+  names : List ℕ → AskOf
   alone : Verb → AskOf
 
--- what was read, without where its commands lie
+-- what was read, without where its octets and its commands lie
 abbrev pub asks : {A : Type 0} → LineAsk A → AskOf
 asks (variants.Call call) = spoken (asked_by call)
+asks (variants.Name name) = names name.now
 asks (variants.Verb verb) = alone verb
 
 -- the call that was read
@@ -41,57 +49,89 @@ asked_call (Err fault) = Err fault
 abbrev pub every_call : ℕ
 every_call = 18446744073709551615
 
--- the line of one word that this is, if it is one
-abbrev pub alone_of : List ℕ → Option Verb
-alone_of word =
-    if bytes_eq word (codes "show") then Some (Show Rows)
-    else if bytes_eq word (codes "history") then Some (Show (History every_call))
-    else if bytes_eq word (codes "stats") then Some (Show Stats)
-    else if bytes_eq word (codes "levels") then Some (Show Levels)
-    else if bytes_eq word (codes "watch") then Some Watch
-    else if bytes_eq word (codes "quit") then Some Quit
-    else if bytes_eq word (codes "stop") then Some Stop
-    else None
+-- the most octets of a name
+abbrev pub name_limit : ℕ
+name_limit = 64
 
--- such a word asks for this if it is the only one; any other line is a call
-abbrev pub alone_or : Option Verb → Result AskOf (ℕ × Fault) → Result AskOf (ℕ × Fault)
-alone_or (Some verb) otherwise = Ok (alone verb)
-alone_or None otherwise = otherwise
+-- how many calls at most these words, behind a line's first, ask for: all, where there are none
+unfoldable pub most_in : List (List ℕ) → Result ℕ (ℕ × Fault)
+most_in [] = Ok every_call
+most_in (word ∷ words) = do
+  most ← value_or 2 BadNumber (decimal_of every_call word)
+  end ← none_left 3 words
+  Ok most
 
--- behind a second word none may stand; but the second one is judged first
-abbrev pub fault_behind : Option ℕ → Result ℕ (ℕ × Fault)
-fault_behind None = Err (2, BadNumber)
-fault_behind (Some most) = Err (3, ExtraWord)
+-- these words ask for moments and names: `names` does, and no other word may stand there
+unfoldable pub named_in : List (List ℕ) → Result Bool (ℕ × Fault)
+named_in [] = Ok false
+named_in (word ∷ words) = do
+  first ← none_left 2 (if bytes_eq word (codes "names") then [] else word ∷ [])
+  end ← none_left 3 words
+  Ok true
 
--- the number of 64 bits that a text is, the second word of its line, cut at its first space (32) if it has one
-abbrev pub most_in : List ℕ → Option (List ℕ × List ℕ) → Result ℕ (ℕ × Fault)
-most_in text None = value_or 2 BadNumber (decimal_of every_call text)
-most_in text (Some parts) = fault_behind (decimal_of every_call parts.0)
+-- a word can be a name
+abbrev pub is_operator_name : List ℕ → Bool
+is_operator_name word = nat_lt 0 (length word) && nat_le (length word) name_limit
 
--- so many of the last calls are to be shown
-abbrev pub asked_most : Result ℕ (ℕ × Fault) → Result AskOf (ℕ × Fault)
-asked_most (Ok most) = Ok (alone (Show (History most)))
-asked_most (Err fault) = Err fault
+-- the word, if it can be a name
+abbrev pub name_from : List ℕ → Option (List ℕ)
+name_from word = if is_operator_name word then Some word else None
 
--- what such a line asks for with this text behind its word: only behind `history` may one stand, a number
-abbrev pub behind_of : Verb → List ℕ → Result AskOf (ℕ × Fault)
-behind_of (Show (History most)) text = asked_most (most_in text (cut_of 32 text))
-behind_of (Show Rows) text = Err (2, ExtraWord)
-behind_of (Show Stats) text = Err (2, ExtraWord)
-behind_of (Show Levels) text = Err (2, ExtraWord)
-behind_of Watch text = Err (2, ExtraWord)
-behind_of Quit text = Err (2, ExtraWord)
-behind_of Stop text = Err (2, ExtraWord)
+-- the name that these words are
+unfoldable pub name_in : List (List ℕ) → Result (List ℕ) (ℕ × Fault)
+name_in words = do
+  word ← word_at 2 words
+  name ← value_or 2 UnknownWord (name_from word.0)
+  end ← none_left 3 word.1
+  Ok name
 
--- such a word asks for this with the text behind it; any other line is a call
-abbrev pub behind_or : Option Verb → List ℕ → Result AskOf (ℕ × Fault) → Result AskOf (ℕ × Fault)
-behind_or (Some verb) text otherwise = behind_of verb text
-behind_or None text otherwise = otherwise
+-- what these words ask about: no line, or the one that begins with the word
+unfoldable pub topic_in : List (List ℕ) → Result (Option Topic) (ℕ × Fault)
+topic_in [] = Ok None
+topic_in (word ∷ words) = do
+  topic ← value_or 2 UnknownWord (topic_of word)
+  end ← none_left 3 words
+  Ok (Some topic)
 
--- what a line asks for, cut at its first space (32) if it has one
-abbrev pub asked_in : List ℕ → Option (List ℕ × List ℕ) → Result AskOf (ℕ × Fault) → Result AskOf (ℕ × Fault)
-asked_in line None otherwise = alone_or (alone_of line) otherwise
-asked_in line (Some parts) otherwise = behind_or (alone_of parts.0) parts.1 otherwise
+-- this is asked, where no word stands behind the first
+unfoldable pub alone_in : Verb → List (List ℕ) → Result AskOf (ℕ × Fault)
+alone_in verb words = do
+  end ← none_left 2 words
+  Ok (alone verb)
+
+-- what a line asks that begins so, with these words behind its first
+unfoldable pub asked_own : Own → List (List ℕ) → Result AskOf (ℕ × Fault)
+asked_own owns.Show words = alone_in (Show Rows) words
+asked_own owns.History words = do
+  most ← most_in words
+  Ok (alone (Show (History most)))
+asked_own owns.Calls words = do
+  most ← most_in words
+  Ok (alone (Calls most))
+asked_own owns.Stats words = alone_in (Show Stats) words
+asked_own owns.Levels words = alone_in (Show Levels) words
+asked_own owns.Watch words = do
+  is_named ← named_in words
+  Ok (alone (Watch is_named))
+asked_own owns.As words = do
+  name ← name_in words
+  Ok (names name)
+asked_own owns.Why words = alone_in (Show Why) words
+asked_own owns.Help words = do
+  topic ← topic_in words
+  Ok (alone (Help topic))
+asked_own owns.Quit words = alone_in Quit words
+asked_own owns.Stop words = alone_in Stop words
+
+-- such a line asks this; any other line is a call
+abbrev pub own_or : Option Own → List (List ℕ) → Result AskOf (ℕ × Fault) → Result AskOf (ℕ × Fault)
+own_or (Some own) words otherwise = asked_own own words
+own_or None words otherwise = otherwise
+
+-- what a line of these words asks for, by the call that it is
+abbrev pub asked_in : List (List ℕ) → Result AskOf (ℕ × Fault) → Result AskOf (ℕ × Fault)
+asked_in [] otherwise = otherwise
+asked_in (word ∷ words) otherwise = own_or (own_of word) words otherwise
 
 -- each octet is one that a line may hold
 abbrev pub is_printed : List ℕ → Bool
@@ -101,7 +141,7 @@ is_printed line = list_all is_printable line
 unfoldable pub asked_of : List ℕ → Result AskOf (ℕ × Fault)
 asked_of line =
     if not (is_printed line) then Err (0, BadByte)
-    else asked_in line (cut_of 32 line) (asked_call (spoken_call line))
+    else asked_in (spoken_words line) (asked_call (spoken_call line))
 
 -- the first word of a line is `group`
 abbrev pub begins_group : List ℕ → Type 0
@@ -132,6 +172,10 @@ after_fault BadFrame = next.Stay
 abbrev pub Replying : Type 0 → Type 1
 Replying D = D → D → DeskAsk → List ℕ → Type 0
 
+-- the same at a moment, in nanoseconds since 1970
+abbrev pub TimedReplying : Type 0 → Type 1
+TimedReplying D = (moment : ℕ) → Replying D
+
 -- what a desk may show: what is asked of it, and the text that is told
 abbrev pub Showing : Type 0 → Type 1
 Showing D = D → View → List ℕ → Type 0
@@ -144,28 +188,39 @@ AppendsReply replies old new ask before after = (text : List ℕ) × (after ≡ 
 abbrev pub AppendsShown : {D : Type 0} → Showing D → D → View → List ℕ → List ℕ → Type 0
 AppendsShown shows desk view before after = (text : List ℕ) × (after ≡ before ++ text) × shows desk view text
 
--- what was read of a line is answered so, and this happens to the connection
+-- What was read of a line is answered so, and this happens to the connection. The desk notes a fault, and tells
+-- nothing of it.
 abbrev pub AnswersAsk :
-    {D : Type 0} → Replying D → Showing D → D → Result AskOf (ℕ × Fault) → D → List ℕ → Next → Type 0
-AnswersAsk replies shows old (Err fault) new text becomes =
-    (new ≡ old) × (text ≡ fault_line fault.0 fault.1) × (becomes ≡ after_fault fault.1)
-AnswersAsk replies shows old (Ok (spoken call)) new text becomes =
-    replies old new (calls call) text × (becomes ≡ next.Stay)
-AnswersAsk replies shows old (Ok (alone (Show view))) new text becomes =
+    {D : Type 0} → Replying D → Showing D → (line : List ℕ) → D → Result AskOf (ℕ × Fault) → D → List ℕ → Next → Type 0
+AnswersAsk replies shows line old (Err fault) new text becomes =
+    replies old new (faults line fault.0 fault.1) [] × (text ≡ fault_line fault.0 fault.1)
+    × (becomes ≡ after_fault fault.1)
+AnswersAsk replies shows line old (Ok (spoken call)) new text becomes =
+    replies old new (calls line call) text × (becomes ≡ next.Stay)
+AnswersAsk replies shows line old (Ok (names name)) new text becomes =
+    replies old new (renames name) text × (becomes ≡ next.Stay)
+AnswersAsk replies shows line old (Ok (alone (Show view))) new text becomes =
     (new ≡ old) × shows old view text × (becomes ≡ next.Stay)
-AnswersAsk replies shows old (Ok (alone Watch)) new text becomes =
-    replies old new watches text × (becomes ≡ next.Stay)
-AnswersAsk replies shows old (Ok (alone Quit)) new text becomes = (new ≡ old) × (text ≡ []) × (becomes ≡ next.Quit)
-AnswersAsk replies shows old (Ok (alone Stop)) new text becomes = (new ≡ old) × (text ≡ []) × (becomes ≡ next.Stop)
+AnswersAsk replies shows line old (Ok (alone (Calls most))) new text becomes =
+    replies old new (lists most) text × (becomes ≡ next.Stay)
+AnswersAsk replies shows line old (Ok (alone (Watch is_named))) new text becomes =
+    replies old new (watches is_named) text × (becomes ≡ next.Stay)
+AnswersAsk replies shows line old (Ok (alone (Help topic))) new text becomes =
+    (new ≡ old) × (text ≡ help_text topic) × (becomes ≡ next.Stay)
+AnswersAsk replies shows line old (Ok (alone Quit)) new text becomes =
+    (new ≡ old) × (text ≡ []) × (becomes ≡ next.Quit)
+AnswersAsk replies shows line old (Ok (alone Stop)) new text becomes =
+    (new ≡ old) × (text ≡ []) × (becomes ≡ next.Stop)
 
--- what was read is answered so, and the text is appended
+-- what was read of a line is answered so, and the text is appended
 abbrev pub AppendsAnswer :
-    {D : Type 0} → Replying D → Showing D → D → Result AskOf (ℕ × Fault) → D → List ℕ → List ℕ → Next → Type 0
-AppendsAnswer replies shows old read new before after becomes =
-    (text : List ℕ) × (after ≡ before ++ text) × AnswersAsk replies shows old read new text becomes
+    {D : Type 0} → Replying D → Showing D → (line : List ℕ) → D → Result AskOf (ℕ × Fault) → D → List ℕ → List ℕ → Next
+    → Type 0
+AppendsAnswer replies shows line old read new before after becomes =
+    (text : List ℕ) × (after ≡ before ++ text) × AnswersAsk replies shows line old read new text becomes
 
 -- a line is answered so, and the text is appended
 abbrev pub AnswersLine :
     {D : Type 0} → Replying D → Showing D → D → D → List ℕ → List ℕ → List ℕ → Next → Type 0
 AnswersLine replies shows old new line before after becomes =
-    AppendsAnswer replies shows old (asked_of line) new before after becomes
+    AppendsAnswer replies shows line old (asked_of line) new before after becomes

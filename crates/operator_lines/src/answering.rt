@@ -1,10 +1,11 @@
 //! Answers operators' lines.
 
-ghost use Rattle.std.specs.Prelude.{◌≡◌, ◌++◌, Ok, IfOk, OnOk, OnErr};
+ghost use Rattle.std.specs.Prelude.{◌≡◌, ◌++◌, ℕ, List, Ok, IfOk, OnOk, OnErr};
 ghost use Rattle.desk_text.specs.declared.fault.Fault.TheVariants.{LineTooLong};
 ghost use Rattle.operator_lines.specs.Operators.{fault_line, after_fault, busy_line, alone, AppendsAnswer, AnswersLine};
 
 use crate::asking::{LineAsk, Verb, parse_line};
+use crate::helping::print_help;
 use crate::line_desk::LineDesk;
 use desk_text::{Fault, ParseFault};
 use std::alloc::{AllocError, Allocator, Global};
@@ -66,15 +67,16 @@ pub fn print_too_long<A: Allocator + Copy>(alloc: A, out: &mut Vec<u8, A>) -> Re
     print_fault(alloc, 0, Fault::LineTooLong, out)
 }
 
-/// Carries out a line that is no call, and appends the answer. An `Err` appends nothing.
+/// Carries out a line without octets of its own, and appends the answer. An `Err` appends nothing.
 fn answer_verb<D: LineDesk>(
     alloc: Global,
     desk: &mut D,
+    moment: u64,
     verb: Verb,
     out: &mut Vec<u8>,
 ) -> Result<Next, AllocError>
-    ensures answer { IfOk result (λ next.
-        AppendsAnswer D.replies D.shows desk.old (Ok (alone verb)) desk.new out.old.items out.new.items next) }
+    ensures answer { IfOk result (λ next. (line : List ℕ) → AppendsAnswer (D.replies moment) D.shows line desk.old
+        (Ok (alone verb)) desk.new out.old.items out.new.items next) }
     ensures err { OnErr result (out.new.items ≡ out.old.items) }
 {
     match verb {
@@ -82,8 +84,16 @@ fn answer_verb<D: LineDesk>(
             desk.show(alloc, view, out)?;
             Ok(Next::Stay)
         }
-        Verb::Watch => {
-            desk.watch(alloc, out)?;
+        Verb::Calls { most } => {
+            desk.tell_calls(alloc, moment, most, out)?;
+            Ok(Next::Stay)
+        }
+        Verb::Watch { is_named } => {
+            desk.watch(alloc, moment, is_named, out)?;
+            Ok(Next::Stay)
+        }
+        Verb::Help { topic } => {
+            print_help(alloc, topic, out)?;
             Ok(Next::Stay)
         }
         Verb::Quit => Ok(Next::Quit),
@@ -91,26 +101,33 @@ fn answer_verb<D: LineDesk>(
     }
 }
 
-/// Answers an operator's line, without its LF: carries it out, and appends the answer.
+/// Answers an operator's line, without its LF, at this moment, in nanoseconds since 1970: carries it out, and appends
+/// the answer.
 ///
 /// On out of memory nothing is appended, but a call may have been carried out.
 pub fn answer<D: LineDesk>(
     alloc: Global,
     desk: &mut D,
+    moment: u64,
     line: &[u8],
     out: &mut Vec<u8>,
 ) -> Result<Next, AllocError>
     ensures answer { IfOk result (λ next.
-        AnswersLine D.replies D.shows desk.old desk.new line.now out.old.items out.new.items next) }
+        AnswersLine (D.replies moment) D.shows desk.old desk.new line.now out.old.items out.new.items next) }
     ensures err { OnErr result (out.new.items ≡ out.old.items) }
 {
     match parse_line(alloc, line) {
         Ok(LineAsk::Call(call)) => {
-            desk.reply(alloc, call, out)?;
+            desk.reply(alloc, moment, line, call, out)?;
             Ok(Next::Stay)
         }
-        Ok(LineAsk::Verb(verb)) => answer_verb(alloc, desk, verb, out),
+        Ok(LineAsk::Name(name)) => {
+            desk.rename(alloc, moment, name, out)?;
+            Ok(Next::Stay)
+        }
+        Ok(LineAsk::Verb(verb)) => answer_verb(alloc, desk, moment, verb, out),
         Err(ParseFault::Line { word, fault }) => {
+            desk.note_fault(alloc, moment, line, word, fault)?;
             print_fault(alloc, word, fault, out)?;
             Ok(after_fault(fault))
         }

@@ -16,7 +16,7 @@ use std::alloc::{AllocError, Global};
 pub enum Opening {
     /// A faulty line: it is answered, and the connection is closed.
     Faulty,
-    /// A call, `show`, `history`, `stats`, `levels`, `watch`, `quit` or `stop`: it takes a seat, and is answered there.
+    /// Any other line: it takes a seat, and is answered there.
     Good,
 }
 

@@ -1,8 +1,16 @@
 //! Laws of the definitions, as functions that do nothing when they run.
 
-ghost use Rattle.std.specs.Prelude.{◌≡◌, ℕ, true, List, ◌∷◌, ◌++◌};
-ghost use Rattle.std.specs.List.{AllByRecursion};
+ghost use Rattle.std.specs.Prelude.{◌≡◌, ℕ, true, List, ◌∷◌, ◌++◌, map, Some};
+ghost use Rattle.std.specs.List.{AllByRecursion, Contains};
 ghost use Rattle.operator_lines.specs.Cut.{cut, lines_of, is_too_long};
+ghost use Rattle.desk_text.specs.Calls.{shape_of};
+ghost use Rattle.desk_text.specs.declared.name.Name.{Name};
+ghost use Rattle.operator_lines.specs.Forms.{places_of, form_of, all_topics};
+ghost use Rattle.operator_lines.specs.Topics.{topic_of};
+ghost use Rattle.operator_lines.specs.Why.{word_behind};
+ghost use Rattle.operator_lines.specs.declared.topic.Topic.{Topic};
+ghost use Rattle.operator_lines.specs.declared.topic.Topic.TheVariants.{Command};
+ghost use Rattle.operator_lines.specs.laws.Read.{field_of_word};
 ghost use Rattle.operator_lines.specs.laws.Whole.{HasNoLf, joined};
 
 /// A line that is too long ends a stream: whatever comes afterwards, no line is added.
@@ -17,4 +25,15 @@ pub fn cuts_are_whole()
     ensures whole { (stream : List ℕ) → joined (cut stream) ≡ stream }
     ensures ended { (stream : List ℕ) → AllByRecursion HasNoLf (cut stream).ended }
     ensures rest { (stream : List ℕ) → HasNoLf (cut stream).rest }
+{}
+
+/// The words that `help` tells of a command are those that it is read by, field by field.
+pub fn help_tells_what_is_read()
+    ensures { (name : Name) → map field_of_word (places_of (Command name)) ≡ map Some (shape_of name) }
+{}
+
+/// `help` tells the form of each line, which begins with the word that the line is read by.
+pub fn help_tells_each_line()
+    ensures all { (topic : Topic) → Contains all_topics topic }
+    ensures begins { (topic : Topic) → topic_of (word_behind 0 (form_of topic)) ≡ Some topic }
 {}

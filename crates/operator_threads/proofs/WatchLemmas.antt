@@ -1,26 +1,27 @@
 -- What a watch tells, one answer after another.
-use Rattle.std.proofs.Common.{◌≡◌, ◌≤◌, ℕ, ◌+◌, List, [], ◌∷◌, ◌++◌, length, take, drop, Option, Some, None, refl, sym}
-use Rattle.std.proofs.Common.{ap, subst, ◌∙◌, append_assoc, length-append, take-append-drop, arith}
-use Rattle.std.proofs.lemmas.Grind.{flat_map-append}
+use Rattle.std.proofs.Common.{◌≡◌, ◌≤◌, ℕ, ◌+◌, ◌-◌, Bool, List, [], ◌∷◌, ◌++◌, length, take, drop, Option, Some, None}
+use Rattle.std.proofs.Common.{refl, sym, ap, subst, ◌∙◌, append_assoc, length-append, take-append-drop, arith}
 use Rattle.std.proofs.lemmas.List.{append-nil, drop-append-le, drop_all, length-take-le, take-take, take_at}
 use Rattle.std.specs.Prelude.{max}
 use mathlib.Core.List.{IsPrefix}
 use Rattle.logbook.specs.Pages.{Book}
 use Rattle.desk_rows.specs.Desk.{Desk}
 use Rattle.desk_edit.specs.Asked.{CallOf}
-use Rattle.call_history.specs.AcceptedCall.{AcceptedOf}
-use Rattle.desk_text.specs.NewsText.{news_line, news_text}
-use Rattle.operator_lines.specs.DeskAsk.{DeskAsk, calls, watches, news}
+use Rattle.call_history.specs.Lists.{last_few}
+use Rattle.call_history.specs.Stamp.{StampOf, StampedOf}
+use Rattle.desk_text.specs.StampedText.{told_line, told_text}
+use Rattle.operator_lines.specs.DeskAsk.{DeskAsk, calls, watches, news, lists, renames, faults}
+use Rattle.operator_lines.specs.declared.trouble.Wrong.TheVariants.{Faulty}
 use Rattle.operator_desk.specs.declared.answer.Answer.{Answer}
 use Rattle.operator_desk.specs.declared.answer.Answer.TheVariants.{Accepted, Refused}
 use Rattle.operator_desk.specs.Answers.{IsAnswered, HasCaughtUp}
 use Rattle.operator_desk.specs.Entry.{EntryOf}
 use Rattle.operator_desk.specs.LegalLogs.{IsLegal}
-use Rattle.operator_desk.specs.PastCalls.{made_from, made_of}
+use Rattle.operator_desk.specs.PastCalls.{stamped_from, stamped_of}
 use Rattle.operator_desk.specs.Seats.{SeatOf}
-use Rattle.operator_desk.proofs.PastLemmas.{made-append, length-made}
+use Rattle.operator_desk.proofs.StampLemmas.{stamped-append, length-stamped}
 use Rattle.operator_threads.specs.Watches.{SittingOf, SeatAnswers, SeatWatches, SeatNews, AreSeatAnswers, TellsNews}
-use Rattle.operator_threads.specs.Watches.{news_of, news_among, WasTold}
+use Rattle.operator_threads.specs.Watches.{news_of, news_among, TellsEach, WasTold}
 
 -- a seat that has seen a legal log has caught up with it
 pub stays_caught : (start : Desk) (s : SeatOf) → IsLegal start s.seen → HasCaughtUp start s s
@@ -32,14 +33,22 @@ pub no_news : (start : Desk) (told : ℕ) (s : SittingOf) → IsLegal start s.se
     → length s.known.lists ≤ told → length s.seat.seen ≤ told → TellsNews start told s s []
 no_news start told s legal is known seen =
     let most : max told (length s.seat.seen) ≡ told = omega (arith, seen) in
-    let many : length (made_of s.seat.seen) ≡ length s.seat.seen = length-made 1 s.seat.seen in
+    let many : length (stamped_of s.seat.seen) ≡ length s.seat.seen = length-stamped 1 s.seat.seen in
     record {
       caught = stays_caught start s.seat legal;
       known = refl;
       all = omega (arith, most, known);
       told = is ∙ ap Some (sym most);
-      text = ap news_text (sym (drop_all told (made_of s.seat.seen) (omega (arith, many, seen))));
+      named = refl;
+      name = refl;
+      trouble = refl;
+      text = ap (told_text s.is_named) (sym (drop_all told (stamped_of s.seat.seen) (omega (arith, many, seen))));
     }
+
+-- the last calls of a log, by how many stand before them
+pub last_calls : (most : ℕ) (log : List EntryOf)
+    → drop (length log - most) (stamped_of log) ≡ last_few most (stamped_of log)
+last_calls most log = ap (λ (n : ℕ). drop (n - most) (stamped_of log)) (sym (length-stamped 1 log))
 
 prefix_same : (xs : List EntryOf) → IsPrefix xs xs
 prefix_same xs = ([], append-nil xs)
@@ -55,32 +64,45 @@ prefix_few xs ys g =
     omega (arith, whole, parts)
 
 -- what a seat has seen goes on with each call
-replied : (start : Desk) (publisher : Book) (old new : SeatOf) (call : CallOf) (answer : Answer)
-    → IsAnswered start publisher old new call answer → IsPrefix old.seen new.seen
-replied start publisher old new call (Accepted number notice) a = (
-  a.ends.0 ++ record { op = old.op; call = call } ∷ [],
-  sym (append_assoc old.seen a.ends.0 (record { op = old.op; call = call } ∷ [])) ∙ sym a.ends.1,
+replied : (start : Desk) (publisher : Book) (old new : SeatOf) (call : CallOf) (stamp : StampOf) (answer : Answer)
+    → IsAnswered start publisher old new call stamp answer → IsPrefix old.seen new.seen
+replied start publisher old new call stamp (Accepted number notice) a = (
+  a.ends.0 ++ record { op = old.op; call = call; stamp = stamp } ∷ [],
+  sym (append_assoc old.seen a.ends.0 (record { op = old.op; call = call; stamp = stamp } ∷ [])) ∙ sym a.ends.1,
 )
-replied start publisher old new call (Refused version why) a = a.begins
+replied start publisher old new call stamp (Refused version why) a = a.begins
 
 -- the calls of a log are the first ones of a log that goes on from it
 first_made : (xs ys : List EntryOf) (last : ℕ) → IsPrefix xs ys → length xs ≤ last
-    → take (length xs) (take last (made_of ys)) ≡ made_of xs
+    → take (length xs) (take last (stamped_of ys)) ≡ stamped_of xs
 first_made xs ys last g few =
-    take-take (length xs) last (made_of ys) few
-    ∙ (ap (λ (l : List EntryOf). take (length xs) (made_of l)) (sym g.1)
-    ∙ (ap (take (length xs)) (made-append 1 xs g.0)
-    ∙ take_at (made_of xs) (made_from (1 + length xs) g.0) (length xs) (length-made 1 xs)))
+    take-take (length xs) last (stamped_of ys) few
+    ∙ (ap (λ (l : List EntryOf). take (length xs) (stamped_of l)) (sym g.1)
+    ∙ (ap (take (length xs)) (stamped-append 1 xs g.0)
+    ∙ take_at (stamped_of xs) (stamped_from (1 + length xs) g.0) (length xs) (length-stamped 1 xs)))
+
+-- calls are told, all in one form
+tells_all : (is_named : Bool) (ss : List StampedOf) → TellsEach ss (told_text is_named ss)
+tells_all is_named [] = refl
+tells_all is_named (s ∷ ss) = (is_named, told_text is_named ss, refl, tells_all is_named ss)
+
+-- calls are told, and then others
+tells_both : (xs ys : List StampedOf) (s t : List ℕ) → TellsEach xs s → TellsEach ys t → TellsEach (xs ++ ys) (s ++ t)
+tells_both [] ys s t these those = subst (λ (l : List ℕ). TellsEach ys (l ++ t)) (sym these) those
+tells_both (x ∷ xs) ys s t these those = (
+  these.0,
+  these.1 ++ t,
+  ap (λ (l : List ℕ). l ++ t) these.2 ∙ append_assoc (told_line these.0 x) these.1 t,
+  tells_both xs ys these.1 t these.3 those,
+)
 
 -- what was told, and then what comes behind it
-joined : (told most : ℕ) (ms : List AcceptedOf) → told ≤ most → most ≤ length ms
-    → news_text (drop told (take most ms)) ++ news_text (drop most ms) ≡ news_text (drop told ms)
+joined : (told most : ℕ) (ms : List StampedOf) → told ≤ most → most ≤ length ms
+    → drop told (take most ms) ++ drop most ms ≡ drop told ms
 joined told most ms less few =
     let many = length-take-le most ms few in
-    sym (flat_map-append news_line (drop told (take most ms)) (drop most ms))
-    ∙ ap news_text
-    (sym (drop-append-le told (take most ms) (drop most ms) (omega (arith, less, many)))
-    ∙ ap (drop told) (take-append-drop most ms))
+    sym (drop-append-le told (take most ms) (drop most ms) (omega (arith, less, many)))
+    ∙ ap (drop told) (take-append-drop most ms)
 
 -- what was told behind a place, and how far the log was seen then
 record Goes (told : ℕ) (old new : SittingOf) (text : List ℕ) : Type 0 where
@@ -100,24 +122,44 @@ GoesOn start publisher asked new =
     (told : ℕ) (old : SittingOf) → AreSeatAnswers start publisher asked old new → old.told ≡ Some told
     → told ≤ length old.seat.seen → Goes told old new (news_among asked)
 
-step : (start : Desk) (publisher : Book) (asked : List (DeskAsk × List ℕ)) (told : ℕ) (old mid new : SittingOf)
+step : (start : Desk) (publisher : Book) (asked : List (DeskAsk × List ℕ)) (told moment : ℕ) (old mid new : SittingOf)
     (ask : DeskAsk) (text : List ℕ)
-    → SeatAnswers start publisher old mid ask text → AreSeatAnswers start publisher asked mid new
+    → SeatAnswers start publisher moment old mid ask text → AreSeatAnswers start publisher asked mid new
     → old.told ≡ Some told → told ≤ length old.seat.seen → GoesOn start publisher asked new
     → Goes told old new (news_of ask text ++ news_among asked)
-step start publisher asked told old mid new (calls call) text a done is few goes =
-    let begins = replied start publisher old.seat mid.seat call a.0.0 a.0.1 in
+step start publisher asked told moment old mid new (calls line call) text a done is few goes =
+    let begins = replied start publisher old.seat mid.seat call _ a.answer a.answered in
     let longer = prefix_few old.seat.seen mid.seat.seen begins in
-    let more = goes told mid done (a.1 ∙ is) (omega (arith, few, longer)) in
+    let more = goes told mid done (a.told ∙ is) (omega (arith, few, longer)) in
     record {
       was = more.was;
       least = more.least;
       begins = prefix_both old.seat.seen mid.seat.seen new.seat.seen begins more.begins;
     }
-step start publisher asked told old mid new watches text a done is few goes =
-    let same : mid ≡ old = (subst (λ (o : Option ℕ). SeatWatches start old mid o text) is a).0 in
-    goes told old (subst (λ (s : SittingOf). AreSeatAnswers start publisher asked s new) same done) is few
-step start publisher asked told old mid new news text a done is few goes =
+step start publisher asked told moment old mid new (lists most) text a done is few goes =
+    let begins = a.caught.begins in
+    let longer = prefix_few old.seat.seen mid.seat.seen begins in
+    let more = goes told mid done (a.told ∙ is) (omega (arith, few, longer)) in
+    record {
+      was = more.was;
+      least = more.least;
+      begins = prefix_both old.seat.seen mid.seat.seen new.seat.seen begins more.begins;
+    }
+step start publisher asked told moment old mid new (watches is_named) text a done is few goes =
+    let same : mid ≡ record old { is_named = is_named } =
+    (subst (λ (o : Option ℕ). SeatWatches start is_named old mid o text) is a).0 in
+    let more = goes told (record old { is_named = is_named })
+    (subst (λ (s : SittingOf). AreSeatAnswers start publisher asked s new) same done) is few in
+    record { was = more.was; least = more.least; begins = more.begins }
+step start publisher asked told moment old mid new (renames name) text a done is few goes =
+    let more = goes told (record old { name = name })
+    (subst (λ (s : SittingOf). AreSeatAnswers start publisher asked s new) a.0 done) is few in
+    record { was = more.was; least = more.least; begins = more.begins }
+step start publisher asked told moment old mid new (faults line word fault) text a done is few goes =
+    let more = goes told (record old { trouble = Some (record { line = line; wrong = Faulty word fault }) })
+    (subst (λ (s : SittingOf). AreSeatAnswers start publisher asked s new) a.0 done) is few in
+    record { was = more.was; least = more.least; begins = more.begins }
+step start publisher asked told moment old mid new news text a done is few goes =
     let t : TellsNews start told old mid text = subst (λ (o : Option ℕ). SeatNews start old mid o text) is a in
     let begins = t.caught.begins in
     let longer = prefix_few old.seat.seen mid.seat.seen begins in
@@ -125,22 +167,27 @@ step start publisher asked told old mid new news text a done is few goes =
     let less : told ≤ seen = omega (arith, few, longer) in
     let more = goes seen mid done (t.told ∙ ap Some (longest told seen less)) (omega arith) in
     let last = more.was.last in
-    let ms = take last (made_of new.seat.seen) in
-    let many : length (made_of new.seat.seen) ≡ length new.seat.seen = length-made 1 new.seat.seen in
+    let ms = take last (stamped_of new.seat.seen) in
+    let many : length (stamped_of new.seat.seen) ≡ length new.seat.seen = length-stamped 1 new.seat.seen in
     let there = more.was.few in
-    let all = length-take-le last (made_of new.seat.seen) (omega (arith, there, many)) in
+    let all = length-take-le last (stamped_of new.seat.seen) (omega (arith, there, many)) in
     let least = more.least in
     let first = first_made mid.seat.seen new.seat.seen last more.begins least in
+    let here : TellsEach (drop told (take seen ms)) text =
+    subst (λ (l : List ℕ). TellsEach (drop told (take seen ms)) l) (sym t.text)
+    (subst
+    (λ (l : List StampedOf). TellsEach (drop told l) (told_text old.is_named (drop told (stamped_of mid.seat.seen))))
+    (sym first)
+    (tells_all old.is_named (drop told (stamped_of mid.seat.seen)))) in
     record {
       was = record {
         last = last;
         told = more.was.told;
         few = there;
         text =
-            ap (λ (l : List ℕ). l ++ news_among asked)
-            (t.text ∙ ap (λ (l : List AcceptedOf). news_text (drop told l)) (sym first))
-            ∙ (ap (λ (l : List ℕ). news_text (drop told (take seen ms)) ++ l) more.was.text
-            ∙ joined told seen ms less (omega (arith, least, all)));
+            subst (λ (l : List StampedOf). TellsEach l (text ++ news_among asked))
+            (joined told seen ms less (omega (arith, least, all)))
+            (tells_both (drop told (take seen ms)) (drop seen ms) text (news_among asked) here more.was.text);
       };
       least = omega (arith, less, least);
       begins = prefix_both old.seat.seen mid.seat.seen new.seat.seen begins more.begins;
@@ -150,21 +197,23 @@ goes : (start : Desk) (publisher : Book) (asked : List (DeskAsk × List ℕ)) (n
     → GoesOn start publisher asked new
 goes start publisher [] new told old done is few =
     subst (λ (s : SittingOf). Goes told old s []) done (
-    let many : length (made_of old.seat.seen) ≡ length old.seat.seen = length-made 1 old.seat.seen in
-    let front = length-take-le told (made_of old.seat.seen) (omega (arith, many, few)) in
+    let many : length (stamped_of old.seat.seen) ≡ length old.seat.seen = length-stamped 1 old.seat.seen in
+    let front = length-take-le told (stamped_of old.seat.seen) (omega (arith, many, few)) in
     record {
       was = record {
         last = told;
         told = is;
         few = few;
-        text = ap news_text (sym (drop_all told (take told (made_of old.seat.seen)) (omega (arith, front))));
+        text =
+            subst (λ (l : List StampedOf). TellsEach l [])
+            (sym (drop_all told (take told (stamped_of old.seat.seen)) (omega (arith, front)))) refl;
       };
       least = omega arith;
       begins = prefix_same old.seat.seen;
     }
     )
 goes start publisher (one ∷ asked) new told old done is few =
-    step start publisher asked told old done.0 new one.0 one.1 done.1 done.2 is few
+    step start publisher asked told done.1.0 old done.0 new one.0 one.1 done.1.1 done.2 is few
     (goes start publisher asked new)
 
 -- from the beginning of a watch on

@@ -1,18 +1,24 @@
 -- What an operator at a shared desk is answered (own).
-use Rattle.std.specs.Prelude.{◌≡◌, ◌≤◌, ℕ, List, length}
+use Rattle.std.specs.Prelude.{◌≡◌, ◌≤◌, ◌/◌, ℕ, nat_eq, List, ◌∷◌, [], length, codes, Option, Some, if◌then◌else◌}
 use mathlib.Core.List.{IsPrefix}
 use Rattle.logbook.specs.Pages.{Book}
 use Rattle.desk_rows.specs.Desk.{Desk}
 use Rattle.desk_edit.specs.Asked.{CallOf}
+use Rattle.call_history.specs.Stamp.{StampOf}
 use Rattle.desk_calls.specs.declared.reply.Reply.TheVariants as replies
 use Rattle.desk_text.specs.HistoryText.{history_text}
 use Rattle.operator_lines.specs.declared.line_desk.View.{View}
-use Rattle.operator_lines.specs.declared.line_desk.View.TheVariants.{Rows, History, Stats, Levels}
+use Rattle.operator_lines.specs.declared.line_desk.View.TheVariants.{Rows, History, Stats, Levels, Why}
+use Rattle.operator_lines.specs.declared.trouble.Wrong.{Wrong}
+use Rattle.operator_lines.specs.declared.trouble.Wrong.TheVariants as wrongs
+use Rattle.operator_lines.specs.Why.{TroubleOf, why_text}
 use Rattle.desk_text.specs.RowLines.{show_text}
-use Rattle.desk_text.specs.Text.{reply_text, refused_text}
+use Rattle.desk_text.specs.Text.{reply_text, refused_text, line_text, fixed}
 use Rattle.published_desk.specs.Published.{NoticeOf}
 use Rattle.operator_desk.specs.declared.answer.Answer.{Answer}
 use Rattle.operator_desk.specs.declared.answer.Answer.TheVariants.{Accepted, Refused}
+use Rattle.operator_desk.specs.declared.answer.Why.{Why as Reason}
+use Rattle.operator_desk.specs.declared.answer.Why.TheVariants as reasons
 use Rattle.operator_desk.specs.Answers.{IsAnswered, IsCopy, IsNotice, why_told}
 use Rattle.operator_desk.specs.Opening.{most_operators}
 use Rattle.operator_desk.specs.PastCalls.{PastOf, IsPast}
@@ -33,11 +39,27 @@ abbrev pub IsKnown : Answer → NoticeOf → Type 0
 IsKnown (Accepted number notice) known = IsPrefix notice.lists known.lists
 IsKnown (Refused version why) known = Unit {0}
 
--- the call of a seat is answered, its line is appended, and the notice of an accepted call is known from then on
-abbrev pub SeatReplies : Desk → Book → (old new : SeatOf) → (known : NoticeOf) → CallOf → List ℕ → Type 0
-SeatReplies start publisher old new known call text =
-    (answer : Answer) × IsAnswered start publisher old new call answer × (text ≡ answer_text answer)
-    × IsKnown answer known
+-- the name of a connection as it is told: a `-` where it has none
+abbrev pub shown_name : List ℕ → List ℕ
+shown_name name = if nat_eq (length name) 0 then codes "-" else name
+
+-- how a call is stamped that is given at a moment, in nanoseconds, on a connection of this name
+abbrev pub stamp_at : (moment : ℕ) → (name : List ℕ) → StampOf
+stamp_at moment name = record { moment = moment / 1000000; name = shown_name name }
+
+-- the line of a connection's name
+abbrev pub name_line : List ℕ → List ℕ
+name_line name = line_text (fixed (codes "as") ∷ fixed name ∷ [])
+
+-- what was wrong with the line of a refused call
+abbrev pub wrong_by : Reason → Wrong
+wrong_by (reasons.Told refusal) = wrongs.Refused refusal
+wrong_by reasons.LogTaken = wrongs.Taken
+
+-- the last line that was faulty or refused, after the call of a line was answered so
+abbrev pub trouble_after : (line : List ℕ) → Answer → Option TroubleOf → Option TroubleOf
+trouble_after line (Accepted number notice) before = before
+trouble_after line (Refused version why) before = Some (record { line = line; wrong = wrong_by why })
 
 -- the rows after a legal log of this many calls are told, and last this version
 abbrev pub ShowsAt : Desk → ℕ → List ℕ → Type 0
@@ -58,11 +80,20 @@ abbrev pub SeatTellsPast : Desk → (least most : ℕ) → SeatOf → List ℕ �
 SeatTellsPast start least most seat text =
     (past : PastOf) × IsPrefix seat.seen past.log × (least ≤ length past.log) × TellsPast start most past text
 
+-- what was wrong with a line is told, by the rows of a version that is this one or a later one
+abbrev pub TellsWhy : Desk → (least : ℕ) → Option TroubleOf → List ℕ → Type 0
+TellsWhy start least trouble text =
+    (version : ℕ) × (rows : Desk) × (least ≤ version) × IsCopy start version rows
+    × (text ≡ why_text rows version trouble)
+
 -- what a seat is told of a desk, by what it asks for, after so many calls at least; or of what the bridge counts, with
--- so many seats in use; or of how loud the sources of sound are
+-- so many seats in use; or of how loud the sources of sound are; or of the last line that was faulty or refused
 abbrev pub SeatViews :
-    Desk → (counts : ℕ → List ℕ → Type 0) → (levels : List ℕ → Type 0) → (least : ℕ) → SeatOf → View → List ℕ → Type 0
-SeatViews start counts levels least seat Rows text = SeatShows start least text
-SeatViews start counts levels least seat (History most) text = SeatTellsPast start least most seat text
-SeatViews start counts levels least seat Stats text = (used : ℕ) × (used ≤ most_operators) × counts used text
-SeatViews start counts levels least seat Levels text = levels text
+    Desk → (counts : ℕ → List ℕ → Type 0) → (levels : List ℕ → Type 0) → (least : ℕ) → SeatOf → Option TroubleOf → View
+    → List ℕ → Type 0
+SeatViews start counts levels least seat trouble Rows text = SeatShows start least text
+SeatViews start counts levels least seat trouble (History most) text = SeatTellsPast start least most seat text
+SeatViews start counts levels least seat trouble Stats text =
+    (used : ℕ) × (used ≤ most_operators) × counts used text
+SeatViews start counts levels least seat trouble Levels text = levels text
+SeatViews start counts levels least seat trouble Why text = TellsWhy start least trouble text

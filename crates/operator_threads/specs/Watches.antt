@@ -1,36 +1,63 @@
--- What a watch of an operator tells (own).
-use Rattle.std.specs.Prelude.{◌≡◌, ℕ, ◌≤◌, max, List, [], ◌++◌, length, take, drop, Option, Some, None}
+-- What an operator at a desk is answered, and what a watch tells (own).
+use Rattle.std.specs.Prelude.{◌≡◌, ℕ, ◌≤◌, max, Bool, List, [], ◌∷◌, ◌++◌, length, take, drop, Option, Some, None}
 use Rattle.std.specs.List.{FoldsTo, flat_map}
 use Rattle.logbook.specs.Pages.{Book}
+use Rattle.call_history.specs.Lists.{last_few}
+use Rattle.call_history.specs.Stamp.{StampedOf}
 use Rattle.desk_rows.specs.Desk.{Desk}
+use Rattle.desk_edit.specs.Asked.{CallOf}
 use Rattle.desk_text.specs.HistoryText.{end_line}
-use Rattle.desk_text.specs.NewsText.{news_text}
-use Rattle.operator_lines.specs.DeskAsk.{DeskAsk, calls, watches, news}
+use Rattle.desk_text.specs.StampedText.{told_line, told_text, calls_text}
+use Rattle.operator_lines.specs.DeskAsk.{DeskAsk, calls, watches, news, lists, renames, faults}
+use Rattle.operator_lines.specs.Why.{TroubleOf}
+use Rattle.operator_lines.specs.declared.trouble.Wrong.TheVariants.{Faulty}
 use Rattle.published_desk.specs.Published.{NoticeOf}
-use Rattle.operator_desk.specs.Answers.{HasCaughtUp}
-use Rattle.operator_desk.specs.PastCalls.{made_of}
+use Rattle.operator_desk.specs.declared.answer.Answer.{Answer}
+use Rattle.operator_desk.specs.Answers.{IsAnswered, HasCaughtUp}
+use Rattle.operator_desk.specs.PastCalls.{stamped_of}
 use Rattle.operator_desk.specs.Seats.{SeatOf}
-use Rattle.operator_threads.specs.Told.{SeatReplies}
+use Rattle.operator_threads.specs.Told.{answer_text, IsKnown, stamp_at, name_line, trouble_after}
 
--- an operator at the desk: the seat, the latest notice that is known, and of a watch how many calls of the log it has
--- told, or were accepted before it
+-- an operator at the desk: the seat; the latest notice that is known; of a watch how many calls of the log it has told,
+-- or were accepted before it, and whether it tells moments and names; the connection's name; and the last line that was
+-- faulty or refused
 pub record SittingOf : Type 0 where
   pub seat : SeatOf
   pub known : NoticeOf
   pub told : Option ℕ
+  pub is_named : Bool
+  pub name : List ℕ
+  pub trouble : Option TroubleOf
+
+-- The call of a line is answered, and its line is told. An accepted one has the moment and the name, and its notice is
+-- known from then on; a refused one is the last line that was faulty or refused. The watch and the name stay.
+pub record AnswersCall (start : Desk) (publisher : Book) (moment : ℕ) (old new : SittingOf) (line : List ℕ)
+    (call : CallOf) (said : List ℕ) : Type 0 where
+  pub answer : Answer
+  pub answered : IsAnswered start publisher old.seat new.seat call (stamp_at moment old.name) answer
+  pub text : said ≡ answer_text answer
+  pub known : IsKnown answer new.known
+  pub told : new.told ≡ old.told
+  pub named : new.is_named ≡ old.is_named
+  pub name : new.name ≡ old.name
+  pub trouble : new.trouble ≡ trouble_after line answer old.trouble
 
 -- A watch begins behind all calls of a legal log, the known ones among them, and their number is told.
-pub record BeginsWatch (start : Desk) (old new : SittingOf) (said : List ℕ) : Type 0 where
+pub record BeginsWatch (start : Desk) (is_named : Bool) (old new : SittingOf) (said : List ℕ) : Type 0 where
   pub caught : HasCaughtUp start old.seat new.seat
   pub known : new.known ≡ old.known
   pub all : length new.known.lists ≤ length new.seat.seen
   pub told : new.told ≡ Some (length new.seat.seen)
+  pub named : new.is_named ≡ is_named
+  pub name : new.name ≡ old.name
+  pub trouble : new.trouble ≡ old.trouble
   pub text : said ≡ end_line (length new.seat.seen)
 
--- a watch begins so; where there is one, it stays as it is, and how many calls it has told or passed over is told
-abbrev pub SeatWatches : Desk → (old new : SittingOf) → Option ℕ → List ℕ → Type 0
-SeatWatches start old new None text = BeginsWatch start old new text
-SeatWatches start old new (Some told) text = (new ≡ old) × (text ≡ end_line told)
+-- a watch begins so; where there is one, it goes on in this form, and how many calls it has told or passed over is told
+abbrev pub SeatWatches : Desk → (is_named : Bool) → (old new : SittingOf) → Option ℕ → List ℕ → Type 0
+SeatWatches start is_named old new None text = BeginsWatch start is_named old new text
+SeatWatches start is_named old new (Some told) text =
+    (new ≡ record old { is_named = is_named }) × (text ≡ end_line told)
 
 -- The calls of a legal log behind so many first ones are told, the known ones among them.
 pub record TellsNews (start : Desk) (passed : ℕ) (old new : SittingOf) (said : List ℕ) : Type 0 where
@@ -38,23 +65,43 @@ pub record TellsNews (start : Desk) (passed : ℕ) (old new : SittingOf) (said :
   pub known : new.known ≡ old.known
   pub all : length new.known.lists ≤ max passed (length new.seat.seen)
   pub told : new.told ≡ Some (max passed (length new.seat.seen))
-  pub text : said ≡ news_text (drop passed (made_of new.seat.seen))
+  pub named : new.is_named ≡ old.is_named
+  pub name : new.name ≡ old.name
+  pub trouble : new.trouble ≡ old.trouble
+  pub text : said ≡ told_text old.is_named (drop passed (stamped_of new.seat.seen))
 
 -- a watch tells those that it hasn't told; without one there are no news
 abbrev pub SeatNews : Desk → (old new : SittingOf) → Option ℕ → List ℕ → Type 0
 SeatNews start old new None text = (new ≡ old) × (text ≡ [])
 SeatNews start old new (Some told) text = TellsNews start told old new text
 
--- what an operator's desk is asked is answered: a call, which changes no watch, a watch, or its news
-abbrev pub SeatAnswers : Desk → Book → (old new : SittingOf) → DeskAsk → List ℕ → Type 0
-SeatAnswers start publisher old new (calls call) text =
-    SeatReplies start publisher old.seat new.seat new.known call text × (new.told ≡ old.told)
-SeatAnswers start publisher old new watches text = SeatWatches start old new old.told text
-SeatAnswers start publisher old new news text = SeatNews start old new old.told text
+-- The last calls of a legal log are told, so many at most, the known ones among the log's, and how many it has.
+pub record ListsCalls (start : Desk) (most : ℕ) (old new : SittingOf) (said : List ℕ) : Type 0 where
+  pub caught : HasCaughtUp start old.seat new.seat
+  pub known : new.known ≡ old.known
+  pub all : length new.known.lists ≤ length new.seat.seen
+  pub told : new.told ≡ old.told
+  pub named : new.is_named ≡ old.is_named
+  pub name : new.name ≡ old.name
+  pub trouble : new.trouble ≡ old.trouble
+  pub text : said ≡ calls_text (last_few most (stamped_of new.seat.seen)) (length new.seat.seen)
 
--- one thing that was asked, and the text that answered it
+-- what an operator's desk is asked at a moment is answered
+abbrev pub SeatAnswers : Desk → Book → (moment : ℕ) → (old new : SittingOf) → DeskAsk → List ℕ → Type 0
+SeatAnswers start publisher moment old new (calls line call) text =
+    AnswersCall start publisher moment old new line call text
+SeatAnswers start publisher moment old new (watches is_named) text = SeatWatches start is_named old new old.told text
+SeatAnswers start publisher moment old new news text = SeatNews start old new old.told text
+SeatAnswers start publisher moment old new (lists most) text = ListsCalls start most old new text
+SeatAnswers start publisher moment old new (renames name) text =
+    (new ≡ record old { name = name }) × (text ≡ name_line name)
+SeatAnswers start publisher moment old new (faults line word fault) text =
+    (new ≡ record old { trouble = Some (record { line = line; wrong = Faulty word fault }) }) × (text ≡ [])
+
+-- one thing that was asked at some moment, and the text that answered it
 abbrev pub IsSeatAnswer : Desk → Book → SittingOf → DeskAsk × List ℕ → SittingOf → Type 0
-IsSeatAnswer start publisher old asked new = SeatAnswers start publisher old new asked.0 asked.1
+IsSeatAnswer start publisher old asked new =
+    (moment : ℕ) × SeatAnswers start publisher moment old new asked.0 asked.1
 
 -- these were asked, one after another, and nothing else
 abbrev pub AreSeatAnswers : Desk → Book → List (DeskAsk × List ℕ) → (old new : SittingOf) → Type 0
@@ -62,26 +109,41 @@ AreSeatAnswers start publisher asked old new = FoldsTo (IsSeatAnswer start publi
 
 -- the text of an answer that is news
 abbrev pub news_of : DeskAsk → List ℕ → List ℕ
-news_of (calls call) text = []
-news_of watches text = []
+news_of (calls line call) text = []
+news_of (watches is_named) text = []
 news_of news text = text
+news_of (lists most) text = []
+news_of (renames name) text = []
+news_of (faults line word fault) text = []
 
 -- all news among these
 abbrev pub news_among : List (DeskAsk × List ℕ) → List ℕ
 news_among asked = flat_map (λ (a : DeskAsk × List ℕ). news_of a.0 a.1) asked
+
+-- each of these calls is told once, in order, by its line with its moment and its name or without them
+abbrev pub TellsEach : List StampedOf → List ℕ → Type 0
+TellsEach [] said = said ≡ []
+TellsEach (s ∷ ss) said =
+    (is_named : Bool) × (rest : List ℕ) × (said ≡ told_line is_named s ++ rest) × TellsEach ss rest
 
 -- The calls behind so many first ones were told, up to the last one that is told, each once and in order.
 pub record WasTold (passed : ℕ) (new : SittingOf) (said : List ℕ) : Type 0 where
   pub last : ℕ
   pub told : new.told ≡ Some last
   pub few : last ≤ length new.seat.seen
-  pub text : said ≡ news_text (drop passed (take last (made_of new.seat.seen)))
+  pub text : TellsEach (drop passed (take last (stamped_of new.seat.seen))) said
 
 -- a watch begins, and its text is appended
-abbrev pub AppendsWatch : Desk → (old new : SittingOf) → (before after : List ℕ) → Type 0
-AppendsWatch start old new before after = (text : List ℕ) × (after ≡ before ++ text) × BeginsWatch start old new text
+abbrev pub AppendsWatch : Desk → (is_named : Bool) → (old new : SittingOf) → (before after : List ℕ) → Type 0
+AppendsWatch start is_named old new before after =
+    (text : List ℕ) × (after ≡ before ++ text) × BeginsWatch start is_named old new text
 
 -- these news are told, and their text is appended
 abbrev pub AppendsNews : Desk → (told : ℕ) → (old new : SittingOf) → (before after : List ℕ) → Type 0
 AppendsNews start told old new before after =
     (text : List ℕ) × (after ≡ before ++ text) × TellsNews start told old new text
+
+-- the last calls are told, and their text is appended
+abbrev pub AppendsCalls : Desk → (most : ℕ) → (old new : SittingOf) → (before after : List ℕ) → Type 0
+AppendsCalls start most old new before after =
+    (text : List ℕ) × (after ≡ before ++ text) × ListsCalls start most old new text

@@ -1,7 +1,7 @@
 //! An operator at a shared desk.
 
 ghost use Rattle.std.specs.Prelude.{◌≡◌, ◌≤◌, ◌++◌, ℕ, List, length, OnOk, OnErr};
-ghost use Rattle.operator_threads.specs.Told.{IsKnown, IsTelling, SeatShows, SeatTellsPast};
+ghost use Rattle.operator_threads.specs.Told.{SeatShows, SeatTellsPast};
 
 use crate::operators::Operators;
 use crate::printed::Printed;
@@ -10,9 +10,9 @@ use crate::printing::print_answer;
 use crate::seats::TakenSeat;
 use crate::wake::Wake;
 use desk_edit::Call;
-use desk_text::print_end;
-use operator_desk::{Answer, DeskBrand};
-use operator_lines::{LineDesk, View};
+use desk_text::{Fault, Word, print_end, print_line};
+use operator_desk::DeskBrand;
+use operator_lines::{LineDesk, Trouble, View, Wrong};
 use published_desk::Notice;
 use std::alloc::{AllocError, Global};
 use std::sync::{MutexGuard, Wait};
@@ -30,6 +30,12 @@ pub struct AtDesk<'b, 'a, H: DeskBrand, R: Wait, F: Wake> {
     pub(crate) known: Notice,
     /// Of a watch: how many calls of the log it has told, or were accepted before it.
     pub(crate) told: Option<usize>,
+    /// Whether the watch tells moments and names.
+    pub(crate) is_named: bool,
+    /// The connection's name, without octets where it has none.
+    pub(crate) name: Vec<u8>,
+    /// The last line that was faulty or refused.
+    pub(crate) trouble: Option<Trouble>,
 }
 
 impl<'b, 'a, H: DeskBrand, R: Wait, F: Wake> AtDesk<'b, 'a, H, R, F> {
@@ -42,6 +48,9 @@ impl<'b, 'a, H: DeskBrand, R: Wait, F: Wake> AtDesk<'b, 'a, H, R, F> {
             taken,
             known: _,
             told: _,
+            is_named: _,
+            name: _,
+            trouble: _,
         } = self;
         operators.give(rt, taken);
     }
@@ -131,19 +140,6 @@ impl<'b, 'a, H: DeskBrand, R: Wait, F: Wake> AtDesk<'b, 'a, H, R, F> {
         self.front.wake();
         AllocError
     }
-
-    /// Learns the notice of an accepted call, and wakes the front.
-    fn note(&mut self, answer: &Answer)
-        requires tells { IsTelling H.start H.publisher answer.now }
-        ensures known { IsKnown answer.now self.new.known }
-        ensures seat { self.new.taken ≡ self.old.taken }
-        ensures told { self.new.told ≡ self.old.told }
-    {
-        if let Answer::Accepted { notice, .. } = answer {
-            self.known = self.operators.learn(self.rt, notice);
-            self.front.wake();
-        }
-    }
 }
 
 impl<'b, 'a, H: DeskBrand, R: Wait, F: Wake> LineDesk for AtDesk<'b, 'a, H, R, F> {
@@ -151,20 +147,43 @@ impl<'b, 'a, H: DeskBrand, R: Wait, F: Wake> LineDesk for AtDesk<'b, 'a, H, R, F
     ghost use Rattle.operator_threads.specs.Told.{SeatViews};
     ghost use Rattle.operator_threads.specs.Watches.{SeatAnswers};
 
-    ghost replies = { λ old new ask text. SeatAnswers H.start H.publisher
-        (record { seat = old.taken.seat; known = old.known; told = old.told })
-        (record { seat = new.taken.seat; known = new.known; told = new.told })
+    ghost replies = { λ moment old new ask text. SeatAnswers H.start H.publisher moment
+        (record {
+          seat = old.taken.seat;
+          known = old.known;
+          told = old.told;
+          is_named = old.is_named;
+          name = old.name.items;
+          trouble = old.trouble;
+        })
+        (record {
+          seat = new.taken.seat;
+          known = new.known;
+          told = new.told;
+          is_named = new.is_named;
+          name = new.name.items;
+          trouble = new.trouble;
+        })
         ask text };
 
-    ghost shows = { λ desk view text.
-        SeatViews H.start (F.counts desk.front.now) (F.levels desk.front.now) (length desk.known.lists)
-        desk.taken.seat view text };
+    ghost shows = { λ desk view text. SeatViews H.start (F.counts desk.front.now) (F.levels desk.front.now)
+        (length desk.known.lists) desk.taken.seat desk.trouble view text };
 
-    fn reply(&mut self, alloc: Global, call: Call, out: &mut Vec<u8>) -> Result<(), AllocError> {
+    fn reply(
+        &mut self,
+        alloc: Global,
+        moment: u64,
+        line: &[u8],
+        call: Call,
+        out: &mut Vec<u8>,
+    ) -> Result<(), AllocError> {
+        let kept = Vec::from_slice(alloc, line)?;
+        let stamp = self.stamp(alloc, moment)?;
         let desk = &self.operators.desk;
-        match desk.call(self.rt, alloc, &mut self.taken.seat, call) {
+        match desk.call(self.rt, alloc, &mut self.taken.seat, call, stamp) {
             Ok(answer) => {
                 self.note(&answer);
+                self.note_refusal(kept, &answer);
                 print_answer(&answer, out)
             }
             // It has no answer for a seat of another desk, nor once it has ended.
@@ -172,18 +191,69 @@ impl<'b, 'a, H: DeskBrand, R: Wait, F: Wake> LineDesk for AtDesk<'b, 'a, H, R, F
         }
     }
 
-    fn watch(&mut self, _alloc: Global, out: &mut Vec<u8>) -> Result<(), AllocError> {
+    fn watch(
+        &mut self,
+        _alloc: Global,
+        _moment: u64,
+        is_named: bool,
+        out: &mut Vec<u8>,
+    ) -> Result<(), AllocError> {
         match self.told {
-            Some(told) => print_end(told as u64, out),
-            None => self.begin_watch(out),
+            Some(told) => {
+                print_end(told as u64, out)?;
+                self.is_named = is_named;
+                Ok(())
+            }
+            None => self.begin_watch(is_named, out),
         }
     }
 
-    fn tell_news(&mut self, alloc: Global, out: &mut Vec<u8>) -> Result<(), AllocError> {
+    fn tell_news(
+        &mut self,
+        alloc: Global,
+        _moment: u64,
+        out: &mut Vec<u8>,
+    ) -> Result<(), AllocError> {
         match self.told {
             Some(told) => self.tell_behind(alloc, told, out),
             None => Ok(()),
         }
+    }
+
+    fn tell_calls(
+        &mut self,
+        alloc: Global,
+        _moment: u64,
+        most: u64,
+        out: &mut Vec<u8>,
+    ) -> Result<(), AllocError> {
+        self.tell_log(alloc, most, out)
+    }
+
+    fn rename(
+        &mut self,
+        alloc: Global,
+        _moment: u64,
+        name: &[u8],
+        out: &mut Vec<u8>,
+    ) -> Result<(), AllocError> {
+        let kept = Vec::from_slice(alloc, name)?;
+        print_line(b"as", &[Word::Fixed(name)], out)?;
+        self.name = kept;
+        Ok(())
+    }
+
+    fn note_fault(
+        &mut self,
+        alloc: Global,
+        _moment: u64,
+        line: &[u8],
+        word: u32,
+        fault: Fault,
+    ) -> Result<(), AllocError> {
+        let kept = Vec::from_slice(alloc, line)?;
+        self.trouble = Some(Trouble::new(kept, Wrong::Faulty { word, fault }));
+        Ok(())
     }
 
     fn show(&self, alloc: Global, view: View, out: &mut Vec<u8>) -> Result<(), AllocError> {
@@ -195,6 +265,7 @@ impl<'b, 'a, H: DeskBrand, R: Wait, F: Wake> LineDesk for AtDesk<'b, 'a, H, R, F
                 self.front.tell_stats(self.rt, alloc, used, out)
             }
             View::Levels => self.front.tell_levels(self.rt, alloc, out),
+            View::Why => self.show_why(alloc, self.asked(), out),
         }
     }
 }

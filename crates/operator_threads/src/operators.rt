@@ -1,6 +1,6 @@
 //! The operators of a bridge.
 
-ghost use Rattle.std.specs.Prelude.{◌≡◌, ◌≤◌, None};
+ghost use Rattle.std.specs.Prelude.{◌≡◌, ◌≤◌, [], None};
 ghost use mathlib.Core.List.{IsPrefix};
 ghost use Rattle.operator_desk.specs.Answers.{IsNotice};
 ghost use Rattle.operator_desk.specs.Opening.{most_operators};
@@ -122,11 +122,14 @@ impl<'a, H: DeskBrand> Operators<'a, H> {
     pub(crate) fn at_desk<'b, R: Wait, F: Wake>(
         &'b self,
         rt: &'b R,
+        alloc: Global,
         front: &'b F,
         taken: TakenSeat<'a, H>,
     ) -> AtDesk<'b, 'a, H, R, F>
         ensures taken { result.taken ≡ taken.entry }
         ensures watch { result.told ≡ None }
+        ensures name { result.name.items ≡ [] }
+        ensures trouble { result.trouble ≡ None }
     {
         let known = self.latest(rt);
         AtDesk {
@@ -136,6 +139,9 @@ impl<'a, H: DeskBrand> Operators<'a, H> {
             taken,
             known,
             told: None,
+            is_named: false,
+            name: Vec::new(alloc),
+            trouble: None,
         }
     }
 

@@ -96,7 +96,7 @@ impl<'a, H: DeskBrand> Operators<'a, H> {
         match caller.round_without_seat(alloc, &self.stopped) {
             Heed::Over => Seating::Over,
             Heed::Waits => Seating::Waits,
-            Heed::Good => self.admit(rt, caller, front),
+            Heed::Good => self.admit(rt, alloc, caller, front),
         }
     }
 
@@ -104,13 +104,14 @@ impl<'a, H: DeskBrand> Operators<'a, H> {
     fn admit<'b, R: Wait, F: Wake, L: CallerLine + Drop>(
         &'b self,
         rt: &'b R,
+        alloc: Global,
         caller: &mut Caller<L>,
         front: &'b F,
     ) -> Seating<'b, 'a, H, R, F>
         ensures { HasWaitedFor caller.old.connection caller.new.connection }
     {
         match self.take(rt) {
-            Some(taken) => Seating::Seated(self.at_desk(rt, front, taken)),
+            Some(taken) => Seating::Seated(self.at_desk(rt, alloc, front, taken)),
             None => {
                 caller.refuse_seat();
                 front.note_busy(rt);

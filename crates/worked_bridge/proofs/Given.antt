@@ -5,7 +5,7 @@ use Rattle.desk_edit.specs.declared.command.Command.{Command}
 use Rattle.desk_edit.specs.declared.command.Call.{Call}
 use Rattle.desk_edit.specs.declared.command.Call.TheVariants as calls
 use Rattle.desk_edit.specs.Asked.{CallOf, asked_by}
-use Rattle.desk_edit.specs.Asked.CallOf.{Apply, Undo}
+use Rattle.desk_edit.specs.Asked.CallOf.{Apply, Undo, Revert}
 use Rattle.desk_text.specs.declared.fault.Fault.{Fault}
 use Rattle.desk_text.specs.declared.fault.ParseFault.{ParseFault}
 use Rattle.desk_text.specs.declared.fault.ParseFault.TheVariants.{OutOfMemory, Line}
@@ -23,6 +23,13 @@ only_undo last (calls.Undo other) is = cc
 only_undo last (calls.Redo other) is = absurd cc
 only_undo last (calls.Revert number) is = absurd cc
 
+pub only_revert : {A : Type 0} (number : ℕ) → Only {A = A} (calls.Revert number) (Revert number)
+only_revert number (calls.Apply command) is = absurd cc
+only_revert number (calls.Group commands) is = absurd cc
+only_revert number (calls.Undo last) is = absurd cc
+only_revert number (calls.Redo last) is = absurd cc
+only_revert number (calls.Revert other) is = cc
+
 pub only_command : {A : Type 0} (command : Command) → Only {A = A} (calls.Apply command) (Apply command)
 only_command command (calls.Apply other) is = cc
 only_command command (calls.Group commands) is = absurd cc
@@ -39,6 +46,9 @@ needs_none r text is_text memory is other out =
 
 pub undo_is_other : codes "undo" ∷ [] ≢ codes "group" ∷ []
 undo_is_other same = absurd cc
+
+pub revert_is_other : codes "revert" ∷ [] ≢ codes "group" ∷ []
+revert_is_other same = absurd cc
 
 pub add_room_is_other : codes "add-room" ∷ [] ≢ codes "group" ∷ []
 add_room_is_other same = absurd cc

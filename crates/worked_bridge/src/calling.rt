@@ -113,3 +113,13 @@ pub fn redoes(alloc: Global, core: &mut Core) -> Reply
 {
     core.desk(alloc, 0, Call::Redo { last: 8 })
 }
+
+/// A revert of a call that nobody made.
+pub fn reverts_nothing_of_a_new_bridge(alloc: Global, core: &mut Core) -> Reply
+    requires version { core.old.version ≡ 0 }
+    requires done { core.old.history.done ≡ [] }
+    ensures answer { result ≡ Reply.Refused 0 Refusal.NotInForce }
+    ensures same { core.new ≡ core.old }
+{
+    core.desk(alloc, 0, Call::Revert { number: 1 })
+}

@@ -5,7 +5,7 @@ ghost use Rattle.bridge_core.specs.Sent.{Sent, sent_of};
 
 use bridge_core::Egress;
 use desk_calls::Reply;
-use desk_edit::{Reason, Refusal, Table};
+use desk_edit::{Reason, Refusal, Standing, Table};
 use desk_text::{Fault, print_reply};
 use script_text::{RunFault, print_egress, status};
 use std::alloc::{AllocError, Global};
@@ -54,6 +54,21 @@ pub fn prints_a_refused_group(why: Refusal, out: &mut Vec<u8>) -> Result<(), All
         → OnOk result (out.new.items ≡ codes "no 6 20 PartRefused 63 12 Full rooms 64\n") }
 {
     print_reply(&Reply::Refused { at: 6, why }, out)
+}
+
+/// The line of a refused revert: what stands in its way, or who would come or go with it.
+pub fn prints_a_refused_revert(why: Refusal, out: &mut Vec<u8>) -> Result<(), AllocError>
+    requires { out.old.items ≡ [] }
+    ensures gone { why ≡ Refusal.NotInForce → OnOk result (out.new.items ≡ codes "no 40 23 NotInForce\n") }
+    ensures far { why ≡ Refusal.TooFar 256 → OnOk result (out.new.items ≡ codes "no 40 24 TooFar 256\n") }
+    ensures conflict { why ≡ Refusal.Conflict 37 0 Reason.NoSource
+        → OnOk result (out.new.items ≡ codes "no 40 25 Conflict 37 0 4 NoSource\n") }
+    ensures full { why ≡ Refusal.Conflict 37 2 (Reason.Full Table.Rooms 64)
+        → OnOk result (out.new.items ≡ codes "no 40 25 Conflict 37 2 12 Full rooms 64\n") }
+    ensures elsewhere { why ≡ Refusal.Elsewhere Standing.Member 20
+        → OnOk result (out.new.items ≡ codes "no 40 26 Elsewhere member 20\n") }
+{
+    print_reply(&Reply::Refused { at: 40, why }, out)
 }
 
 /// The line of a packet behind another line.

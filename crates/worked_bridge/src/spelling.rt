@@ -18,6 +18,16 @@ pub fn spells_an_undo(alloc: Global, text: &[u8]) -> Result<Call, ParseFault>
     parse_desk(alloc, text)
 }
 
+/// A call of a revert: it names a call of any number, and no word stands behind that.
+pub fn spells_a_revert(alloc: Global, text: &[u8]) -> Result<Call, ParseFault>
+    ensures revert { text.now ≡ codes "revert 7" → result ≡ Ok (Call.Revert 7) }
+    ensures most { text.now ≡ codes "revert 18446744073709551615" → result ≡ Ok (Call.Revert 18446744073709551615) }
+    ensures missing { text.now ≡ codes "revert" → result ≡ Err (ParseFault.Line 2 Fault.MissingWord) }
+    ensures behind { text.now ≡ codes "revert 7 8" → result ≡ Err (ParseFault.Line 3 Fault.ExtraWord) }
+{
+    parse_desk(alloc, text)
+}
+
 /// A call that adds a room. A rate may stand behind the room, and is else 8000 Hz.
 pub fn spells_a_room(alloc: Global, text: &[u8]) -> Result<Call, ParseFault>
     ensures music { text.now ≡ codes "add-room 1 44100"

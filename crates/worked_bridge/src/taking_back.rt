@@ -41,6 +41,20 @@ pub fn the_group_comes_back(alloc: Global, core: &mut Core, commands: Vec<Comman
     }
 }
 
+/// How an undo behind an accepted revert is answered. Where the log isn't full it is accepted, and the desk is the one
+/// before the revert.
+pub fn the_revert_comes_back(alloc: Global, core: &mut Core, number: u64) -> Option<Reply>
+    ensures { IfSome result (λ reply. core.old.version + 2 ≤ call_limit
+        → (reply ≡ Reply.Accepted (core.old.version + 2))
+        × (core.new.desk ≡ core.old.desk) × (core.new.done ≡ core.old.done)) }
+{
+    commands_come_back();
+    match core.desk(alloc, 0, Call::Revert { number }) {
+        Reply::Accepted { no } => Some(core.desk(alloc, 0, Call::Undo { last: no })),
+        Reply::Refused { at: _, why: _ } => None,
+    }
+}
+
 /// An undo that names the last call, where something is done and the log isn't full.
 pub fn an_undo_is_accepted(alloc: Global, core: &mut Core) -> Reply
     ensures { 1 ≤ length core.old.done → core.old.version + 1 ≤ call_limit

@@ -6,6 +6,7 @@ ghost use Rattle.desk_edit.specs.Calls.{desk_now};
 ghost use Rattle.published_desk.specs.Published.{after_lists};
 ghost use Rattle.operator_desk.specs.LegalLogs.{after_log};
 
+use call_history::CallStamp;
 use desk_edit::Call;
 use desk_rows::Kind;
 use operator_desk::{Answer, DeskBrand, Seat, SharedDesk};
@@ -49,7 +50,7 @@ pub fn told_of<'a, H: DeskBrand, R: Wait>(
     ensures rows { IfSome result.0 (λ f.
         f.version ≡ f.no → f.count ≡ count_of kind (desk_now (after_log H.start seat.new.seen))) }
 {
-    let Ok(answer) = desk.call(rt, alloc, seat, call) else {
+    let Ok(answer) = desk.call(rt, alloc, seat, call, CallStamp::unnamed(alloc, 0)) else {
         return (None, reader);
     };
     match answer {

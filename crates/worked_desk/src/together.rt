@@ -5,8 +5,9 @@ ghost use mathlib.Core.List.{IsPrefix};
 ghost use Rattle.desk_edit.specs.Asked.{asked_by};
 ghost use Rattle.operator_desk.specs.LegalLogs.{IsLegal};
 ghost use Rattle.operator_desk.specs.Seats.{new_seat};
-ghost use Rattle.worked_desk.specs.Has.{Has};
+ghost use Rattle.worked_desk.specs.Has.{Has, unnamed};
 
+use call_history::CallStamp;
 use desk_edit::Call;
 use operator_desk::{Answer, DeskBrand, LogEntry, Seat, SharedDesk};
 use std::alloc::Global;
@@ -35,8 +36,8 @@ pub fn by_two<'a, H: DeskBrand + Send + Sync, R: Threads + Wait + Sync>(
     requires seats { (one ≡ new_seat 0) × (two ≡ new_seat 1) }
     ensures legal { IfSome result (λ log. IsLegal H.start log.items) }
     ensures two { IfSome result (λ log. length log.items ≡ 2) }
-    ensures first { IfSome result (λ log. Has log.items (record { op = 0; call = asked_by first })) }
-    ensures second { IfSome result (λ log. Has log.items (record { op = 1; call = asked_by second })) }
+    ensures first { IfSome result (λ log. Has log.items (record { op = 0; call = asked_by first; stamp = unnamed })) }
+    ensures second { IfSome result (λ log. Has log.items (record { op = 1; call = asked_by second; stamp = unnamed })) }
 {
     let one = Post {
         desk: &desk,
@@ -51,12 +52,14 @@ pub fn by_two<'a, H: DeskBrand + Send + Sync, R: Threads + Wait + Sync>(
         move || -> Option<Seat<H>>
             requires { one.seat.seen ≡ [] }
             ensures { IfSome result (λ s.
-                Has s.seen (record { op = one.entry.seat.op; call = asked_by first }) × (s.count ≡ 1)) }
+                Has s.seen (record { op = one.entry.seat.op; call = asked_by first; stamp = unnamed })
+                × (s.count ≡ 1)) }
         { made(rt, alloc, one, first) },
         move || -> Option<Seat<H>>
             requires { two.seat.seen ≡ [] }
             ensures { IfSome result (λ s.
-                Has s.seen (record { op = two.entry.seat.op; call = asked_by second }) × (s.count ≡ 1)) }
+                Has s.seen (record { op = two.entry.seat.op; call = asked_by second; stamp = unnamed })
+                × (s.count ≡ 1)) }
         { made(rt, alloc, two, second) },
     );
     match (one, two) {
@@ -77,10 +80,10 @@ fn made<'d, 'a, H: DeskBrand, R: Wait>(
 ) -> Option<Seat<'a, H>>
     requires { post.seat.seen ≡ [] }
     ensures { IfSome result (λ s.
-        Has s.seen (record { op = post.entry.seat.op; call = asked_by call }) × (s.count ≡ 1)) }
+        Has s.seen (record { op = post.entry.seat.op; call = asked_by call; stamp = unnamed }) × (s.count ≡ 1)) }
 {
     let Post { desk, mut seat } = post;
-    match desk.call(rt, alloc, &mut seat, call) {
+    match desk.call(rt, alloc, &mut seat, call, CallStamp::unnamed(alloc, 0)) {
         Ok(Answer::Accepted { .. }) => Some(seat),
         Ok(Answer::Refused { .. }) | Err(_) => None,
     }

@@ -6,6 +6,7 @@ ghost use Rattle.desk_rows.specs.Desk.{blank as no_rows};
 use crate::rooms::{Plan, commands_for, core_with, picture_of, set_gain};
 use crate::timing::{Took, Watch, least_of};
 use bridge_core::Core;
+use call_history::CallStamp;
 use desk_calls::Reply;
 use desk_edit::{Call, Command};
 use desk_rows::{Mute, Room};
@@ -86,7 +87,13 @@ pub fn call_desk<'a, H: DeskBrand, R: Wait>(
 ) -> u64 {
     let mut accepted = 0u64;
     for made in 0..calls {
-        if let Ok(Answer::Accepted { .. }) = desk.call(rt, alloc, seat, call_of(turn, made)) {
+        if let Ok(Answer::Accepted { .. }) = desk.call(
+            rt,
+            alloc,
+            seat,
+            call_of(turn, made),
+            CallStamp::unnamed(alloc, 0),
+        ) {
             accepted = accepted.saturating_add(1);
         }
     }
@@ -102,7 +109,13 @@ pub fn fill<'a, H: DeskBrand, R: Wait>(
     commands: &[Command],
 ) -> bool {
     for command in commands {
-        let Ok(Answer::Accepted { .. }) = desk.call(rt, alloc, seat, Call::Apply(*command)) else {
+        let Ok(Answer::Accepted { .. }) = desk.call(
+            rt,
+            alloc,
+            seat,
+            Call::Apply(*command),
+            CallStamp::unnamed(alloc, 0),
+        ) else {
             return false;
         };
     }

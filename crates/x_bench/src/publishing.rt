@@ -9,6 +9,7 @@ use crate::entering::enter_all;
 use crate::meeting::Meeting;
 use crate::rooms::{Plan, commands_for};
 use crate::timing::{Took, Watch};
+use call_history::CallStamp;
 use desk_edit::Command;
 use operator_desk::{Answer, DeskBrand, DeskNames, Log, Seat, SharedDesk};
 use published_desk::LaneReader;
@@ -52,7 +53,7 @@ fn call_all<'d, 'a, H: DeskBrand, R: Wait>(
             return true;
         }
         let call = call_of(Turn::Mutes { picture: 0 }, made);
-        let answer = desk.call(rt, alloc, &mut seat, call);
+        let answer = desk.call(rt, alloc, &mut seat, call, CallStamp::unnamed(alloc, 0));
         meeting.begin();
         let Ok(Answer::Accepted { .. }) = answer else {
             return false;

@@ -3,7 +3,7 @@
 use bridge_core::Core;
 use desk_calls::Reply;
 use desk_edit::Call;
-use desk_text::{print_reply, print_rows};
+use desk_text::{Fault, print_reply, print_rows};
 use operator_lines::{LineDesk, View};
 use std::alloc::{AllocError, Global};
 
@@ -30,11 +30,18 @@ impl PlainDesk {
 impl LineDesk for PlainDesk {
     ghost use Rattle.std.specs.Prelude.{◌≡◌};
 
-    ghost replies = { λ old new call text. text ≡ text };
+    ghost replies = { λ moment old new call text. text ≡ text };
 
     ghost shows = { λ desk view text. text ≡ text };
 
-    fn reply(&mut self, alloc: Global, call: Call, out: &mut Vec<u8>) -> Result<(), AllocError> {
+    fn reply(
+        &mut self,
+        alloc: Global,
+        _moment: u64,
+        _line: &[u8],
+        call: Call,
+        out: &mut Vec<u8>,
+    ) -> Result<(), AllocError> {
         let reply = self.core.desk(alloc, 0, call);
         if let Reply::Accepted { .. } = reply {
             self.accepted = self.accepted.saturating_add(1);
@@ -43,12 +50,57 @@ impl LineDesk for PlainDesk {
     }
 
     /// A script doesn't ask for a watch.
-    fn watch(&mut self, _alloc: Global, _out: &mut Vec<u8>) -> Result<(), AllocError> {
+    fn watch(
+        &mut self,
+        _alloc: Global,
+        _moment: u64,
+        _is_named: bool,
+        _out: &mut Vec<u8>,
+    ) -> Result<(), AllocError> {
         Ok(())
     }
 
     /// So there are no news.
-    fn tell_news(&mut self, _alloc: Global, _out: &mut Vec<u8>) -> Result<(), AllocError> {
+    fn tell_news(
+        &mut self,
+        _alloc: Global,
+        _moment: u64,
+        _out: &mut Vec<u8>,
+    ) -> Result<(), AllocError> {
+        Ok(())
+    }
+
+    /// Nor for the calls.
+    fn tell_calls(
+        &mut self,
+        _alloc: Global,
+        _moment: u64,
+        _most: u64,
+        _out: &mut Vec<u8>,
+    ) -> Result<(), AllocError> {
+        Ok(())
+    }
+
+    /// Nor does it name its connection.
+    fn rename(
+        &mut self,
+        _alloc: Global,
+        _moment: u64,
+        _name: &[u8],
+        _out: &mut Vec<u8>,
+    ) -> Result<(), AllocError> {
+        Ok(())
+    }
+
+    /// Faults aren't asked about.
+    fn note_fault(
+        &mut self,
+        _alloc: Global,
+        _moment: u64,
+        _line: &[u8],
+        _word: u32,
+        _fault: Fault,
+    ) -> Result<(), AllocError> {
         Ok(())
     }
 

@@ -87,7 +87,7 @@ impl Speech {
             let Some(line) = self.next() else {
                 break;
             };
-            let next = answer(self.alloc, desk, &line, &mut self.wanted)?;
+            let next = answer(self.alloc, desk, 0, &line, &mut self.wanted)?;
             self.is_over = next != Next::Stay;
             self.stops = next == Next::Stop;
         }

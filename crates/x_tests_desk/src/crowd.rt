@@ -5,6 +5,7 @@ ghost use Rattle.desk_rows.specs.Desk.{blank as no_rows};
 
 use crate::calls::{Reply, call_of, reply_of, version_of};
 use crate::replay::{Operator, is_same, replayed};
+use call_history::CallStamp;
 use operator_desk::{DeskBrand, DeskNames, Log, Seat, SharedDesk};
 use std::alloc::Global;
 use std::marker::Brand;
@@ -43,7 +44,7 @@ fn work<'d, 'a, H: DeskBrand, R: Wait>(
     let mut last = 0;
     for made in 0..CALLS {
         let call = call_of(seat.op(), made, last);
-        let reply = reply_of(desk.call(rt, alloc, &mut seat, call))?;
+        let reply = reply_of(desk.call(rt, alloc, &mut seat, call, CallStamp::unnamed(alloc, 0)))?;
         last = version_of(reply);
         replies.push(reply).ok()?;
     }

@@ -4,6 +4,7 @@ ghost use Rattle.std.specs.Prelude.{◌≡◌};
 ghost use Rattle.desk_rows.specs.Desk.{blank as no_rows};
 
 use crate::calls::{Reply, reply_of};
+use call_history::CallStamp;
 use desk_edit::{Call, Command, Refusal};
 use desk_rows::Room;
 use operator_desk::{DeskBrand, DeskNames, Log, Seat, SharedDesk};
@@ -36,7 +37,13 @@ fn fills<'a, H: DeskBrand, R: Wait>(
     seat: &mut Seat<'a, H>,
 ) -> bool {
     for version in 0..CALLS {
-        let reply = reply_of(desk.call(rt, alloc, seat, call_after(version)));
+        let reply = reply_of(desk.call(
+            rt,
+            alloc,
+            seat,
+            call_after(version),
+            CallStamp::unnamed(alloc, 0),
+        ));
         if reply
             != Some(Reply::Accepted {
                 no: version.wrapping_add(1),
@@ -78,11 +85,16 @@ fn is_filled<'a, H: DeskBrand, R: Wait>(
     let is_full = match seats.first_mut() {
         Some(seat) => {
             fills(rt, alloc, &desk, seat)
-                && reply_of(desk.call(rt, alloc, seat, call_after(CALLS)))
-                    == Some(Reply::Refused {
-                        at: CALLS,
-                        why: Refusal::LogFull,
-                    })
+                && reply_of(desk.call(
+                    rt,
+                    alloc,
+                    seat,
+                    call_after(CALLS),
+                    CallStamp::unnamed(alloc, 0),
+                )) == Some(Reply::Refused {
+                    at: CALLS,
+                    why: Refusal::LogFull,
+                })
         }
         None => false,
     };

@@ -1,14 +1,16 @@
 //! Tests of the desk's crates, of what no contract says.
 //!
-//! Of edits and versions: histories of a state that is no desk, an edit as large as there may be, and that readers
-//! enter and see what was published while threads run. Of operators: how many a desk has, how two of them call in turn
-//! and at once, that each call is answered while sixteen threads call and until the log is full, and that a desk with
-//! one operator answers the same.
+//! Of edits and versions: histories of a state that is no desk, an edit as large as there may be, rows that are made
+//! again where memory is ample, and that readers enter and see what was published while threads run. Of operators: how
+//! many a desk has, how two of them call in turn and at once, that each call is answered while sixteen threads call and
+//! until the log is full, and that a desk with one operator answers the same.
 #![tactic(auto)]
 
-// Edits.
+// Edits, and rows that are made again.
 #[cfg(test)]
 mod lamp;
+#[cfg(test)]
+mod making;
 #[cfg(test)]
 mod rows;
 

@@ -58,7 +58,7 @@ impl Operator {
 }
 
 /// The reply of the desk.
-fn asked(alloc: Global, one: &mut Desk, call: &Call) -> Reply {
+pub fn asked(alloc: Global, one: &mut Desk, call: &Call) -> Reply {
     match one.prepare(alloc, call) {
         Ok(prepared) => Reply::Accepted {
             no: one.commit(call, prepared),

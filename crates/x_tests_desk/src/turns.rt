@@ -5,6 +5,7 @@ ghost use Rattle.std.specs.Prelude.{◌≡◌, vec_len};
 ghost use Rattle.desk_rows.specs.Desk.{blank as no_rows};
 
 use crate::calls::{Reply, reply_of};
+use call_history::CallStamp;
 use desk_edit::{Call, Command, Refusal};
 use desk_rows::{Kind, Room};
 use operator_desk::{
@@ -27,7 +28,7 @@ fn replied<'a, H: DeskBrand, R: Wait>(
     seat: &mut Seat<'a, H>,
     call: Call,
 ) -> Option<Reply> {
-    reply_of(desk.call(rt, alloc, seat, call))
+    reply_of(desk.call(rt, alloc, seat, call, CallStamp::unnamed(alloc, 0)))
 }
 
 /// Each adds a room. Neither can undo while the other has called since, so one of them takes both back.
@@ -168,7 +169,7 @@ fn refuses<'a, H: DeskBrand, R: Wait>(
     desk: &SharedDesk<'a, H>,
     seat: &mut Seat<'a, H>,
 ) -> bool {
-    match desk.call(rt, alloc, seat, add_room(1)) {
+    match desk.call(rt, alloc, seat, add_room(1), CallStamp::unnamed(alloc, 0)) {
         Ok(Answer::Refused { at, why }) => at == 0 && why == Why::LogTaken,
         _ => false,
     }

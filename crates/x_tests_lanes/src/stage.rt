@@ -5,6 +5,7 @@ ghost use Rattle.desk_rows.specs.Desk.{blank as no_rows};
 ghost use Rattle.published_desk.specs.Published.{new_reader};
 
 use crate::told::{OfBrand, Told};
+use call_history::CallStamp;
 use desk_edit::{Call, Command, Form};
 use desk_rows::{Kind, Rows};
 use operator_desk::{Answer, DeskBrand, DeskNames, Log, Seat, SharedDesk};
@@ -81,10 +82,13 @@ impl<'a, H: DeskBrand> OneDesk<'a, H> {
         alloc: Global,
         command: Command,
     ) -> Option<Told<OfBrand<H>>> {
-        match self
-            .desk
-            .call(rt, alloc, &mut self.seat, Call::Apply(command))
-        {
+        match self.desk.call(
+            rt,
+            alloc,
+            &mut self.seat,
+            Call::Apply(command),
+            CallStamp::unnamed(alloc, 0),
+        ) {
             Ok(Answer::Accepted { no: _, notice }) => Some(Told::new(notice)),
             Ok(Answer::Refused { .. }) | Err(_) => None,
         }

@@ -13,7 +13,8 @@ returns-in-Some-default-clause-rows g c =
     let e = c.in-Some-default.entry in
     let reader = c.args.reader in
     let notice = c.in-Accepted.notice in
-    let answered = IsAnswered desk.start desk.publisher c.args.seat.now c.call.new.seat (asked_by c.args.call) in
+    let answered = IsAnswered desk.start desk.publisher c.args.seat.now c.call.new.seat (asked_by c.args.call)
+    c.unnamed.result in
     let accepted = subst answered c.in-Accepted.is c.in-Ok.ensures.answer in
     let counted =
     subst

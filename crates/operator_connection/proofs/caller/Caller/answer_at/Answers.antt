@@ -8,7 +8,7 @@ use Rattle.operator_connection.proofs.caller.Caller.answer_at.Goals as goal
 
 pub returns-then-is_open : goal.returns-then-is_open
 returns-then-is_open g c =
-    let replies = g.D.LineDesk.replies in
+    let replies = g.D.LineDesk.replies c.args.now in
     let shows = g.D.LineDesk.shows in
     let was = c.self.inside in
     let acts = g.L.CallerLine.acts was.line in

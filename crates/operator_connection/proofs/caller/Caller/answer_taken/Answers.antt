@@ -7,7 +7,7 @@ use Rattle.operator_connection.proofs.caller.Caller.answer_taken.Goals as goal
 
 pub returns-in-Ok-true-clause-said : goal.returns-in-Ok-true-clause-said
 returns-in-Ok-true-clause-said g c =
-    let replies = g.D.LineDesk.replies in
+    let replies = g.D.LineDesk.replies c.args.now in
     let shows = g.D.LineDesk.shows in
     let heard = c.args.heard in
     let desk = c.args.desk.now in
@@ -35,7 +35,7 @@ returns-in-Ok-true-clause-said g c =
 
 pub returns-in-Ok-false-clause-said : goal.returns-in-Ok-false-clause-said
 returns-in-Ok-false-clause-said g c =
-    let replies = g.D.LineDesk.replies in
+    let replies = g.D.LineDesk.replies c.args.now in
     let shows = g.D.LineDesk.shows in
     let heard = c.args.heard in
     let desk = c.args.desk.now in
@@ -64,7 +64,7 @@ returns-clause-said g c =
     let new = connection (g.L.CallerLine.acts was.line) (record said { since = c.args.now }) was.ready was.heard in
     subst
     (λ (s : Connection).
-    AnswersHeeded g.D.LineDesk.replies g.D.LineDesk.shows (heeded_in heard) c.args.desk.now c.answer_heard-said.new.desk
-    s new)
+    AnswersHeeded (g.D.LineDesk.replies c.args.now) g.D.LineDesk.shows (heeded_in heard) c.args.desk.now
+    c.answer_heard-said.new.desk s new)
     (ap (λ (v : CallerOf). v.connection) c.self.view_is)
     (inr (c.in-Err.ensures.broke, c.in-Err.ensures.lost))

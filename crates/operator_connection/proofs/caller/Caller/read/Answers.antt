@@ -7,7 +7,7 @@ use Rattle.operator_connection.proofs.caller.Caller.read.Goals as goal
 
 pub returns-then-count-gt0 : goal.returns-then-count-gt0
 returns-then-count-gt0 g c =
-    let replies = g.D.LineDesk.replies in
+    let replies = g.D.LineDesk.replies c.args.now in
     let shows = g.D.LineDesk.shows in
     let d = c.args.desk.now in
     let e = c.hear.new.desk in

@@ -10,16 +10,21 @@ pub returns-in_err-refuse_too_long-clause-broke : goal.returns-in_err-refuse_too
 returns-in_err-refuse_too_long-clause-broke g c =
     let first = c.in_ok-stops.ensures.first in
     let said = c.answer_lines.new.self in
-    let replies = g.D.LineDesk.replies in
+    let replies = g.D.LineDesk.replies c.args.moment in
     let shows = g.D.LineDesk.shows in
-    let some : AnswersSome replies shows (texts c.args.lines.now) c.args.desk.now c.args.self.now.outgoing
+    let lines = c.deref.result.now in
+    let some : AnswersSome replies shows (texts lines) c.args.desk.now c.args.self.now.outgoing
     c.refuse_too_long.new.self.outgoing = (
       first.0,
       c.answer_lines.new.desk,
       said.standing,
       subst (λ (o : List ℕ).
-          AnswersLines replies shows (take first.0 (texts c.args.lines.now)) c.args.desk.now c.answer_lines.new.desk
+          AnswersLines replies shows (take first.0 (texts lines)) c.args.desk.now c.answer_lines.new.desk
           c.args.self.now.outgoing o Open said.standing)
           (sym (ap (λ (t : Talk). t.outgoing) c.in_err-refuse_too_long.ensures.err)) first.1,
     ) in
-    on_err _ some
+    on_err _
+    (subst
+    (λ ls.
+    AnswersSome replies shows (texts ls) c.args.desk.now c.args.self.now.outgoing c.refuse_too_long.new.self.outgoing)
+    c.deref.ensures.value some)

@@ -5,7 +5,7 @@ use Rattle.operator_connection.proofs.talking.Talk.answer_heard.Goals as goal
 
 pub returns-clause-broke : goal.returns-clause-broke
 returns-clause-broke g c =
-    let replies = g.D.LineDesk.replies in
+    let replies = g.D.LineDesk.replies c.args.moment in
     let shows = g.D.LineDesk.shows in
     let desk = c.args.desk.now in
     let before = c.args.self.now.outgoing in
@@ -14,10 +14,4 @@ returns-clause-broke g c =
     (sym c.or_lost.ensures.same)
     (subst
     (λ (o : List ℕ). OnErr c.answer_all-said.result (AnswersSome replies shows (texts lines) desk before o))
-    (sym c.or_lost.ensures.outgoing)
-    (subst
-    (λ ls.
-    OnErr c.answer_all-said.result
-    (AnswersSome replies shows (texts ls) desk before c.answer_all-said.new.self.outgoing))
-    c.deref.ensures.value
-    c.answer_all-said.ensures.broke))
+    (sym c.or_lost.ensures.outgoing) c.answer_all-said.ensures.broke)

@@ -9,7 +9,8 @@ use Rattle.operator_connection.proofs.talking.Talk.answer_lines.Goals as goal
 pub returns-then-not-is_open-clause-first : goal.returns-then-not-is_open-clause-first
 returns-then-not-is_open-clause-first g c = (
   c.loop-line.line-index + 1,
-  answers_step g.D.LineDesk.replies g.D.LineDesk.shows (λ line. line.items) c.args.lines.now c.loop-line.line-index _ _
+  answers_step (g.D.LineDesk.replies c.args.moment) g.D.LineDesk.shows (λ line. line.items) c.args.lines.now
+      c.loop-line.line-index _ _
       _ _ _ _ _ _ _ _ c.loop-line-test.true c.line-item.is c.deref.ensures.value c.loop-line.invariant.said
       c.in_ok-answer_line.ensures.answer c.in_ok-answer_line.ensures.standing,
   inr (inl (sym c.is_open.ensures ∙ c.if-not-is_open.true)),
@@ -22,7 +23,7 @@ loop-line-preserved g c =
       stands = stays;
       kept = c.answer_line.ensures.lines ∙ c.loop-line.invariant.kept;
       said =
-          answers_step g.D.LineDesk.replies g.D.LineDesk.shows (λ line. line.items) c.args.lines.now
+          answers_step (g.D.LineDesk.replies c.args.moment) g.D.LineDesk.shows (λ line. line.items) c.args.lines.now
           c.loop-line.line-index
           _ _ _ _ _ _ _ _ _ _ c.loop-line-test.true c.line-item.is c.deref.ensures.value c.loop-line.invariant.said
           c.in_ok-answer_line.ensures.answer (sym stays ∙ c.in_ok-answer_line.ensures.standing);
@@ -30,7 +31,7 @@ loop-line-preserved g c =
 
 pub returns-in_err-answer_line-clause-broke : goal.returns-in_err-answer_line-clause-broke
 returns-in_err-answer_line-clause-broke g c =
-    let replies = g.D.LineDesk.replies in
+    let replies = g.D.LineDesk.replies c.args.moment in
     let shows = g.D.LineDesk.shows in
     let some : AnswersSome replies shows (texts c.args.lines.now) c.args.desk.now c.args.self.now.outgoing
     c.answer_line.new.self.outgoing = (

@@ -9,6 +9,7 @@ abbrev pub invariant-loop-line : goal.invariant-loop-line
 invariant-loop-line g l = record {
   stands : l.self.standing ≡ Open;
   kept : l.self.lines ≡ l.fn.self.lines;
-  said : AnswersLines g.D.LineDesk.replies g.D.LineDesk.shows (take l.line-index (texts l.lines)) l.fn.desk l.desk
+  said : AnswersLines (g.D.LineDesk.replies l.moment) g.D.LineDesk.shows (take l.line-index (texts l.lines)) l.fn.desk
+      l.desk
       l.fn.self.outgoing l.self.outgoing Open Open;
 }

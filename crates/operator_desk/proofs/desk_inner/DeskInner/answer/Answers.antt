@@ -33,7 +33,8 @@ returns-in-Some g c =
     let told = refused g.H.DeskBrand.start c.args.seat.now new log call at LogTaken (c.requires.seen ∙ sym is_log)
     (ap (λ (s : SeatOf). s.op) is) (ap (λ (s : SeatOf). s.seen) is) (ap (λ (s : SeatOf). s.count) is)
     number held.legal refl in
-    let P : Answer → Type 0 = IsAnswered g.H.DeskBrand.start g.H.DeskBrand.publisher c.args.seat.now new call in
+    let P : Answer → Type 0 =
+    IsAnswered g.H.DeskBrand.start g.H.DeskBrand.publisher c.args.seat.now new call c.args.stamp in
     let r = c.taken_answer.result in
     record {
       answer = taken c.self.inside.ended r (Refused at LogTaken) P c.taken_answer.ensures told;
@@ -49,7 +50,7 @@ returns-in-Err-clause-answer g c =
     let number : c.version-at.result ≡ length log =
     c.version-at.ensures.version ∙ (held.called.version ∙ accepted-log g.H.DeskBrand.start log) in
     let told = c.in-Err.ensures.told (after_log g.H.DeskBrand.start log) held.called in
-    subst (IsAnswered g.H.DeskBrand.start g.H.DeskBrand.publisher seat seat (asked_by c.args.call))
+    subst (IsAnswered g.H.DeskBrand.start g.H.DeskBrand.publisher seat seat (asked_by c.args.call) c.args.stamp)
     (sym c.refused.ensures)
     (refused g.H.DeskBrand.start seat seat log (asked_by c.args.call) c.version-at.result (Told c.in-Err.why)
     (c.requires.seen ∙ sym is_log) refl refl refl number held.legal (inl told))
@@ -63,7 +64,7 @@ returns-in-Err-edit_of-clause-answer g c =
     let number : c.version-at.result ≡ length log =
     c.version-at.ensures.version ∙ (held.called.version ∙ accepted-log g.H.DeskBrand.start log) in
     let free = c.in-Ok.ensures.free (after_log g.H.DeskBrand.start log) held.called in
-    subst (IsAnswered g.H.DeskBrand.start g.H.DeskBrand.publisher seat seat (asked_by c.args.call))
+    subst (IsAnswered g.H.DeskBrand.start g.H.DeskBrand.publisher seat seat (asked_by c.args.call) c.args.stamp)
     (sym c.refused-in-Err-edit_of.ensures)
     (refused g.H.DeskBrand.start seat seat log (asked_by c.args.call) c.version-at.result (Told OutOfMemory)
     (c.requires.seen ∙ sym is_log) refl refl refl number held.legal

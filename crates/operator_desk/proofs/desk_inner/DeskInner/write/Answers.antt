@@ -48,7 +48,7 @@ write-requires g c =
     ap (λ (h : InnerOf). h.desk.version) c.self.view_is in
     let many : c.self.inside.desk.version ≡ length (shown entries) =
     held.called.version ∙ accepted-log g.H.DeskBrand.start (shown entries) in
-    let at : c.len-next.result ≡ length entries = search rules in
+    let at : c.len-end.result ≡ length entries = search rules in
     let long : length c.self.inside.log.now ≡ call_limit = ap length i.0 ∙ i.1 in
     omega (arith, version, desk, many, at, long, length-shown entries)
 
@@ -56,28 +56,28 @@ pub push_reserved-requires : goal.push_reserved-requires
 push_reserved-requires g c =
     let tokens = c.self.invariant.2 in
     let there =
-    is_there g.H.DeskBrand.cells c.len-next.result c.in-Ok.token.of
-    (subst (λ cs. slice_get cs c.len-next.result ≡ Some c.in-Ok.token.of) c.self.invariant.0 c.in-Ok.ensures.ok.0) in
-    let at = c.len-next.ensures in
+    is_there g.H.DeskBrand.cells c.len-end.result c.in-Ok.token.of
+    (subst (λ cs. slice_get cs c.len-end.result ≡ Some c.in-Ok.token.of) c.self.invariant.0 c.in-Ok.ensures.ok.0) in
+    let at = c.len-end.ensures in
     omega (arith, there, at, tokens.few)
 
 pub push_reserved-requires-in-Ok : goal.push_reserved-requires-in-Ok
 push_reserved-requires-in-Ok g c =
     let tokens = c.seat.invariant.0 in
     let there =
-    is_there g.H.DeskBrand.cells c.len-next.result c.in-Ok.token.of
-    (subst (λ cs. slice_get cs c.len-next.result ≡ Some c.in-Ok.token.of) c.self.invariant.0 c.in-Ok.ensures.ok.0) in
+    is_there g.H.DeskBrand.cells c.len-end.result c.in-Ok.token.of
+    (subst (λ cs. slice_get cs c.len-end.result ≡ Some c.in-Ok.token.of) c.self.invariant.0 c.in-Ok.ensures.ok.0) in
     let same : shown c.seat.inside.seen.items ≡ shown c.self.inside.entries.items =
     ap (λ (s : SeatOf). s.seen) c.seat.view_is ∙ (c.requires.seen ∙ sym (ap (λ (h : InnerOf). h.log) c.self.view_is)) in
     let long : length c.seat.inside.seen.items ≡ length c.self.inside.entries.items =
     sym (length-shown c.seat.inside.seen.items) ∙ (ap length same ∙ length-shown c.self.inside.entries.items) in
     let seat_len : vec_len c.seat.inside.seen ≡ length c.seat.inside.seen.items = search rules in
-    let len : c.len-next.result ≡ length c.self.inside.entries.items = search rules in
+    let len : c.len-end.result ≡ length c.self.inside.entries.items = search rules in
     omega (arith, there, len, long, seat_len, tokens.few)
 
 -- the entry of the call
 abbrev entry_of : (g : Given.Over) → goal.After-add g → EntryOf
-entry_of g c = record { op = c.seat.inside.op; call = asked_by c.args.call }
+entry_of g c = record { op = c.seat.inside.op; call = asked_by c.args.call; stamp = c.args.stamp }
 
 value : (g : Given.Over) (c : goal.After-add g) → c.in-Ok.token.value ≡ entry_of g c
 value g c = c.in-Ok.ensures.ok.1 ∙ c.new.ensures
@@ -85,9 +85,9 @@ value g c = c.in-Ok.ensures.ok.1 ∙ c.new.ensures
 cell : (g : Given.Over) (c : goal.After-add g)
     → slice_get g.H.DeskBrand.cells (length c.self.inside.entries.items) ≡ Some c.in-Ok.token.of
 cell g c =
-    let len : c.len-next.result ≡ length c.self.inside.entries.items = search rules in
+    let len : c.len-end.result ≡ length c.self.inside.entries.items = search rules in
     subst (λ n. slice_get g.H.DeskBrand.cells n ≡ Some c.in-Ok.token.of) len
-    (subst (λ cs. slice_get cs c.len-next.result ≡ Some c.in-Ok.token.of) c.self.invariant.0 c.in-Ok.ensures.ok.0)
+    (subst (λ cs. slice_get cs c.len-end.result ≡ Some c.in-Ok.token.of) c.self.invariant.0 c.in-Ok.ensures.ok.0)
 
 -- the desk's log after the call
 longer : (g : Given.Over) (c : goal.After-add g)
@@ -221,10 +221,10 @@ returns-in-Some-clause-answer g c =
     let pushed = shown c.push_reserved-in-Ok.new.self.items in
     let new : SeatOf = record { op = seat.op; seen = pushed; count = c.add.new.share.amount; beyond = None } in
     let who : seat.op ≡ was.op = ap (λ (s : SeatOf). s.op) view in
-    let goes : pushed ≡ log ++ record { op = was.op; call = call } ∷ [] =
+    let goes : pushed ≡ log ++ record { op = was.op; call = call; stamp = c.args.stamp } ∷ [] =
     seen g c
     ∙ (ap (λ l. l ++ entry_of g c ∷ []) (same g c)
-    ∙ ap (λ n. log ++ (let e : EntryOf = record { op = n; call = call } in e) ∷ []) who) in
+    ∙ ap (λ n. log ++ (let e : EntryOf = record { op = n; call = call; stamp = c.args.stamp } in e) ∷ []) who) in
     let number : c.commit-no.result ≡ length log + 1 =
     c.commit-no.ensures.version.0 ∙ ap (λ n. n + 1) (c.self.invariant.3.called.version ∙ accepted-log start log) in
     let counted = subst (λ (s : SeatOf). length (numbers s.op s.seen) ≡ s.count) view c.seat.invariant.2 in
@@ -236,7 +236,7 @@ returns-in-Some-clause-answer g c =
     (longer g c ∙ sym (seen g c ∙ ap (λ l. l ++ entry_of g c ∷ []) (same g c))) (held g c).desks) in
     let tells : Tells start g.H.DeskBrand.publisher pushed c.tell-notice.result =
     (ap (λ (n : NoticeOf). n.publisher) told ∙ (held g c).named, lists) in
-    accepted start g.H.DeskBrand.publisher was new log call c.commit-no.result c.tell-notice.result
+    accepted start g.H.DeskBrand.publisher was new log call c.args.stamp c.commit-no.result c.tell-notice.result
     (c.requires.seen ∙ sym (ap (λ (h : InnerOf). h.log) c.self.view_is)) who goes number (legal g c) counted count tells
 
 pub returns-in-Err-clause-answer : goal.returns-in-Err-clause-answer
@@ -259,7 +259,8 @@ returns-in-Err-clause-answer g c =
     let told = refused g.H.DeskBrand.start c.args.seat.now new log call at LogTaken (c.requires.seen ∙ sym is_log)
     (ap (λ (s : SeatOf). s.op) is) (ap (λ (s : SeatOf). s.seen) is) (ap (λ (s : SeatOf). s.count) is)
     number held.legal refl in
-    let P : Answer → Type 0 = IsAnswered g.H.DeskBrand.start g.H.DeskBrand.publisher c.args.seat.now new call in
+    let P : Answer → Type 0 =
+    IsAnswered g.H.DeskBrand.start g.H.DeskBrand.publisher c.args.seat.now new call c.args.stamp in
     taken false c.taken_answer.result (Refused at LogTaken) P c.taken_answer.ensures told
 
 pub returns-in-Err-clause-ended : goal.returns-in-Err-clause-ended
@@ -277,6 +278,6 @@ returns-then-is_err-clause-answer g c =
     let at = c.version-at.result in
     let number : at ≡ length log = c.version-at.ensures.version ∙ (held.called.version ∙ accepted-log start log) in
     let free = subst (λ l. refusal_of (after_log start l) call ≡ None) (sym is_log) c.requires.free in
-    subst (IsAnswered start g.H.DeskBrand.publisher seat seat call) (sym c.refused.ensures)
+    subst (IsAnswered start g.H.DeskBrand.publisher seat seat call c.args.stamp) (sym c.refused.ensures)
     (refused start seat seat log call at (Told OutOfMemory) (c.requires.seen ∙ sym is_log) refl refl refl number
     held.legal (wants_memory start log seat.beyond call free))

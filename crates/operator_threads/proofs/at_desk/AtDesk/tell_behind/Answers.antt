@@ -11,6 +11,9 @@ returns-then-not-has_news-clause-ok g c =
       seat = c.args.self.now.taken.seat;
       known = c.args.self.now.known;
       told = c.args.self.now.told;
+      is_named = c.args.self.now.is_named;
+      name = c.args.self.now.name.items;
+      trouble = c.args.self.now.trouble;
     } in (
       [],
       sym (append-nil c.args.out.now.items),
