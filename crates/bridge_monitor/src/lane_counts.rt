@@ -1,6 +1,7 @@
 //! What each lane did so far, and what was sent of each outgoing stream.
 
 ghost use Rattle.std.specs.Prelude.{◌≡◌, IfOk, vec_len};
+ghost use Rattle.bridge_stats.specs.Stats.{no_stats};
 ghost use Rattle.bridge_monitor.specs.Told.{lane_row, report_row, way_row, way_from, report_of, stream_row};
 
 use bridge_stats::{BridgeStats, LaneRow, PathReport, StreamReport, StreamRow};
@@ -70,7 +71,8 @@ fn counts_for(alloc: Global, count: usize) -> Result<Vec<Arc<SharedCounts, Globa
 
 /// Counts of so many lanes, and of the datagrams that come: nothing was counted. The only error is out of memory.
 pub fn fresh_counts(alloc: Global, lanes: usize) -> Result<(LaneCounts, BridgeStats), AllocError>
-    ensures { IfOk result (λ r. vec_len r.0.counts ≡ lanes) }
+    ensures many { IfOk result (λ r. vec_len r.0.counts ≡ lanes) }
+    ensures fresh { IfOk result (λ r. r.1 ≡ no_stats) }
 {
     let counts = counts_for(alloc, lanes)?;
     let copied = Vec::with_capacity(alloc, MOST_STREAMS)?;

@@ -1,3 +1,4 @@
+pub mod Answered
 pub mod Came
 pub mod Logs
 pub mod Moments

@@ -1,8 +1,9 @@
 //! Where datagrams come from.
 
-ghost use Rattle.std.specs.Prelude.{◌≡◌, ◌++◌, ◌∷◌, [], ◌≤◌, List, length, IfOk, OnErr};
+ghost use Rattle.std.specs.Prelude.{◌≡◌, ◌++◌, ◌∷◌, [], ◌≤◌, List, length, IfOk, IfErr, OnErr};
 ghost use Rattle.event_loop.specs.Came.{Came, came_by, octets_read};
 ghost use Rattle.event_loop.specs.inner.Reading.{is_something};
+ghost use Rattle.udp_wire.specs.Ended.{IsOfIo};
 
 use rtp_codec::Address;
 use udp_wire::FrontFault;
@@ -40,9 +41,11 @@ pub trait Inlet {
     fn read(&mut self, chunk: &mut Vec<u8>) -> Result<Read, FrontFault>
         ensures ok { IfOk result (λ read. came self.new ≡ came self.old ++ came_by read chunk.new.items ∷ []) }
         ensures few { IfOk result (λ read. octets_read read ≤ length chunk.new.items) }
-        ensures err { OnErr result (came self.new ≡ came self.old) };
+        ensures err { OnErr result (came self.new ≡ came self.old) }
+        ensures fault { IfErr result IsOfIo };
 
     /// Waits until something has come, at most `longest` nanoseconds. Returns whether connections may wait, too.
     fn wait(&mut self, longest: u64) -> Result<bool, FrontFault>
-        ensures { came self.new ≡ came self.old };
+        ensures same { came self.new ≡ came self.old }
+        ensures fault { IfErr result IsOfIo };
 }

@@ -24,6 +24,7 @@
 mod inlet;
 mod laws;
 mod logs;
+mod on_socket;
 mod reading;
 mod rounds;
 mod running;
@@ -39,6 +40,7 @@ pub use self::laws::{
     lanes_stay_the_same, moments_never_go_back,
 };
 pub use self::logs::{ReadLog, TryLog, WatchLog};
+pub use self::on_socket::read_datagram;
 pub use self::rounds::Rounds;
 pub use self::running::BegunRound;
 pub use self::state::FrontState;

@@ -1,6 +1,7 @@
 //! Rounds of a front, one after another.
 
-ghost use Rattle.std.specs.Prelude.{◌≡◌, Some, None, OnErr};
+ghost use Rattle.std.specs.Prelude.{◌≡◌, Some, None, Err, OnErr};
+ghost use Rattle.udp_wire.specs.declared.ending.FrontFault.TheVariants.{Internal};
 ghost use Rattle.std.specs.Result.{MatchResult};
 ghost use Rattle.media_front.specs.FedLanes.{lanes_in};
 ghost use Rattle.event_loop.specs.Runs.{FrontAt, front_at, HasRun, Whole, Begun, Failed};
@@ -31,18 +32,19 @@ pub struct BegunRound {
 impl<N: PublisherName, P: Pace, S: Sink, I: Inlet, W: Wire, C: Watch> Rounds<N, P, S, I, W, C> {
     /// Begins a round: waits until something has come, or a tick is due. A lane that has ended is a fault.
     ///
-    /// If a round has begun already, or has had a fault, it does nothing and answers `Io`.
+    /// If a round has begun already, or has had a fault, it does nothing and answers `Internal`.
     pub fn begin_round(&mut self) -> Result<BegunRound, FrontFault>
         ensures run { (start : FrontAt P S) → HasRun Whole start (front_at self.old.state self.old.reader)
             → MatchResult result (λ begun. HasRun Begun start (front_at self.new.state (Some begun.reader)))
             (λ fault. HasRun Failed start (front_at self.new.state self.new.reader)) }
         ensures out { self.new.reader ≡ None }
         ensures none { self.old.reader ≡ None → self.new.state ≡ self.old.state }
+        ensures fault { self.old.reader ≡ None → result ≡ Err Internal }
         ensures lanes { lanes_in self.new.state.front.feed ≡ lanes_in self.old.state.front.feed }
         ensures asker { self.new.state.front.ingress.asker ≡ self.old.state.front.ingress.asker }
     {
         let Some(reader) = self.reader.take() else {
-            return Err(FrontFault::Io);
+            return Err(FrontFault::Internal);
         };
         let may_wait = self.state.wait()?;
         let now = self.state.ticked;

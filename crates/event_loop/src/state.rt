@@ -140,7 +140,7 @@ impl<N: PublisherName, P: Pace, S: Sink, I: Inlet, W: Wire, C: Watch> FrontState
             × OnOk result ((moment : ℕ) × (turns ≡ looked moment ∷ [])) }
     {
         if self.media.has_ended() {
-            return Err(FrontFault::Io);
+            return Err(FrontFault::LaneEnded);
         }
         let now = self.watch.now()?;
         self.inlet.wait(self.media.until_tick(now))

@@ -1,6 +1,7 @@
 //! What tells the time.
 
-ghost use Rattle.std.specs.Prelude.{◌≡◌, ◌++◌, ◌∷◌, [], ℕ, List, IfOk, OnErr};
+ghost use Rattle.std.specs.Prelude.{◌≡◌, ◌++◌, ◌∷◌, [], ℕ, List, IfOk, IfErr, OnErr};
+ghost use Rattle.udp_wire.specs.Ended.{IsOfClock};
 ghost use Rattle.event_loop.specs.Moments.{AreUpTo};
 
 use udp_wire::FrontFault;
@@ -14,5 +15,6 @@ pub trait Watch {
     fn now(&mut self) -> Result<u64, FrontFault>
         ensures ok { IfOk result (λ now. told self.new ≡ told self.old ++ now ∷ []) }
         ensures rising { IfOk result (λ now. AreUpTo now (told self.old)) }
-        ensures err { OnErr result (told self.new ≡ told self.old) };
+        ensures err { OnErr result (told self.new ≡ told self.old) }
+        ensures fault { IfErr result IsOfClock };
 }

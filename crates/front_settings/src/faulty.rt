@@ -1,6 +1,7 @@
 //! What a settings file has where its fault is.
 
 use crate::fault::SettingsFault;
+use crate::setup::SettingKey;
 use crate::values::are_printable;
 use std::alloc::Global;
 use std::fmt;
@@ -41,10 +42,41 @@ fn shortened(alloc: Global, line: &str) -> Option<String> {
     Some(whole)
 }
 
-/// What a settings file has where its fault is, in one line of at most 120 characters: a faulty value behind its key,
-/// as in `lanes = 17`; that a key is missing; or what is no TOML, and in which line. `None`: memory ran out, or an
-/// unknown key can't be printed.
-pub fn faulty_part(alloc: Global, text: &str, fault: &SettingsFault) -> Option<String> {
+/// The values of a key that are good.
+fn good_values(key: SettingKey) -> &'static str {
+    match key {
+        SettingKey::Udp => "an address such as 10.0.0.5:5004",
+        SettingKey::Tcp => "an address in 127.0.0.0/8, such as 127.0.0.1:7000",
+        SettingKey::Lanes | SettingKey::Operators => "a number from 1 to 16",
+        SettingKey::ReportMs => "a number from 1000 to 5000",
+        SettingKey::BridgeSsrc => "a number from 0 to 4294967295",
+        SettingKey::Cname => "a text of 1 to 255 octets from a space to ~",
+        SettingKey::Trace => {
+            "an address in 127.0.0.0/8, where operators is 2 or more and cname has no space"
+        }
+        SettingKey::ReceiveBuffer | SettingKey::SendBuffer => "a number from 4096 to 1000000000",
+    }
+}
+
+/// The keys that there are.
+const KEYS: &str =
+    "udp, tcp, lanes, operators, report_ms, bridge_ssrc, cname, trace, receive_buffer, send_buffer";
+
+/// What would be good in place of a fault, if that can be said.
+fn good_part(fault: &SettingsFault) -> Option<&'static str> {
+    match fault {
+        SettingsFault::MissingKey { key } | SettingsFault::BadValue { key } => {
+            Some(good_values(*key))
+        }
+        SettingsFault::UnknownKey { .. } => Some(KEYS),
+        SettingsFault::BadToml | SettingsFault::OutOfMemory => None,
+    }
+}
+
+/// What a settings file has where its fault is, of at most 120 characters: a faulty value behind its key, as in
+/// `lanes = 17`; that a key is missing; or what is no TOML, and in which line. `None`: memory ran out, or an unknown
+/// key can't be printed.
+fn faulty_text(alloc: Global, text: &str, fault: &SettingsFault) -> Option<String> {
     let line = match fault {
         SettingsFault::BadToml => unread(alloc, text)?,
         SettingsFault::MissingKey { key } => format!(in alloc; "{key} is missing").ok()?,
@@ -62,4 +94,14 @@ pub fn faulty_part(alloc: Global, text: &str, fault: &SettingsFault) -> Option<S
         SettingsFault::OutOfMemory => return None,
     };
     shortened(alloc, line.as_str())
+}
+
+/// What a settings file has where its fault is, in one line, and what would be good: `lanes = 17 (a number from 1 to
+/// 16)`. `None`: memory ran out, or an unknown key can't be printed.
+pub fn faulty_part(alloc: Global, text: &str, fault: &SettingsFault) -> Option<String> {
+    let part = faulty_text(alloc, text, fault)?;
+    match good_part(fault) {
+        None => Some(part),
+        Some(good) => format!(in alloc; "{part} ({good})").ok(),
+    }
 }

@@ -1,6 +1,7 @@
 pub mod Handlings
 pub mod Counted
 pub mod Logs
+pub mod OnSocket
 pub mod Sendings
 pub mod Streams
 pub mod Tries

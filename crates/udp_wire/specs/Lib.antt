@@ -1,3 +1,4 @@
+pub mod Asked
 pub mod Attempts
 pub mod Ended
 pub mod Pacing

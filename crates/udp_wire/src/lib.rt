@@ -3,7 +3,8 @@
 //! Begin with [`Wire`], on which [`send_all`] sends egresses. [`Ticks`] and [`ReportTimer`] tell what is due at a
 //! moment, which [`Moments`] takes from the system's clocks. [`FrontFault`] is why a bridge on sockets ends.
 //!
-//! Contracts see a wire as the datagrams that were tried. They say nothing of sockets and clocks.
+//! Contracts see a wire as the datagrams that were tried, and a socket ([`Datagrams`]) as the calls that were made on
+//! it. They say nothing of the system's sockets and clocks.
 //!
 //! ```rust
 //! let mut ticks = Ticks { start: 1_000_000_000, had: 0 }; // moments are nanoseconds since 1970
@@ -14,12 +15,14 @@
 //! `a_tick_is_due_at_20_ms` of worked_front asks for a tick so, with its moment proved.
 #![tactic(auto)]
 
+mod datagrams;
 mod ending;
 mod moments;
 mod pacing;
 mod socket;
 mod wire;
 
+pub use datagrams::{Datagrams, send_octets, send_parts};
 pub use ending::{FrontFault, front_status};
 pub use moments::Moments;
 pub use pacing::{ReportTimer, Ticks};

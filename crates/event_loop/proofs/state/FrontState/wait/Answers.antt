@@ -15,6 +15,6 @@ returns g c =
       looked now ∷ [],
       subst (λ (h : History g.row.P.Denot g.row.S.Denot). HaveDone (looked now ∷ []) h new) c.self.view_is
           (looked_same a.media came (g.I.Inlet.came c.wait.new.self) told later tried a.ticked a.stats now
-          c.wait.ensures c.in_ok-now.ensures.rising c.in_ok-now.ensures.ok),
+          c.wait.ensures.same c.in_ok-now.ensures.rising c.in_ok-now.ensures.ok),
       is_ok c.wait.result (now, refl),
     )
