@@ -90,3 +90,11 @@ texts_then (x ∷ xs) ys t =
 pub line_halves : (first : List ℕ) (xs ys : List LinePart)
     → first ++ (flat_map next_text xs ++ (flat_map next_text ys ++ 10 ∷ [])) ≡ line_text first (xs ++ ys)
 line_halves first xs ys = ap (λ (t : List ℕ). first ++ t) (texts_then xs ys (10 ∷ []))
+
+-- also in three runs
+pub line_thirds : (first : List ℕ) (xs ys zs : List LinePart)
+    → first ++ (flat_map next_text xs ++ (flat_map next_text ys ++ (flat_map next_text zs ++ 10 ∷ [])))
+    ≡ line_text first (xs ++ (ys ++ zs))
+line_thirds first xs ys zs =
+    ap (λ (t : List ℕ). first ++ (flat_map next_text xs ++ t)) (texts_then ys zs (10 ∷ []))
+    ∙ line_halves first xs (ys ++ zs)

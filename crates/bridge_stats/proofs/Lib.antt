@@ -1,5 +1,7 @@
+pub mod DropLemmas
 pub mod Entries
 pub mod Folds
 pub mod GrowLemmas
+pub mod ShownLemmas
 pub mod TallyLemmas
 pub mod WholeLemmas

@@ -1,4 +1,5 @@
 pub mod Counts
+pub mod Drops
 pub mod Noted
 pub mod Kinds
 pub mod Levels
@@ -8,8 +9,10 @@ pub mod Received
 pub mod Runs
 pub mod Senders
 pub mod Shown
+pub mod Silence
 pub mod Sources
 pub mod Stats
 pub mod Tables
 pub mod Text
+pub mod Why
 pub mod inner

@@ -25,6 +25,7 @@ use Rattle.bridge_stats.specs.Sources.{numbers_of}
 use Rattle.bridge_stats.specs.Stats.{StatsOf}
 use Rattle.bridge_stats.specs.Received.{IsReceived, reception_parts}
 use Rattle.bridge_stats.specs.Paths.{path_parts}
+use Rattle.bridge_stats.specs.Why.{why_parts}
 use Rattle.bridge_stats.specs.Text.{LinePart, words, number, signed, place, no_word, line_text}
 
 -- how many datagrams had an outcome of this kind, and their octets
@@ -72,9 +73,11 @@ count_parts row =
     ∷ words (codes "expected") ∷ number row.numbers.expected ∷ words (codes "lost")
     ∷ number (row.numbers.expected - row.numbers.received) ∷ words (codes "ago") ∷ number row.ago ∷ []
 
--- a source: its counts, how it is received, and what is counted of its sound
+-- a source: its counts, how it is received, what is counted of its sound, and why it isn't heard
 abbrev pub source_line : SourceRow → List ℕ
-source_line row = line_text (codes "source") (count_parts row ++ reception_parts row.reception row.numbers)
+source_line row =
+    line_text (codes "source")
+    (count_parts row ++ (reception_parts row.reception row.numbers ++ why_parts row.reception row.numbers))
 
 abbrev pub stranger_line : StrangerRow → List ℕ
 stranger_line row =

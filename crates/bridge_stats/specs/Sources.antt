@@ -10,6 +10,8 @@ use Rattle.ingress.specs.declared.outcome.Outcome.TheVariants.{BadPayload, Spent
 use Rattle.ingress.specs.declared.outcome.Outcome.TheVariants.{Duplicate, Jump, Restarted, Rtcp}
 use Rattle.bridge_stats.specs.declared.numbers.SourceNumbers.{SourceNumbers}
 use Rattle.bridge_stats.specs.Counts.{so_many}
+use Rattle.bridge_stats.specs.Drops.{drops_of}
+use Rattle.bridge_stats.specs.Silence.{silent_in}
 
 -- a packet counts for its source
 abbrev pub is_accepted : Outcome → Bool
@@ -104,4 +106,6 @@ numbers_of all = record {
   last = last_moment all;
   samples = so_many (sum_by (λ taken. taken.sound.samples) all);
   energy = so_many (sum_by (λ taken. taken.sound.energy) all);
+  silent = silent_in all;
+  drops = drops_of all;
 }

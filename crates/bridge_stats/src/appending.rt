@@ -174,3 +174,57 @@ pub(crate) fn append_long_line<A: Allocator>(
     append(first, out)?;
     append_parts(fields, last, out)
 }
+
+/// Appends parts of a line, each with a space before it.
+fn append_more<A: Allocator>(
+    fields: &[LineField<'_>],
+    out: &mut Vec<u8, A>,
+) -> Result<(), AllocError>
+    ensures { Grows (buffer_of out.old) (buffer_of out.new) (flat_map next_text (map said fields.now)) result }
+{
+    append_fields(fields, out)
+}
+
+/// Appends parts of a line, its last parts, and its end.
+fn append_runs<A: Allocator>(
+    more: &[LineField<'_>],
+    last: &[LineField<'_>],
+    out: &mut Vec<u8, A>,
+) -> Result<(), AllocError>
+    ensures { Grows (buffer_of out.old) (buffer_of out.new)
+        (flat_map next_text (map said more.now) ++ (flat_map next_text (map said last.now) ++ 10 ∷ [])) result }
+{
+    append_more(more, out)?;
+    append_tail(last, out)
+}
+
+/// Appends parts of a line, more of them, its last parts, and its end.
+fn append_three<A: Allocator>(
+    fields: &[LineField<'_>],
+    more: &[LineField<'_>],
+    last: &[LineField<'_>],
+    out: &mut Vec<u8, A>,
+) -> Result<(), AllocError>
+    ensures { Grows (buffer_of out.old) (buffer_of out.new)
+        (flat_map next_said fields.now
+        ++ (flat_map next_text (map said more.now) ++ (flat_map next_text (map said last.now) ++ 10 ∷ []))) result }
+{
+    append_fields(fields, out)?;
+    append_runs(more, last, out)
+}
+
+/// Appends the longest line: its first word, its parts, more of them, and its last parts.
+pub(crate) fn append_longest_line<A: Allocator>(
+    first: &[u8],
+    fields: &[LineField<'_>],
+    more: &[LineField<'_>],
+    last: &[LineField<'_>],
+    out: &mut Vec<u8, A>,
+) -> Result<(), AllocError>
+    ensures { Grows (buffer_of out.old) (buffer_of out.new)
+        (first.now ++ (flat_map next_said fields.now
+        ++ (flat_map next_text (map said more.now) ++ (flat_map next_text (map said last.now) ++ 10 ∷ [])))) result }
+{
+    append(first, out)?;
+    append_three(fields, more, last, out)
+}

@@ -17,6 +17,7 @@
 #![tactic(auto)]
 
 mod appending;
+mod drops;
 mod kind;
 mod laws;
 mod levels;
@@ -30,6 +31,7 @@ mod rows;
 mod sender;
 mod showing;
 mod shown;
+mod silence;
 mod source_count;
 mod source_table;
 mod stats;
@@ -38,9 +40,11 @@ mod stretch;
 mod taken;
 mod taken_log;
 mod tally;
+mod why;
 
+pub use self::drops::DropNumbers;
 pub use self::kind::OutcomeKind;
-pub use self::laws::all_are_counted;
+pub use self::laws::{all_are_counted, causes_add_up};
 pub use self::levels::print_levels;
 pub use self::numbers::SourceNumbers;
 pub use self::others::{LaneRow, Limited, OthersShown, Seats, SocketRow, StreamReport, StreamRow};

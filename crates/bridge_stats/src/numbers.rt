@@ -1,5 +1,7 @@
 //! What is counted of a source.
 
+use crate::drops::DropNumbers;
+
 /// What is counted of a source. Each number ends at 2^64 - 1.
 #[derive(Clone, Copy)]
 pub struct SourceNumbers {
@@ -24,4 +26,8 @@ pub struct SourceNumbers {
     pub samples: u64,
     /// The energy of these samples: packet by packet the sum of their squares in units of 1,024, rounded down.
     pub energy: u64,
+    /// For how many samples it has been silent: those of its packets behind the last one over -60 dBov.
+    pub silent: u64,
+    /// Why packets were dropped.
+    pub drops: DropNumbers,
 }

@@ -4,13 +4,14 @@ ghost use Rattle.std.specs.Prelude.{◌≡◌};
 ghost use Rattle.bridge_stats.specs.Shown.{sender_address, kind_line, source_line, stranger_line};
 ghost use Rattle.bridge_stats.specs.inner.Growing.{buffer_of, Grows};
 
-use crate::appending::{LineField, append_line, append_long_line};
+use crate::appending::{LineField, append_line, append_longest_line};
 use crate::kind::OutcomeKind;
 use crate::lines::StatLine;
 use crate::numbers::SourceNumbers;
 use crate::received::reception_fields;
 use crate::sender::Sender;
 use crate::stranger::StrangerNumbers;
+use crate::why::why_fields;
 use ingress::Reception;
 use rtp_codec::Address;
 use std::alloc::{AllocError, Allocator};
@@ -98,7 +99,8 @@ impl StatLine for SourceRow {
             LineField::Number(self.ago),
         ];
         let received = reception_fields(self.reception, numbers);
-        append_long_line(b"source", &counts, &received, out)
+        let why = why_fields(self.reception, numbers);
+        append_longest_line(b"source", &counts, &received, &why, out)
     }
 }
 

@@ -4,7 +4,9 @@ ghost use Rattle.std.specs.Prelude.{◌≡◌, ◌+◌, ◌∷◌, ◌++◌, [],
 ghost use Rattle.bridge_stats.specs.Counts.{so_many};
 ghost use Rattle.bridge_stats.specs.Sources.{is_accepted, is_late, is_duplicate, numbers_of};
 
+use crate::drops::DropNumbers;
 use crate::numbers::SourceNumbers;
+use crate::silence::silent_after;
 use crate::stretch::Stretch;
 use crate::taken::TakenIn;
 use crate::taken_log::TakenLog;
@@ -78,7 +80,7 @@ fn is_duplicate(outcome: &Outcome) -> bool
 }
 
 /// As much more, if this is so.
-fn more_if(count: u64, is_so: bool, more: u64) -> u64
+pub(crate) fn more_if(count: u64, is_so: bool, more: u64) -> u64
     ensures { result ≡ so_many (count + cond is_so more 0) }
 {
     if is_so {
@@ -101,6 +103,8 @@ pub(crate) struct SourceCount {
     last: u64,
     samples: u64,
     energy: u64,
+    silent: u64,
+    drops: DropNumbers,
     stretch: Option<Stretch>,
     /// What was noted, in proofs alone.
     log: TakenLog,
@@ -117,7 +121,7 @@ impl Model for SourceCount {
     ghost view = { λ s. taken_list s.log };
 
     ghost invariant = { λ s. AreCounts s.packets s.octets s.late s.duplicates s.dropped s.last s.samples
-        s.energy s.stretch (taken_list s.log) };
+        s.energy s.silent s.drops s.stretch (taken_list s.log) };
 }
 
 impl SourceCount {
@@ -134,6 +138,8 @@ impl SourceCount {
             last: 0,
             samples: 0,
             energy: 0,
+            silent: 0,
+            drops: DropNumbers::new(),
             stretch: None,
             log: TakenLog::new(),
         }
@@ -152,6 +158,8 @@ impl SourceCount {
         self.last = taken.moment;
         self.samples = self.samples.saturating_add(taken.sound.samples);
         self.energy = self.energy.saturating_add(taken.sound.energy);
+        self.silent = silent_after(self.silent, &taken.sound);
+        self.drops = self.drops.after(taken);
         self.stretch = Stretch::after(self.stretch, &taken.outcome);
         self.log.note(taken);
     }
@@ -171,6 +179,8 @@ impl SourceCount {
             last: self.last,
             samples: self.samples,
             energy: self.energy,
+            silent: self.silent,
+            drops: self.drops,
         }
     }
 }
