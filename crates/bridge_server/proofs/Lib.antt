@@ -1,3 +1,4 @@
 pub mod LaneLemmas
 pub mod RunLemmas
 pub mod SinkLemmas
+pub mod RoundLemmas

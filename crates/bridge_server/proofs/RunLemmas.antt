@@ -1,5 +1,7 @@
 -- From a bridge's beginning to what its lanes sent.
-use Rattle.std.proofs.Common.{◌≡◌, ◌∙◌, ◌<◌, ℕ, Bool, true, zero, suc, List, [], ◌∷◌, map, length, All, Some, slice_get}
+use Rattle.std.proofs.Common.{◌≡◌, ◌∙◌, ◌<◌, ℕ, Bool, true, zero, suc, List, [], ◌∷◌, map, length, All, Option, Some}
+use Rattle.std.proofs.Common.{slice_get}
+use mathlib.Core.List.{IsPrefix}
 use Rattle.std.proofs.Common.{refl, ap, sym, subst, arith}
 use Rattle.std.proofs.lemmas.List.{get_or-map, length-map}
 use Rattle.logbook.specs.Pages.{Book}
@@ -17,9 +19,20 @@ use Rattle.media_workers.specs.Bridges.{Taking, AllEnded, IsNew, AreNew}
 use Rattle.lane_laws.specs.Learnt.{AllBegin, AllRead, AllSeen, HaveEnded, EndedAfter, lanes_of, merged}
 use Rattle.lane_laws.specs.OneList.{IsOneList, SendByVersions, sent_by}
 use Rattle.media_front.specs.FedLanes.{FedLane, ports_in, lanes_in}
+use Rattle.media_front.specs.Fronts.{FrontOf}
+use Rattle.media_items.specs.Inputs.{Input}
+use Rattle.event_loop.specs.Turns.{Turn, HaveDone}
+use Rattle.event_loop.specs.Shapes.{AreRounds}
+use Rattle.event_loop.specs.Runs.{front_at}
+use Rattle.whole_laws.specs.Given.{given_by_turns}
+use Rattle.whole_laws.specs.Whole.{LaneLeft, Left, sent_in, HasDoneNothing, AreRenewed, IsFrontRun, AreLanesRun}
+use Rattle.whole_laws.specs.Whole.{IsWhole}
 use Rattle.lane_wire.specs.Logs.{taken_list}
 use Rattle.lane_wire.specs.declared.wire_sink.LaneSent.{LaneSent}
 use Rattle.bridge_server.specs.OneRun.{HaveBegun, IsOneRun, sent_into}
+use Rattle.bridge_server.specs.WholeRun.{lanes_left, left_by}
+use Rattle.bridge_server.specs.inner.Running.{HasLeft}
+use Rattle.bridge_server.specs.declared.stopped.FrontLeft.{FrontLeft}
 use Rattle.bridge_server.proofs.LaneLemmas.{lanes_of_ports}
 
 -- ---- readers
@@ -104,6 +117,34 @@ have_ended answers taken who many start publisher other feed ends begun ended sa
       (subst (AllRead publisher) (sym (lanes_of_ports feed)) begun.read),
 )
 
+-- lanes of this name that ended beside the log
+abbrev pub ended_after : {N P S : Type 0} (answers : P → ℕ → Bool → Type 0) (taken : Taking S) (who : Asker) (many : ℕ)
+    (start : Desk) (publisher : Book) (log : List EntryOf) (last : NoticeOf) (feed : List (FedLane P S))
+    (ends : List (LaneEnd N S)) → HaveBegun who many start publisher (lanes_in feed) → good start ≡ true
+    → IsLegal start log → Tells start publisher log last
+    → (ended : AllEnded answers taken (ports_in feed) ends)
+    → AllSeen last.lists answers taken (ports_in feed) ends ended
+    → EndedAfter answers taken start log (ports_in feed) ends
+ended_after answers taken who many start publisher log last feed ends begun first legal tells ended seen =
+    let lanes = sym (lanes_of_ports feed) in
+    record {
+      first = first;
+      legal = legal;
+      lists = last.lists;
+      desks = tells.1;
+      new = (
+        who,
+        subst
+            (λ (ls : List LaneNow).
+            (place : ℕ) (lane : LaneNow) → slice_get ls place ≡ Some lane → IsNew who (length ls) place lane)
+            lanes
+            (λ place lane at. subst (λ (n : ℕ). IsNew who n place lane) (sym begun.count) (begun.new place lane at)),
+      );
+      begin = subst (AllBegin start) lanes begun.begin;
+      ended = ended;
+      seen = seen;
+    }
+
 -- what the headline says of lanes that knew no more than the notice of the log
 pub one_run : {N P S : Type 0} (answers : P → ℕ → Bool → Type 0) (taken : Taking S) (told : S → LaneSent)
     → ((sink : S) → taken_list (told sink).taken ≡ taken sink)
@@ -120,24 +161,8 @@ pub one_run : {N P S : Type 0} (answers : P → ℕ → Bool → Type 0) (taken 
     → IsOneRun who start (calls_of log) (sent_into (map (λ (end : LaneEnd N S). told end.sink) ends))
 one_run {N} {P} {S} answers taken told is who many start publisher log last feed ends begun first legal tells ended seen
     holds sends =
-    let lanes = sym (lanes_of_ports feed) in
-    let h : EndedAfter answers taken start log (ports_in feed) ends = record {
-      first = first;
-      legal = legal;
-      lists = last.lists;
-      desks = tells.1;
-      new = (
-        who,
-        subst
-            (λ (ls : List LaneNow).
-            (place : ℕ) (lane : LaneNow) → slice_get ls place ≡ Some lane → IsNew who (length ls) place lane)
-            lanes
-            (λ place lane at. subst (λ (n : ℕ). IsNew who n place lane) (sym begun.count) (begun.new place lane at)),
-      );
-      begin = subst (AllBegin start) lanes begun.begin;
-      ended = ended;
-      seen = seen;
-    } in
+    let h : EndedAfter answers taken start log (ports_in feed) ends =
+    ended_after answers taken who many start publisher log last feed ends begun first legal tells ended seen in
     let events = merged h in
     let took = sym (told_took taken told is ends) in
     let places = sym (as_many_ends answers taken (ports_in feed) ends ended) in
@@ -146,4 +171,88 @@ one_run {N} {P} {S} answers taken told is who many start publisher log last feed
       one = subst (λ (all : List (List Sent)). IsOneList who (length all) start (calls_of log) all events) took
           (subst (λ (n : ℕ). IsOneList who n start (calls_of log) (sent_by taken ends) events) places (holds h));
       by_versions = subst (SendByVersions start (calls_of log)) took (sends h);
+    }
+
+-- ---- from what was read to what was sent
+
+-- as many drops are left as lanes
+drops_left : (dropped : List ℕ) (sent : List LaneSent) → length dropped ≡ length sent
+    → map (λ (l : LaneLeft). l.dropped) (lanes_left dropped sent) ≡ dropped
+drops_left [] sent same = refl
+drops_left (d ∷ ds) [] same = absurd (cc (same))
+drops_left (d ∷ ds) (s ∷ ss) same = ap (λ (ns : List ℕ). d ∷ ns) (drops_left ds ss (cc (same)))
+
+-- what is left of lanes is what they sent
+sent_left : (dropped : List ℕ) (sent : List LaneSent) → length dropped ≡ length sent
+    → sent_in (lanes_left dropped sent) ≡ sent_into sent
+sent_left [] [] same = refl
+sent_left [] (s ∷ ss) same = absurd (cc (same))
+sent_left (d ∷ ds) [] same = absurd (cc (same))
+sent_left (d ∷ ds) (s ∷ ss) same =
+    ap (λ (xs : List (List Sent)). map sent_of (taken_list s.taken) ∷ xs) (sent_left ds ss (cc (same)))
+
+known_at_end : (last : NoticeOf) (reader other : ReaderOf) → IsPrefix reader.lists last.lists
+    → ◌≡◌ {A = Option ReaderOf} (Some reader) (Some other) → IsPrefix other.lists last.lists
+known_at_end last reader other known at_end =
+    let same : reader ≡ other = cc (at_end) in subst (λ (r : ReaderOf). IsPrefix r.lists last.lists) same known
+
+-- what the laws say of a front that did whole rounds, and of its lanes
+pub whole_run : {N P S : Type 0} (answers : P → ℕ → Bool → Type 0) (taken : Taking S) (told : S → LaneSent)
+    → ((sink : S) → taken_list (told sink).taken ≡ taken sink)
+    → (who : Asker) (many : ℕ) (start : Desk) (publisher : Book) (log : List EntryOf) (last : NoticeOf)
+    (front : FrontOf P S) (ends : List (LaneEnd N S))
+    → HaveBegun who many start publisher (lanes_in front.feed) → good start ≡ true → IsLegal start log
+    → Tells start publisher log last
+    → (ended : AllEnded answers taken (ports_in front.feed) ends)
+    → AllSeen last.lists answers taken (ports_in front.feed) ends ended
+    → (reader : ReaderOf) (left : FrontLeft) (has : HasLeft who start publisher front reader left)
+    → IsPrefix reader.lists last.lists
+    → (dropped : List ℕ) → dropped ≡ map (λ (x : FedLane P S). x.dropped) front.feed
+    → ((turns : List Turn) (left : Left)
+    → AreRounds (has.first).reader (Some reader) turns → HaveDone turns (has.first).history has.last
+    → HasDoneNothing (has.first).history → (has.last).came ≡ left.read → (has.last).told ≡ left.told
+    → (has.last).tried ≡ Some left.tried → IsFrontRun has.first (front_at has.last (Some reader)) turns left)
+    → ((turns : List Turn) (done : HaveDone turns (has.first).history has.last)
+    (h : EndedAfter answers taken start log (ports_in ((has.last).front).feed) ends) (lanes : List LaneLeft)
+    → AreRenewed ((has.first).history.front).feed
+    → map (λ (l : LaneLeft). l.dropped) lanes ≡ map (λ (x : FedLane P S). x.dropped) ((has.last).front).feed
+    → sent_in lanes ≡ sent_by taken ends
+    → AreLanesRun (h.new).0 start (calls_of log)
+    (Input.renew ∷ given_by_turns turns (has.first).history has.last done) lanes)
+    → IsWhole P S who start log (left_by left dropped (map (λ (end : LaneEnd N S). told end.sink) ends))
+whole_run {N} {P} {S} answers taken told is who many start publisher log last front ends begun first legal tells ended
+    seen reader left has known dropped drops front_law lanes_law =
+    let moved = subst
+    (λ (f : FrontOf P S).
+    HaveBegun who many start publisher (lanes_in f.feed)
+    × (e : AllEnded answers taken (ports_in f.feed) ends)
+    × AllSeen last.lists answers taken (ports_in f.feed) ends e
+    × (dropped ≡ map (λ (x : FedLane P S). x.dropped) f.feed))
+    (sym has.same) (begun, ended, seen, drops) in
+    let feed = ((has.last).front).feed in
+    let h : EndedAfter answers taken start log (ports_in feed) ends =
+    ended_after answers taken who many start publisher log last feed ends moved.0 first legal tells moved.1 moved.2 in
+    let sent = map (λ (end : LaneEnd N S). told end.sink) ends in
+    let lanes = lanes_left dropped sent in
+    let counts = as_many answers taken who many start publisher feed ends moved.0 moved.1 in
+    let same : length dropped ≡ length sent =
+    ap length moved.3
+    ∙ (length-map feed (λ (x : FedLane P S). x.dropped)
+    ∙ (counts.0 ∙ sym (length-map ends (λ (end : LaneEnd N S). told end.sink) ∙ counts.1))) in
+    let nothing = (has.fresh).nothing in
+    let turns = (has.ran).0 in
+    let done = (has.ran).1 in
+    let ran = front_law turns (left_by left dropped sent) (has.ran).2 done nothing has.read has.told has.tried in
+    record {
+      publisher = publisher;
+      first = has.first;
+      last = front_at has.last (Some reader);
+      fresh = has.fresh;
+      turns = turns;
+      front = record ran { done = done };
+      lists = last.lists;
+      desks = tells.1;
+      knew = λ other at_end. known_at_end last reader other known at_end;
+      lanes = lanes_law turns done h lanes (has.fresh).feed (drops_left dropped sent same ∙ moved.3)
+          (sent_left dropped sent same ∙ told_took taken told is ends);
     }

@@ -1,8 +1,11 @@
 //! Why a bridge does not start, or ends without `stop`.
 
-ghost use Rattle.std.specs.Prelude.{◌≡◌, ◌↔◌, IfErr, IfOk, Ok};
-ghost use Rattle.std.specs.IoError.{error_kind};
-ghost use Rattle.udp_wire.specs.Ended.{ended_by_io};
+ghost use Rattle.std.specs.Prelude.{◌≡◌, Ok, Err};
+ghost use Rattle.std.specs.IoError.{error_kind, raw_os_error};
+ghost use Rattle.std.specs.Result.{MatchResult};
+ghost use Rattle.event_lines.specs.Words.{why_of};
+ghost use Rattle.event_lines.specs.declared.cause.Cause.TheVariants.{Failed};
+ghost use Rattle.bridge_server.specs.Ends.{ended_at, ended_by_desk, ended_by_lanes};
 
 use crate::rounds::Running;
 use crate::setup::Setup;
@@ -24,9 +27,30 @@ pub struct BindFault {
     pub ends: FrontFault,
 }
 
+/// How a bridge ends of which a part fails.
+fn fault_at(part: ServerPart, error: &io::Error) -> FrontFault
+    ensures { result ≡ ended_at part (error_kind error.now) }
+{
+    match part {
+        ServerPart::Clock => FrontFault::of_clock(error),
+        ServerPart::Udp(_)
+        | ServerPart::Tcp(_)
+        | ServerPart::Trace(_)
+        | ServerPart::Poll
+        | ServerPart::Start
+        | ServerPart::Front
+        | ServerPart::Desk
+        | ServerPart::End => FrontFault::of_io(error),
+    }
+}
+
 /// What the system answered for a part of a bridge that opens its sockets.
 pub(crate) fn opened<T>(part: ServerPart, answer: io::Result<T>) -> Result<T, BindFault>
-    ensures { IfOk result (λ value. answer ≡ Ok value) }
+    ensures { MatchResult answer (λ value. result ≡ Ok value) (λ error.
+        result ≡ Err (record {
+          cause = Failed part (why_of (raw_os_error error) (error_kind error));
+          ends = ended_at part (error_kind error);
+        })) }
 {
     match answer {
         Ok(value) => Ok(value),
@@ -35,7 +59,7 @@ pub(crate) fn opened<T>(part: ServerPart, answer: io::Result<T>) -> Result<T, Bi
                 part,
                 why: WhyFailed::of(&error),
             },
-            ends: FrontFault::from(error),
+            ends: fault_at(part, &error),
         }),
     }
 }
@@ -46,35 +70,40 @@ pub(crate) fn started<T, R: Wait>(
     teller: &Teller,
     part: ServerPart,
     answer: io::Result<T>,
-) -> Result<T, FrontFault> {
+) -> Result<T, FrontFault>
+    ensures { MatchResult answer (λ value. result ≡ Ok value)
+        (λ error. result ≡ Err (ended_at part (error_kind error))) }
+{
     match answer {
         Ok(value) => Ok(value),
         Err(error) => {
             let why = WhyFailed::of(&error);
             teller.note(rt, Cause::Failed { part, why });
-            Err(FrontFault::from(error))
+            Err(fault_at(part, &error))
         }
     }
 }
 
 /// The bridge's fault, if its desk doesn't start.
 pub(crate) fn desk_fault(fault: DeskFault) -> FrontFault
-    ensures { (result ≡ FrontFault.OutOfMemory) ↔ (fault ≡ DeskFault.OutOfMemory) }
+    ensures { result ≡ ended_by_desk fault }
 {
     match fault {
         DeskFault::OutOfMemory => FrontFault::OutOfMemory,
         // Settings that were read never have these faults.
-        DeskFault::Count | DeskFault::Places => FrontFault::Io,
+        DeskFault::Count | DeskFault::Places => FrontFault::Internal,
     }
 }
 
 /// The bridge's fault, if its lanes don't start.
 pub(crate) fn start_fault(fault: StartFault) -> FrontFault
-    ensures { (result ≡ FrontFault.OutOfMemory) ↔ (fault ≡ StartFault.OutOfMemory) }
+    ensures { result ≡ ended_by_lanes fault }
 {
     match fault {
         StartFault::OutOfMemory => FrontFault::OutOfMemory,
-        StartFault::Count | StartFault::Spawn => FrontFault::Io,
+        // A bridge has a lane at least, and a sink for each.
+        StartFault::Count => FrontFault::Internal,
+        StartFault::Spawn => FrontFault::NoThread,
     }
 }
 
@@ -91,7 +120,7 @@ pub(crate) fn note_desk<R: Wait>(rt: &R, teller: &Teller, fault: FrontFault) {
     let part = ServerPart::Desk;
     let why = match fault {
         FrontFault::OutOfMemory => WhyFailed::OutOfMemory,
-        FrontFault::Io => WhyFailed::Unnumbered,
+        _ => WhyFailed::Unnumbered,
     };
     teller.note(rt, Cause::Failed { part, why });
 }

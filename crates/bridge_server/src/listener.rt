@@ -1,5 +1,7 @@
 //! Where operators connect.
 
+ghost use Rattle.std.specs.Prelude.{◌≡◌, ◌||◌, false, None, IfSome};
+
 use mio::net::{TcpListener, TcpStream};
 use operator_threads::Lobby;
 use rtp_codec::Address;
@@ -25,12 +27,17 @@ pub(crate) struct OperatorListener {
 
 impl OperatorListener {
     /// Notes whether connections may wait since the last call.
-    pub(crate) fn note(&mut self, may_wait: bool) {
+    pub(crate) fn note(&mut self, may_wait: bool)
+        ensures { self.new ≡ record self.old { has_callers = self.old.has_callers || may_wait } }
+    {
         self.has_callers = self.has_callers || may_wait;
     }
 
-    /// The next connection, if one waits, and where it comes from.
-    pub(crate) fn next_caller(&mut self) -> Option<(TcpStream, Address)> {
+    /// The next connection, if one waits, and where it comes from. Behind one more may wait.
+    pub(crate) fn next_caller(&mut self) -> Option<(TcpStream, Address)>
+        ensures some { IfSome result (λ _. self.new ≡ self.old) }
+        ensures none { self.old.has_callers ≡ false → (result ≡ None) × (self.new ≡ self.old) }
+    {
         if !self.has_callers {
             return None;
         }

@@ -10,6 +10,8 @@ ghost use Rattle.operator_desk.specs.Opening.{most_operators};
 ghost use Rattle.lane_wire.specs.Logs.{taken_list};
 ghost use Rattle.bridge_server.specs.Counts.{counts_by};
 ghost use Rattle.bridge_server.specs.OneRun.{IsSetUp, IsOneRun, signer, sent_into};
+ghost use Rattle.bridge_server.specs.WholeRun.{IsWholeRun};
+ghost use Rattle.bridge_server.specs.inner.Running.{IsNewMedia};
 
 use crate::causes::{desk_fault, note_desk, note_end, note_round, note_start, start_fault};
 use crate::ending::{close, gather, give_up};
@@ -56,6 +58,8 @@ where
     ensures accepted { IfOk result (λ s. s.accepted.items ≡ counts_by s.log.items front.settings.operators) }
     ensures one { IfOk result (λ s. IsOneRun (signer front.settings.bridge)
         (no_rows front.settings.bridge.bridge_ssrc) (calls_in s.log.items) (sent_into s.sent.items)) }
+    ensures whole { IfOk result (λ s. IsWholeRun R (signer front.settings.bridge)
+        (no_rows front.settings.bridge.bridge_ssrc) s) }
     ensures dropped { IfOk result (λ s. vec_len s.dropped ≡ front.settings.lanes) }
     ensures sent { IfOk result (λ s. vec_len s.sent ≡ front.settings.lanes) }
 {
@@ -96,6 +100,7 @@ where
     ensures legal { IfOk result (λ s. IsLegal H.start s.log.items) }
     ensures accepted { IfOk result (λ s. s.accepted.items ≡ counts_by s.log.items front.settings.operators) }
     ensures one { IfOk result (λ s. IsOneRun H.who H.start (calls_in s.log.items) (sent_into s.sent.items)) }
+    ensures whole { IfOk result (λ s. IsWholeRun R H.who H.start s) }
     ensures dropped { IfOk result (λ s. vec_len s.dropped ≡ H.lanes) }
     ensures sent { IfOk result (λ s. vec_len s.sent ≡ H.lanes) }
 {
@@ -110,7 +115,7 @@ where
         }
         Ok((desk, _seats, _readers)) => {
             desk.end(rt);
-            Err(FrontFault::Io)
+            Err(FrontFault::Internal)
         }
         Err(fault) => Err(desk_fault(fault)),
     }
@@ -152,6 +157,7 @@ where
     let rounds = Rounds::new(alloc, state, own, parts.chunk, trace);
     let running = Running {
         rounds,
+        begun: None,
         lanes: records.lanes,
     };
     Ok((running, parts.waker, parts.listener, records.tracer))
@@ -176,11 +182,12 @@ where
     requires who { signer settings.now ≡ H.who }
     requires many { vec_len sinks ≡ vec_len readers }
     requires untaken { All (λ sink. taken_list sink.sent.taken ≡ []) sinks.items }
-    ensures { IfOk result (λ media. IsSetUp H.who H.lanes H.start H.publisher media) }
+    ensures set_up { IfOk result (λ media. IsSetUp H.who H.lanes H.start H.publisher media) }
+    ensures new { IfOk result (λ media. IsNewMedia media) }
 {
     if !settings.is_good() {
         // Settings that were read always are.
-        return Err(FrontFault::Io);
+        return Err(FrontFault::Internal);
     }
     let ingress = Ingress::new(alloc, settings.try_clone()?)?;
     let limiter = RateLimiter::new(alloc)?;
@@ -212,19 +219,21 @@ where
     ensures legal { IfOk result (λ s. IsLegal H.start s.log.items) }
     ensures accepted { IfOk result (λ s. s.accepted.items ≡ counts_by s.log.items count) }
     ensures one { IfOk result (λ s. IsOneRun H.who H.start (calls_in s.log.items) (sent_into s.sent.items)) }
+    ensures whole { IfOk result (λ s. IsWholeRun R H.who H.start s) }
     ensures dropped { IfOk result (λ s. vec_len s.dropped ≡ H.lanes) }
     ensures sent { IfOk result (λ s. vec_len s.sent ≡ H.lanes) }
 {
     // The desk ends first: a lane then ends at its next item, and what is left in its ring is dropped.
     match gather(rt, alloc, operators, count) {
         Ok((desk, last)) => {
-            let lanes = close(rt, alloc, running, &last, teller);
+            let fault = round.as_ref().err().copied();
+            let lanes = close(rt, alloc, running, fault, &last, teller);
             note_end(rt, teller, lanes.as_ref().err().copied());
             Stopped::told(round, lanes, Ok(desk))
         }
         Err(fault) => {
             note_desk(rt, teller, fault);
-            let lanes = give_up(rt, running, teller);
+            let lanes = give_up(rt, running, teller, fault);
             Stopped::told(round, Err(lanes), Err(fault))
         }
     }
@@ -253,6 +262,7 @@ where
     ensures legal { IfOk result (λ s. IsLegal H.start s.log.items) }
     ensures accepted { IfOk result (λ s. s.accepted.items ≡ counts_by s.log.items front.settings.operators) }
     ensures one { IfOk result (λ s. IsOneRun H.who H.start (calls_in s.log.items) (sent_into s.sent.items)) }
+    ensures whole { IfOk result (λ s. IsWholeRun R H.who H.start s) }
     ensures dropped { IfOk result (λ s. vec_len s.dropped ≡ H.lanes) }
     ensures sent { IfOk result (λ s. vec_len s.sent ≡ H.lanes) }
 {
@@ -273,7 +283,7 @@ where
             );
             note_round(rt, teller, &running, &done);
             if operators.has_failed() {
-                note_desk(rt, teller, FrontFault::Io);
+                note_desk(rt, teller, FrontFault::DeskEnded);
             }
             conclude(rt, alloc, operators, count, running, done, teller)
         }

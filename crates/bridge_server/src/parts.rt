@@ -3,6 +3,8 @@
 //! Each function owns two or three values where it can fail: the prover drops all that is owned at each `?`.
 
 ghost use Rattle.std.specs.Prelude.{◌≡◌, [], length, All, IfOk, vec_len};
+ghost use Rattle.bridge_stats.specs.Stats.{no_stats};
+ghost use Rattle.event_loop.specs.Logs.{read_list, tried_list};
 ghost use Rattle.lane_wire.specs.Logs.{taken_list};
 
 use crate::front::Front;
@@ -52,7 +54,9 @@ pub(crate) fn sockets_of<R: Wait>(
     front: Front,
     teller: &Teller,
 ) -> Result<(Sockets, Option<TraceStream>, FrontParts), FrontFault>
-    ensures { IfOk result (λ r. r.2.settings ≡ front.settings) }
+    ensures settings { IfOk result (λ r. r.2.settings ≡ front.settings) }
+    ensures read { IfOk result (λ r. read_list (r.0).inlet.log ≡ []) }
+    ensures tried { IfOk result (λ r. tried_list (r.0).wire.log ≡ []) }
 {
     let waker = front_waker(rt, alloc, &front, teller)?;
     let chunk = chunk(alloc)?;
@@ -115,6 +119,7 @@ pub(crate) fn records_of(
     lanes: usize,
     teller: &Teller,
 ) -> Result<(Records, Vec<WireSink<LaneSocket>>), AllocError>
+    ensures fresh { IfOk result (λ r. (r.0).stats ≡ no_stats) }
     ensures len { IfOk result (λ r. vec_len r.1 ≡ lanes) }
     ensures untaken { IfOk result (λ r. All (λ sink. taken_list sink.sent.taken ≡ []) r.1.items) }
 {

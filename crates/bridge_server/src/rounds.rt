@@ -36,12 +36,25 @@ pub(crate) type ServerRounds<H, R> = Rounds<
     SystemWatch<R>,
 >;
 
+/// What a front knows once it has waited.
+#[derive(Clone, Copy)]
+pub(crate) struct FrontWait {
+    /// Whether connections may wait.
+    pub(crate) may_wait: bool,
+    /// The moment at which ticks were given last, in nanoseconds since 1970.
+    pub(crate) now: u64,
+}
+
 /// The front of a bridge that runs.
 ///
 /// Contracts see the lanes as they were handed in. Nothing that a round does changes which they are, or by which name
-/// the bridge signs.
+/// the bridge signs. Whatever `serve` does with it, from its fresh state on it has done whole rounds, one after
+/// another.
+// So nothing that runs rounds needs a clause that says so. This is why a round that has begun lies here until it ends.
 pub(crate) struct Running<H: DeskBrand + Setup, R: Wait + Clock + Drop> {
     pub(crate) rounds: ServerRounds<H, R>,
+    /// The round that has begun, if one has.
+    pub(crate) begun: Option<BegunRound>,
     pub(crate) lanes: LaneCounts,
 }
 
@@ -49,13 +62,13 @@ impl<H: DeskBrand + Setup, R: Wait + Clock + Drop> Model for Running<H, R> {
     ghost use Rattle.std.specs.Prelude.{List};
     ghost use Rattle.media_workers.specs.LaneRuns.{LaneNow};
     ghost use Rattle.media_front.specs.FedLanes.{lanes_in};
-    ghost use Rattle.bridge_server.specs.OneRun.{IsSetUp};
+    ghost use Rattle.bridge_server.specs.inner.Running.{IsRunning};
 
     ghost Value = { List LaneNow };
 
     ghost view = { λ r. lanes_in r.rounds.state.front.feed };
 
-    ghost invariant = { λ r. IsSetUp H.who H.lanes H.start H.publisher r.rounds.state.front };
+    ghost invariant = { λ r. IsRunning H.who H.lanes H.start H.publisher r.rounds.state r.rounds.reader r.begun };
 }
 
 impl<
@@ -63,19 +76,23 @@ impl<
     R: Wait + Clock + Copy + Send + Drop + 'static,
 > Running<H, R> {
     /// Begins a round: waits until something has come, or a tick is due. A lane that has ended is a fault.
-    pub(crate) fn begin_round(&mut self) -> Result<BegunRound, FrontFault> {
-        self.rounds.begin_round()
+    pub(crate) fn begin_round(&mut self) -> Result<FrontWait, FrontFault> {
+        let begun = self.rounds.begin_round()?;
+        let waited = FrontWait {
+            may_wait: begun.may_wait,
+            now: begun.now,
+        };
+        self.begun = Some(begun);
+        Ok(waited)
     }
 
-    /// Ends a round: takes in what has come and what is due.
-    pub(crate) fn end_round(
-        &mut self,
-        rt: &R,
-        begun: BegunRound,
-        notice: Notice,
-    ) -> Result<(), FrontFault>
+    /// Ends the round that has begun: takes in what has come and what is due. The fault is `Internal` where none has.
+    pub(crate) fn end_round(&mut self, rt: &R, notice: Notice) -> Result<(), FrontFault>
         requires { notice.publisher ≡ H.publisher }
     {
+        let Some(begun) = self.begun.take() else {
+            return Err(FrontFault::Internal);
+        };
         self.rounds.end_round(rt, begun, notice)
     }
 

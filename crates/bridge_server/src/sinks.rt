@@ -4,26 +4,20 @@ ghost use Rattle.std.specs.Prelude.{◌≡◌, [], length, All, IfOk, vec_len};
 ghost use Rattle.lane_wire.specs.Logs.{taken_list};
 ghost use Rattle.lane_wire.specs.Handlings.{HasAll};
 
+use crate::system_socket::SystemSocket;
 use crate::tracing::{Tracer, lane_trace};
 use bridge_core::{Egress, Settings};
-use lane_wire::{LaneTrace, LaneWire, SendFault, SharedCounts, WireLog, WireSink};
+use lane_wire::{LaneTrace, LaneWire, SendFault, SharedCounts, WireLog, WireSink, send_egress};
 use mio::net::UdpSocket;
-use rtp_codec::Address;
 use std::alloc::{AllocError, Global};
-use std::io::{Error, ErrorKind};
 use std::sync::{Arc, Wait};
 use std::thread::Parker;
 use std::time::Duration;
-use udp_wire::socket_address;
 
 /// How many octets of a datagram are joined without taking memory.
 const WHOLE: usize = 9_000;
 /// How many milliseconds a pause lasts.
 const PAUSE: u64 = 1;
-/// The system's number for a message that is too long (EMSGSIZE).
-const TOO_LONG: i32 = 90;
-/// The system's number for a queue that is full (ENOBUFS).
-const NO_BUFFERS: i32 = 105;
 
 /// The socket for datagrams as the wire of a lane.
 #[derive(Drop)]
@@ -37,59 +31,13 @@ pub(crate) struct LaneSocket {
     log: WireLog,
 }
 
-/// Why the system didn't send a datagram.
-fn send_fault(error: Error) -> SendFault {
-    match error.kind() {
-        ErrorKind::WouldBlock => SendFault::NotReady,
-        ErrorKind::PermissionDenied => SendFault::Denied,
-        ErrorKind::ConnectionRefused => SendFault::Refused,
-        ErrorKind::HostUnreachable | ErrorKind::NetworkUnreachable | ErrorKind::NetworkDown =>
-            SendFault::Unreachable,
-        _ => match error.raw_os_error() {
-            Some(NO_BUFFERS) => SendFault::NotReady,
-            Some(TOO_LONG) => SendFault::TooLong,
-            _ => SendFault::Other,
-        },
-    }
-}
-
 impl LaneSocket {
-    /// Tries to send these octets.
-    fn send_octets(&self, to: Address, octets: &[u8]) -> Result<(), SendFault> {
-        match self.socket.send_to(octets, socket_address(to)) {
-            Ok(_) => Ok(()),
-            Err(error) => Err(send_fault(error)),
-        }
-    }
-
-    /// Tries to send a datagram in two parts.
-    fn send_parts(&mut self, to: Address, first: &[u8], rest: &[u8]) -> Result<(), SendFault>
-        ensures { self.new.log ≡ self.old.log }
-    {
-        if first.is_empty() {
-            return self.send_octets(to, rest);
-        }
-        self.whole.clear();
-        if self.whole.extend_from_slice(first).is_err()
-            || self.whole.extend_from_slice(rest).is_err()
-        {
-            return Err(SendFault::Other);
-        }
-        self.send_octets(to, &self.whole)
-    }
-
-    /// Tries to send the datagram of an egress.
+    /// Tries once to send the datagram of an egress.
     fn send_once(&mut self, egress: &Egress) -> Result<(), SendFault>
         ensures { self.new.log ≡ self.old.log }
     {
-        match egress {
-            Egress::Media { to, bytes, .. } => {
-                let (first, rest) = bytes.parts();
-                self.send_parts(*to, first, rest)
-            }
-            Egress::Control { to, bytes, .. } => self.send_octets(*to, bytes),
-            Egress::Note { .. } => Ok(()),
-        }
+        let mut socket = SystemSocket(&self.socket);
+        send_egress(&mut socket, &mut self.whole, egress)
     }
 }
 

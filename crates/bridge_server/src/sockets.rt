@@ -1,21 +1,23 @@
 //! The sockets of a bridge that runs: what has come, what is read, and what the front sends.
 
-ghost use Rattle.std.specs.Prelude.{◌≡◌, ◌<◌, ◌≤◌, length, IfOk};
+ghost use Rattle.std.specs.Prelude.{◌≡◌, ◌<◌, ◌≤◌, [], true, None, length, IfOk, IfErr, vec_capacity};
+ghost use Rattle.udp_wire.specs.Ended.{IsOfIo};
 ghost use Rattle.ingress.specs.Readings.{most_octets};
 ghost use Rattle.event_loop.specs.Came.{octets_read};
+ghost use Rattle.event_loop.specs.Logs.{read_list, tried_list};
 
 use crate::front::{TCP, UDP};
+use crate::system_socket::SystemSocket;
 use event_lines::{Cause, ServerPart, WhyFailed};
-use event_loop::{Inlet, Read, ReadLog, TryLog};
+use event_loop::{Inlet, Read, ReadLog, TryLog, read_datagram};
 use mio::net::UdpSocket;
 use mio::{Events, Poll};
 use rtp_codec::Address;
 use std::alloc::{AllocError, Global};
 use std::io;
-use std::io::ErrorKind;
 use std::sync::Arc;
 use std::time::Duration;
-use udp_wire::{FrontFault, Wire, address_of, socket_address};
+use udp_wire::{FrontFault, Wire, send_octets, send_parts};
 
 /// How many of the system's events are taken at a time.
 const EVENTS: usize = 8;
@@ -49,13 +51,17 @@ pub(crate) struct UdpInlet {
 }
 
 impl UdpInlet {
-    /// An inlet from which nothing was read yet.
+    /// An inlet from which nothing was read yet. Datagrams may wait.
     fn new(
         alloc: Global,
         poll: Poll,
         udp: &Arc<UdpSocket, Global>,
         at: Address,
-    ) -> Result<Self, AllocError> {
+    ) -> Result<Self, AllocError>
+        ensures waits { IfOk result (λ inlet. inlet.has_datagrams ≡ true) }
+        ensures trouble { IfOk result (λ inlet. inlet.trouble ≡ None) }
+        ensures log { IfOk result (λ inlet. read_list inlet.log ≡ []) }
+    {
         let events = Events::with_capacity(alloc, EVENTS)?;
         let udp = Arc::try_clone(udp)?;
         Ok(Self {
@@ -70,43 +76,42 @@ impl UdpInlet {
     }
 
     /// What failed last.
-    pub(crate) fn trouble(&self) -> Option<Cause> {
+    pub(crate) fn trouble(&self) -> Option<Cause>
+        ensures { result ≡ self.now.trouble }
+    {
         self.trouble
     }
 
-    /// Notes that a part failed, and why. Returns its fault.
+    /// What was read.
+    pub(crate) fn into_log(self) -> ReadLog
+        ensures { result ≡ self.log }
+    {
+        self.log
+    }
+
+    /// Notes that a socket failed, and why. Returns its fault.
     fn fails(&mut self, part: ServerPart, error: io::Error) -> FrontFault
+        ensures fault { IsOfIo result }
         ensures log { self.new.log ≡ self.old.log }
     {
         let why = WhyFailed::of(&error);
         self.trouble = Some(Cause::Failed { part, why });
-        FrontFault::from(error)
+        FrontFault::of_io(&error)
     }
 
     /// Reads the next datagram, if one waits.
     fn read_once(&mut self, chunk: &mut Vec<u8>) -> Result<Read, FrontFault>
         ensures few { IfOk result (λ read. octets_read read ≤ length chunk.new.items) }
         ensures log { self.new.log ≡ self.old.log }
+        ensures fault { IfErr result IsOfIo }
     {
-        if !self.has_datagrams {
-            return Ok(Read::Nothing);
-        }
-        match self.udp.recv_from(chunk) {
-            Ok((octets, told)) => Ok(match address_of(told) {
-                Some(from) => Read::Datagram { from, octets },
-                None => Read::Other,
-            }),
-            Err(error) => match error.kind() {
-                ErrorKind::WouldBlock => {
-                    self.has_datagrams = false;
-                    Ok(Read::Nothing)
-                }
-                ErrorKind::Interrupted | ErrorKind::ConnectionRefused => Ok(Read::Other),
-                _ => {
-                    let at = ServerPart::Udp(self.at);
-                    Err(self.fails(at, error))
-                }
-            },
+        let mut socket = SystemSocket(&self.udp);
+        match read_datagram(&mut socket, &mut self.has_datagrams, chunk) {
+            Ok(read) => Ok(read),
+            Err(error) => {
+                let at = ServerPart::Udp(self.at);
+                Err(self.fails(at, error))
+            }
         }
     }
 }
@@ -153,7 +158,10 @@ pub(crate) struct FrontSocket {
 
 impl FrontSocket {
     /// A wire on which nothing was tried yet.
-    fn new(alloc: Global, udp: &Arc<UdpSocket, Global>) -> Result<Self, AllocError> {
+    fn new(alloc: Global, udp: &Arc<UdpSocket, Global>) -> Result<Self, AllocError>
+        ensures log { IfOk result (λ wire. tried_list wire.log ≡ []) }
+        ensures whole { IfOk result (λ wire. most_octets ≤ vec_capacity wire.whole) }
+    {
         Ok(Self {
             socket: Arc::try_clone(udp)?,
             whole: Vec::with_capacity(alloc, CHUNK)?,
@@ -161,22 +169,26 @@ impl FrontSocket {
         })
     }
 
+    /// What was tried.
+    pub(crate) fn into_log(self) -> TryLog
+        ensures { result ≡ self.log }
+    {
+        self.log
+    }
+
     /// Tries to send these octets. `false`: the system refused them, which counts as loss on the wire.
-    fn send_octets(&self, to: Address, octets: &[u8]) -> bool {
-        self.socket.send_to(octets, socket_address(to)).is_ok()
+    fn send_whole(&self, to: Address, octets: &[u8]) -> bool {
+        let mut socket = SystemSocket(&self.socket);
+        send_octets(&mut socket, to, octets).is_ok()
     }
 
     /// Tries to send a datagram in two parts. Out of memory counts as loss on the wire, too.
     fn send_joined(&mut self, to: Address, first: &[u8], rest: &[u8]) -> bool
         ensures { self.new.log ≡ self.old.log }
     {
-        self.whole.clear();
-        if self.whole.extend_from_slice(first).is_err()
-            || self.whole.extend_from_slice(rest).is_err()
-        {
-            return false;
-        }
-        self.send_octets(to, &self.whole)
+        let mut socket = SystemSocket(&self.socket);
+        let answer = send_parts(&mut socket, &mut self.whole, to, first, rest);
+        matches!(answer, Ok(Ok(_)))
     }
 }
 
@@ -187,7 +199,7 @@ impl Wire for FrontSocket {
     ghost attempts = { λ wire. Some (tried_list wire.log) };
 
     fn send(&mut self, to: Address, octets: &[u8]) -> bool {
-        let sent = self.send_octets(to, octets);
+        let sent = self.send_whole(to, octets);
         self.log.note(to, &[], octets, sent);
         sent
     }
@@ -215,7 +227,10 @@ impl Sockets {
         poll: Poll,
         udp: UdpSocket,
         at: Address,
-    ) -> Result<Self, AllocError> {
+    ) -> Result<Self, AllocError>
+        ensures read { IfOk result (λ sockets. read_list sockets.inlet.log ≡ []) }
+        ensures tried { IfOk result (λ sockets. tried_list sockets.wire.log ≡ []) }
+    {
         let udp = Arc::new(alloc, udp)?;
         let wire = FrontSocket::new(alloc, &udp)?;
         let inlet = UdpInlet::new(alloc, poll, &udp, at)?;

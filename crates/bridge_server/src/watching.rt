@@ -1,5 +1,7 @@
 //! The clock of a bridge that runs.
 
+ghost use Rattle.std.specs.Prelude.{◌≡◌, [], None};
+
 use event_lines::{Cause, ServerPart, WhyFailed};
 use event_loop::{Watch, WatchLog};
 use std::time::Clock;
@@ -18,7 +20,11 @@ pub(crate) struct SystemWatch<R: Clock + Drop> {
 
 impl<R: Clock + Copy + Drop> SystemWatch<R> {
     /// A watch that has told nothing yet.
-    pub(crate) fn new(rt: &R, moments: Moments) -> Self {
+    pub(crate) fn new(rt: &R, moments: Moments) -> Self
+        ensures moments { result.moments ≡ moments }
+        ensures trouble { result.trouble ≡ None }
+        ensures log { result.log ≡ [] }
+    {
         Self {
             rt: *rt,
             moments,
@@ -28,13 +34,26 @@ impl<R: Clock + Copy + Drop> SystemWatch<R> {
     }
 
     /// Why the clock failed last.
-    pub(crate) fn trouble(&self) -> Option<Cause> {
+    pub(crate) fn trouble(&self) -> Option<Cause>
+        ensures { result ≡ self.now.trouble }
+    {
         self.trouble
     }
 
     /// The moment at which it began, in nanoseconds since 1970.
-    pub(crate) fn start(&self) -> u64 {
+    pub(crate) fn start(&self) -> u64
+        ensures { result ≡ self.now.moments }
+    {
         self.moments.start()
+    }
+}
+
+impl<R: Clock + Drop> SystemWatch<R> {
+    /// What it told.
+    pub(crate) fn into_log(self) -> WatchLog
+        ensures { result ≡ self.log }
+    {
+        self.log
     }
 }
 
@@ -48,7 +67,7 @@ impl<R: Clock + Drop> Watch for SystemWatch<R> {
                 let why = WhyFailed::of(&error);
                 let part = ServerPart::Clock;
                 self.trouble = Some(Cause::Failed { part, why });
-                Err(FrontFault::from(error))
+                Err(FrontFault::of_clock(&error))
             }
         }
     }

@@ -27,8 +27,7 @@ impl fmt::Display for ServeFault {
     }
 }
 
-/// The exit status: 0 after `stop`, 1 for a fault of the settings, 2 when memory ran out, 3 when a file, a socket or a
-/// clock failed.
+/// The exit status: 0 after `stop`, 1 for a fault of the settings, 2 when memory ran out, 3 after any other fault.
 pub fn serve_status<T>(answer: &Result<T, ServeFault>) -> u8
     ensures { result ≡ serve_status_of answer.now }
 {

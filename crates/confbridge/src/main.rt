@@ -157,7 +157,7 @@ fn tellers<R: Runtime + AllocGlobal + Clock>(rt: &R) -> Result<(Teller, EventLin
     };
     match EventLines::begin(rt, rt.alloc(), &teller) {
         Ok(lines) => Ok((teller, lines)),
-        Err(error) => Err(unstarted(rt, WhyFailed::of(&error), FrontFault::from(error))),
+        Err(error) => Err(unstarted(rt, WhyFailed::of(&error), FrontFault::of_clock(&error))),
     }
 }
 
@@ -170,7 +170,7 @@ where
     let mut lines = lines;
     let own = *rt;
     let Ok(writer) = thread::spawn(rt, move || write_lines(&own, &mut lines)) else {
-        return Err(unstarted(rt, WhyFailed::NoThread, FrontFault::Io));
+        return Err(unstarted(rt, WhyFailed::NoThread, FrontFault::NoThread));
     };
     let done = front.run(rt, &teller);
     teller.end(rt);

@@ -8,6 +8,7 @@ ghost use Rattle.lane_laws.specs.Learnt.{AllBegin, AllRead, lanes_of};
 ghost use Rattle.lane_laws.specs.OneList.{SendByVersions, sent_by};
 
 use bridge_core::Item;
+use call_history::CallStamp;
 use desk_edit::Call;
 use lane_laws::{lanes_saw_what_they_know, none_knew_more, the_running_headline};
 use media_workers::{Bridge, LaneEnd, LaneItem, Pace, Parcel, PublisherName, Sink};
@@ -40,7 +41,7 @@ pub fn call_and_close<'a, H: DeskBrand, N: PublisherName, P: Pace, S: Sink, R: T
     ensures { IfSome result (λ ends. SendByVersions H.start (calls_of seat.new.seen) (sent_by S.taken ends.items)) }
 {
     let mut bridge = bridge;
-    let Ok(answer) = desk.call(rt, alloc, seat, call) else {
+    let Ok(answer) = desk.call(rt, alloc, seat, call, CallStamp::unnamed(alloc, 0)) else {
         bridge.close(rt);
         return None;
     };

@@ -3,7 +3,7 @@
 ghost use Rattle.std.specs.Prelude.{◌≡◌, [], ◌∷◌, None, Some, map};
 ghost use Rattle.media_workers.specs.declared.fault.HandleFault.TheVariants.{NoEntry, Spent, OutOfMemory as RanOut};
 ghost use Rattle.media_workers.specs.declared.lane_item.LaneItem.{LaneItem};
-ghost use Rattle.udp_wire.specs.declared.ending.FrontFault.TheVariants.{Io, OutOfMemory};
+ghost use Rattle.udp_wire.specs.declared.ending.FrontFault.TheVariants.{OutOfMemory, ItemsSpent};
 
 use media_front::fault_of;
 use media_workers::{LaneEnd, PublisherName};
@@ -18,7 +18,7 @@ pub fn three_lanes_have_ended<N: PublisherName, S>(ends: &[LaneEnd<N, S>]) -> Op
         → result ≡ None }
     ensures failed { (item other : LaneItem)
         → map (λ end. end.refused) ends.now ≡ Some (other, NoEntry) ∷ Some (item, Spent) ∷ None ∷ []
-        → result ≡ Some Io }
+        → result ≡ Some ItemsSpent }
     ensures ran_out { (item other : LaneItem)
         → map (λ end. end.refused) ends.now ≡ Some (item, Spent) ∷ None ∷ Some (other, RanOut) ∷ []
         → result ≡ Some OutOfMemory }

@@ -4,9 +4,10 @@ use bridge_server::Stopped;
 use std::alloc::Global;
 use std::sync::{Arc, Mutex, MutexGuard, Wait};
 
-/// How a bridge ended, once an operator has stopped it and all its threads have ended. The bridge's thread notes it.
+/// How a bridge ended, in words, once an operator has stopped it and all its threads have ended. The bridge's thread
+/// notes it.
 #[derive(Drop)]
-pub struct Left(Arc<Mutex<Option<Stopped>>, Global>);
+pub struct Left(Arc<Mutex<Option<String>>, Global>);
 
 impl Left {
     /// A bridge that has not ended, as its thread sees it and as the case does.
@@ -17,9 +18,13 @@ impl Left {
     }
 
     /// Notes how the bridge ended; nothing where it had a fault.
-    pub fn note(&self, rt: &impl Wait, stopped: Option<Stopped>) {
+    pub fn note(&self, rt: &impl Wait, alloc: Global, stopped: Option<Stopped>) {
+        let text = match &stopped {
+            Some(stopped) => counts(alloc, stopped),
+            None => None,
+        };
         let mut left = self.0.lock(rt);
-        *left = stopped;
+        *left = text;
         MutexGuard::unlock(left);
     }
 
@@ -35,7 +40,7 @@ impl Left {
     pub fn counts(&self, rt: &impl Wait, alloc: Global) -> Option<String> {
         let left = self.0.lock(rt);
         let text = match &*left {
-            Some(stopped) => counts(alloc, stopped),
+            Some(text) => format!(in alloc; "{text}").ok(),
             None => None,
         };
         MutexGuard::unlock(left);

@@ -36,7 +36,7 @@ where
     let Ok(teller) = Teller::new(rt.alloc()) else {
         return;
     };
-    left.note(rt, front.run(rt, &teller).ok());
+    left.note(rt, rt.alloc(), front.run(rt, &teller).ok());
 }
 
 /// Opens the sockets of a bridge with so many seats and lanes and these further settings, on ports of the system's

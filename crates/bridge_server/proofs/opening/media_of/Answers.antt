@@ -1,10 +1,12 @@
-use Rattle.std.proofs.Common.{◌≡◌, ◌∙◌, ℕ, List, length, All, ap, sym, subst}
+use Rattle.std.proofs.Common.{◌≡◌, ◌∙◌, ℕ, List, length, All, refl, ap, sym, subst}
 use Rattle.sender_feedback.specs.Upstream.{Asker}
 use Rattle.media_front.specs.Prices.{pli_octets}
 use Rattle.published_desk.specs.Published.{ReaderOf}
 use Rattle.media_front.specs.FedLanes.{lanes_in}
+use Rattle.media_front.specs.Fronts.{FrontOf}
 use Rattle.media_workers.specs.LaneRuns.{LaneNow}
 use Rattle.bridge_server.specs.OneRun.{IsSetUp}
+use Rattle.bridge_server.specs.inner.Running.{IsNewMedia}
 use Rattle.bridge_server.proofs.RunLemmas.{lanes_begun}
 use denote.Exit.{yes}
 use denote.Param.Send.{param_send, arg_send}
@@ -37,14 +39,23 @@ returns-in-Ok g c =
     (record { ssrc = here.bridge_ssrc; cname = here.cname }) =
     ap (λ (s : ℕ). record { ssrc = s; cname = copy.cname }) c.in_ok-try_clone.ensures.0
     ∙ ap (λ (n : List ℕ). record { ssrc = here.bridge_ssrc; cname = n }) c.in_ok-try_clone.ensures.1 in
-    subst (IsSetUp who many start publisher) (sym c.new-in-Ok.ensures)
-    (record {
-      begun =
-          lanes_begun who many publisher start lanes c.args.readers.items c.in-Ok.ensures.new named
-          c.in-Ok.ensures.readers
-          count c.requires.readers;
-      asker = c.in_ok-ingress.ensures.asker ∙ (same ∙ c.requires.who);
-    })
+    record {
+      set_up = subst (IsSetUp who many start publisher) (sym c.new-in-Ok.ensures)
+          (record {
+            begun =
+                lanes_begun who many publisher start lanes c.args.readers.items c.in-Ok.ensures.new named
+                c.in-Ok.ensures.readers
+                count c.requires.readers;
+            asker = c.in_ok-ingress.ensures.asker ∙ (same ∙ c.requires.who);
+          });
+      new = subst (λ (f : FrontOf _ _). IsNewMedia f) (sym c.new-in-Ok.ensures)
+          (record {
+            feed = c.in-Ok.ensures.fresh;
+            limiter = c.in_ok-limiter.ensures;
+            limited = refl;
+            sources = c.in_ok-ingress.ensures.knows;
+          });
+    }
 
 pub new-requires-in-Ok : goal.new-requires-in-Ok
 new-requires-in-Ok g c =

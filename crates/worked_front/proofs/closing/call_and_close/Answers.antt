@@ -9,7 +9,8 @@ use Rattle.worked_front.proofs.closing.call_and_close.Goals as goal
 pub none_knew_more-requires : goal.none_knew_more-requires
 none_knew_more-requires g c =
     let answered =
-    IsAnswered g.H.DeskBrand.start g.H.DeskBrand.publisher c.args.seat.now c.call.new.seat (asked_by c.args.call) in
+    IsAnswered g.H.DeskBrand.start g.H.DeskBrand.publisher c.args.seat.now c.call.new.seat (asked_by c.args.call)
+    c.unnamed.result in
     let accepted = subst answered c.in-Accepted.is c.in-Ok.ensures.answer in
     let ports = c.tell-in-Accepted.new.bridge in
     let lanes = c.tell-in-Accepted.ensures.lanes ∙ c.tell.ensures.lanes in
@@ -24,7 +25,8 @@ returns-then-none_knew_more g c =
     let start = g.H.DeskBrand.start in
     let seen = c.call.new.seat.seen in
     let answered =
-    IsAnswered g.H.DeskBrand.start g.H.DeskBrand.publisher c.args.seat.now c.call.new.seat (asked_by c.args.call) in
+    IsAnswered g.H.DeskBrand.start g.H.DeskBrand.publisher c.args.seat.now c.call.new.seat (asked_by c.args.call)
+    c.unnamed.result in
     let accepted = subst answered c.in-Accepted.is c.in-Ok.ensures.answer in
     let ports = c.tell-in-Accepted.new.bridge in
     let ends = c.close-ends.result.items in
