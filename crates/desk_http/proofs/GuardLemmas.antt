@@ -9,11 +9,11 @@ use Rattle.desk_http.specs.declared.routing.Route.TheVariants.{Page, Script, Sty
 use Rattle.desk_http.specs.declared.routing.Route.TheVariants.{ChangeNames, Refused}
 use Rattle.desk_http.specs.declared.routing.PageRefusal.{PageRefusal}
 use Rattle.desk_http.specs.declared.routing.PageRefusal.TheVariants.{ForeignHost, ForeignOrigin, NotAllowed, NoToken}
-use Rattle.desk_http.specs.declared.routing.PageRefusal.TheVariants.{NoLine, Reserved, NoNames}
+use Rattle.desk_http.specs.declared.routing.PageRefusal.TheVariants.{NoPerson, NoLine, Reserved, NoNames}
 use Rattle.desk_http.specs.declared.routing.Resource.{Resource}
 use Rattle.desk_http.specs.declared.routing.Resource.TheVariants as resources
 use Rattle.desk_http.specs.Routes.{route_of, resource_route, call_route, names_route, line_route, resource_at}
-use Rattle.desk_http.specs.Routes.{has_own_host, has_own_origin, has_token, is_method}
+use Rattle.desk_http.specs.Routes.{has_own_host, has_own_origin, has_token, has_person, is_method}
 use Rattle.desk_http.specs.Lines.{is_line, is_reserved, is_change}
 use Rattle.desk_http.specs.Guarded.{Passes}
 
@@ -24,6 +24,11 @@ two_tests : (a b : Bool) (x y : PageRefusal) (w : Route)
 two_tests false b x y w e = absurd (cc)
 two_tests true false x y w e = absurd (cc)
 two_tests true true x y w e = (refl, refl, e)
+
+-- a route that follows one test is a call only where it passes
+one_test : (a : Bool) (x : PageRefusal) (w : Route) → (if not a then Refused x else w) ≡ Call → (a ≡ true) × (w ≡ Call)
+one_test false x w e = absurd (cc)
+one_test true x w e = (refl, e)
 
 -- a line is a call only if it is one, and not reserved
 line_tests : (a b : Bool) → (if not a then Refused NoLine else if b then Refused Reserved else Call) ≡ Call
@@ -73,13 +78,15 @@ call-passes site request e =
     (resource_route site request resource) e in
     let called = at_call site request resource own.2 in
     let posted = two_tests (is_method request (codes "POST")) (has_token site request) NotAllowed NoToken
-    (line_route (body_of request)) called in
-    let line = line_tests (is_line (body_of request)) (is_reserved (body_of request)) posted.2 in
+    (if not (has_person request) then Refused NoPerson else line_route (body_of request)) called in
+    let named = one_test (has_person request) NoPerson (line_route (body_of request)) posted.2 in
+    let line = line_tests (is_line (body_of request)) (is_reserved (body_of request)) named.1 in
     record {
       host = own.0;
       origin = own.1;
       method = posted.0;
       token = posted.1;
+      person = named.0;
       line = line.0;
       open_word = line.1;
     }

@@ -1,6 +1,8 @@
 -- A line that is sent to the bridge, and how it is replied to (own).
 use Rattle.std.specs.Prelude.{◌≡◌, ℕ, ◌+◌, ◌-◌, ◌^◌, Bool, true, false, not, ◌&&◌, ◌||◌, if◌then◌else◌, nat_eq, nat_le}
-use Rattle.std.specs.Prelude.{List, [], ◌∷◌, ◌++◌, length, min, Option, Some, None, option_map}
+use Rattle.std.specs.Prelude.{List, [], ◌∷◌, ◌++◌, length, take, min, codes}
+use Rattle.std.specs.Prelude.{Option, Some, None, option_map}
+use Rattle.std.specs.Str.{bytes_eq}
 use Rattle.std.specs.Option.{option_and_then, is_some}
 use Rattle.std.specs.declared.alloc.Global.{Global}
 use Rattle.std.specs.declared.vec.Vec.{Vec}
@@ -11,7 +13,7 @@ use Rattle.desk_http.specs.declared.bridge_request.ReplyProgress.TheVariants as 
 use Rattle.desk_http.specs.declared.bridge_connection.BridgeConnection.{BridgeConnection}
 use Rattle.desk_http.specs.declared.bridge_connection.RequestOutcome.{RequestOutcome}
 use Rattle.desk_http.specs.declared.bridge_connection.RequestOutcome.TheVariants.{Answered, Busy, Unsent, Unanswered}
-use Rattle.desk_http.specs.BridgeRequests.{progress_of}
+use Rattle.desk_http.specs.BridgeRequests.{progress_of, before_last_lf}
 
 -- milliseconds that the bridge has to accept a connection and to reply
 abbrev pub reply_timeout : ℕ
@@ -91,6 +93,43 @@ is_answered None = false
 -- the connection is used again: it is open, and the request got a whole reply
 abbrev pub is_reused : BridgeConnection → ℕ → Bool
 is_reused connection now = connection.is_open && is_answered (outcome_of connection now)
+
+-- the line that gives the connection a name
+abbrev pub naming_line : List ℕ → List ℕ
+naming_line name = codes "as " ++ name
+
+-- the line gives the connection a name
+abbrev pub is_naming : List ℕ → Bool
+is_naming line = nat_le 3 (length line) && bytes_eq (take 3 line) (codes "as ")
+
+-- the bridge repeats the line: it gives the name
+abbrev pub is_repeated : List ℕ → Option (List ℕ) → Bool
+is_repeated line None = false
+is_repeated line (Some text) = bytes_eq text line
+
+-- the connection has its name after the reply to a line
+abbrev pub named_by : Bool → List ℕ → List ℕ → Bool
+named_by is_named line received = if is_naming line then is_repeated line (before_last_lf received) else is_named
+
+-- a fact that holds, if there is one
+abbrev pub is_true_of : Option Bool → Bool
+is_true_of None = false
+is_true_of (Some holds) = holds
+
+-- the connection has its name after the request that has ended: one that is closed has none
+abbrev pub is_named_after : BridgeConnection → ℕ → Bool
+is_named_after connection now =
+    is_reused connection now
+    && is_true_of (option_map (λ e. named_by connection.is_named e.line.items e.received.items) connection.request)
+
+-- the bridge knows the connection by this name
+abbrev pub has_name : BridgeConnection → List ℕ → Bool
+has_name connection name = connection.is_open && connection.is_named && bytes_eq connection.name.items name
+
+-- the connection's name stays as it is
+pub record KeepsName (old new : BridgeConnection) : Type 0 where
+  pub name : new.name ≡ old.name
+  pub is_named : new.is_named ≡ old.is_named
 
 -- the connection stays open only where octets have come while a line is under way
 abbrev pub is_open_after : BridgeConnection → List ℕ → Bool

@@ -3,7 +3,7 @@ use Rattle.std.specs.Prelude.{ℕ, ◌-◌, Bool, not, ◌&&◌, ◌||◌, if◌
 use Rattle.std.specs.Prelude.{drop, slice_index, codes, Option, Some, None}
 use Rattle.std.specs.List.{list_any, suffix_len}
 use Rattle.std.specs.Str.{bytes_eq}
-use Rattle.desk_http.specs.Queries.{is_query, is_stats}
+use Rattle.desk_http.specs.Queries.{is_query, is_stats, is_calls}
 use Rattle.desk_http.specs.declared.bridge_request.ReplyProgress.{ReplyProgress}
 use Rattle.desk_http.specs.declared.bridge_request.ReplyProgress.TheVariants.{Partial, Complete, Busy, Malformed}
 
@@ -46,10 +46,10 @@ has_plain_end text = bytes_eq (last_line text) (codes "end")
 abbrev pub is_fault : List ℕ → Bool
 is_fault text = nat_le 6 (length text) && bytes_eq (take 6 text) (codes "fault ")
 
--- The reply to `stats` ends with the line `end`, or is a fault. A word may stand behind that `end`.
-abbrev pub stats_progress : Option (List ℕ) → ReplyProgress
-stats_progress None = Partial
-stats_progress (Some text) =
+-- The reply to `stats` or to `calls` ends with the line `end`, or is a fault. A word may stand behind that `end`.
+abbrev pub listing_progress : Option (List ℕ) → ReplyProgress
+listing_progress None = Partial
+listing_progress (Some text) =
     if (has_plain_end text || has_end_line text) || is_fault text then Complete else Partial
 
 -- the reply to a call is one line
@@ -66,6 +66,6 @@ abbrev pub progress_of : List ℕ → List ℕ → ReplyProgress
 progress_of line received =
     if bytes_eq received (codes "busy\n") then Busy
     else if nat_lt longest_reply (length received) then Malformed
-    else if is_stats line then stats_progress (before_last_lf received)
+    else if is_stats line || is_calls line then listing_progress (before_last_lf received)
     else if is_query line then query_progress (before_last_lf received)
     else call_progress received (before_last_lf received)

@@ -15,6 +15,18 @@ longest_line = 4096
 abbrev pub is_line : List ℕ → Bool
 is_line body = nat_lt 0 (length body) && nat_le (length body) longest_line && list_all is_printable body
 
+-- an octet from `!` to `~`
+abbrev pub is_visible : ℕ → Bool
+is_visible octet = nat_lt 32 octet && nat_le octet 126
+
+-- the most octets of a person's name, as the bridge takes it
+abbrev pub longest_person : ℕ
+longest_person = 64
+
+-- the name of a person: a word of 1 to 64 visible octets
+abbrev pub is_person : List ℕ → Bool
+is_person name = nat_lt 0 (length name) && nat_le (length name) longest_person && list_all is_visible name
+
 -- an octet that isn't a space
 abbrev pub is_not_space : ℕ → Bool
 is_not_space octet = not (nat_eq octet 32)
@@ -35,11 +47,18 @@ longest_change = 262144
 abbrev pub is_change : List ℕ → Bool
 is_change body = nat_le (length body) longest_change && is_names_line body
 
+-- the word asks about the log, the connection or its lines
+abbrev pub is_asking : List ℕ → Bool
+is_asking word =
+    bytes_eq word (codes "calls") || bytes_eq word (codes "as") || bytes_eq word (codes "why")
+    || bytes_eq word (codes "help")
+
 -- the first word asks for more than one line, for lines from then on, for the end of the connection or of the bridge,
--- or for names
+-- for something of the connection's own, or for names
 abbrev pub is_reserved : List ℕ → Bool
 is_reserved line =
     bytes_eq (first_word line) (codes "show") || bytes_eq (first_word line) (codes "history")
     || bytes_eq (first_word line) (codes "stats") || bytes_eq (first_word line) (codes "levels")
     || bytes_eq (first_word line) (codes "watch")
-    || bytes_eq (first_word line) (codes "quit") || bytes_eq (first_word line) (codes "stop") || is_names_line line
+    || bytes_eq (first_word line) (codes "quit") || bytes_eq (first_word line) (codes "stop")
+    || is_asking (first_word line) || is_names_line line

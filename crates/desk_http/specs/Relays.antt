@@ -6,7 +6,7 @@ use Rattle.desk_http.specs.declared.rows.RowShape.{RowShape}
 use Rattle.desk_http.specs.declared.metrics.Family.{Family}
 use Rattle.desk_http.specs.declared.relaying.Tables.{Tables}
 use Rattle.desk_http.specs.declared.query.Query.{Query}
-use Rattle.desk_http.specs.declared.query.Query.TheVariants.{Desk, History, Stats}
+use Rattle.desk_http.specs.declared.query.Query.TheVariants.{Desk, History, Calls, Stats}
 use Rattle.desk_http.specs.declared.query.AnswerForm.{AnswerForm}
 use Rattle.desk_http.specs.declared.query.AnswerForm.TheVariants.{Lines, Json, Metrics}
 use Rattle.desk_http.specs.declared.routing.Route.{Route}
@@ -33,6 +33,7 @@ readable_text answer = if not (is_fault answer) && is_utf8 answer then Some answ
 abbrev pub shapes_of : Tables → Query → List RowShape
 shapes_of tables Desk = tables.desk.now
 shapes_of tables History = tables.history.now
+shapes_of tables Calls = tables.calls.now
 shapes_of tables Stats = tables.stats.now
 
 -- an answer as JSON, if it is a text and no fault

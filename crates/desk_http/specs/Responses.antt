@@ -9,7 +9,7 @@ use Rattle.desk_http.specs.declared.routing.Route.{Route}
 use Rattle.desk_http.specs.declared.routing.Route.TheVariants as routes
 use Rattle.desk_http.specs.declared.routing.PageRefusal.{PageRefusal}
 use Rattle.desk_http.specs.declared.routing.PageRefusal.TheVariants.{ForeignHost, ForeignOrigin, NotFound, NotAllowed}
-use Rattle.desk_http.specs.declared.routing.PageRefusal.TheVariants.{NoToken, NoLine, Reserved, NoNames}
+use Rattle.desk_http.specs.declared.routing.PageRefusal.TheVariants.{NoToken, NoPerson, NoLine, Reserved, NoNames}
 
 -- a status, a content type and a body
 pub record PageResponse : Type 0 where
@@ -73,6 +73,7 @@ refusal_status ForeignOrigin = 403
 refusal_status NotFound = 404
 refusal_status NotAllowed = 405
 refusal_status NoToken = 403
+refusal_status NoPerson = 400
 refusal_status NoLine = 400
 refusal_status Reserved = 400
 refusal_status NoNames = 400
@@ -81,12 +82,12 @@ refusal_status NoNames = 400
 abbrev pub refusal_text : PageRefusal → List ℕ
 refusal_text ForeignHost = codes "ForeignHost: this page answers to its own address alone\n"
 refusal_text ForeignOrigin = codes "ForeignOrigin: this page takes nothing from other pages\n"
-refusal_text NotFound = codes "NotFound: there are /, /desk, /history, /stats, /metrics, /call and /names\n"
+refusal_text NotFound = codes "NotFound: there are /, /desk, /history, /past, /stats, /metrics, /call and /names\n"
 refusal_text NotAllowed = codes "NotAllowed: POST to /call, GET or POST to /names, GET elsewhere\n"
 refusal_text NoToken = codes "NoToken: load the page again, its token is of an earlier run\n"
+refusal_text NoPerson = codes "NoPerson: X-Desk-Person is a name of 1 to 64 octets from ! to ~, or isn't there\n"
 refusal_text NoLine = codes "NoLine: a call is one line of 1 to 4096 printed octets\n"
-refusal_text Reserved =
-    codes "Reserved: show, history, stats, levels, watch, quit, stop and names are not for the page\n"
+refusal_text Reserved = codes "Reserved: calls alone are for the page, and no line such as show, watch, as or help\n"
 refusal_text NoNames =
     codes "NoNames: a change is the word names, the version that was seen, and a JSON object of texts\n"
 

@@ -11,12 +11,12 @@ use Rattle.desk_http.specs.declared.site.Site.{Site}
 use Rattle.desk_http.specs.declared.routing.Route.{Route}
 use Rattle.desk_http.specs.declared.routing.Route.TheVariants as routes
 use Rattle.desk_http.specs.declared.routing.PageRefusal.TheVariants.{ForeignHost, ForeignOrigin, NotFound, NotAllowed}
-use Rattle.desk_http.specs.declared.routing.PageRefusal.TheVariants.{NoToken, NoLine, Reserved, NoNames}
-use Rattle.desk_http.specs.declared.query.Query.TheVariants.{Desk, History, Stats}
+use Rattle.desk_http.specs.declared.routing.PageRefusal.TheVariants.{NoToken, NoPerson, NoLine, Reserved, NoNames}
+use Rattle.desk_http.specs.declared.query.Query.TheVariants.{Desk, History, Calls, Stats}
 use Rattle.desk_http.specs.declared.query.AnswerForm.TheVariants.{Lines, Json, Metrics}
 use Rattle.desk_http.specs.declared.routing.Resource.{Resource}
 use Rattle.desk_http.specs.declared.routing.Resource.TheVariants as resources
-use Rattle.desk_http.specs.Lines.{is_line, is_reserved, is_change}
+use Rattle.desk_http.specs.Lines.{is_line, is_person, is_reserved, is_change}
 
 -- the name ends with port 80
 abbrev pub has_port_80 : List ℕ → Bool
@@ -57,6 +57,19 @@ abbrev pub has_token : Site → Request (List ℕ) → Bool
 has_token site request =
     test_or false (λ value. bytes_eq value site.token.items) (header_field request (codes "x-desk-token"))
 
+-- the field's value, or another one where there is no such field
+abbrev pub value_or : List ℕ → Option FieldValue → List ℕ
+value_or otherwise None = otherwise
+value_or otherwise (Some value) = value.bytes
+
+-- who gives the request's line: `page` where the request doesn't say it
+abbrev pub person_of : Request (List ℕ) → List ℕ
+person_of request = value_or (codes "page") (header_field request (codes "x-desk-person"))
+
+-- the bridge takes the person's name
+abbrev pub has_person : Request (List ℕ) → Bool
+has_person request = is_person (person_of request)
+
 -- the request has this method
 abbrev pub is_method : Request (List ℕ) → List ℕ → Bool
 is_method request method = bytes_eq (head_of request).method method
@@ -71,6 +84,8 @@ resource_at path =
     else if bytes_eq path (codes "/desk.txt") then Some (resources.Read Desk Lines)
     else if bytes_eq path (codes "/history") then Some (resources.Read History Json)
     else if bytes_eq path (codes "/history.txt") then Some (resources.Read History Lines)
+    else if bytes_eq path (codes "/past") then Some (resources.Read Calls Json)
+    else if bytes_eq path (codes "/past.txt") then Some (resources.Read Calls Lines)
     else if bytes_eq path (codes "/stats") then Some (resources.Read Stats Json)
     else if bytes_eq path (codes "/metrics") then Some (resources.Read Stats Metrics)
     else if bytes_eq path (codes "/call") then Some resources.Call
@@ -89,6 +104,7 @@ abbrev pub call_route : Site → Request (List ℕ) → Route
 call_route site request =
     if not (is_method request (codes "POST")) then routes.Refused NotAllowed
     else if not (has_token site request) then routes.Refused NoToken
+    else if not (has_person request) then routes.Refused NoPerson
     else line_route (body_of request)
 
 -- the route if the method is GET; other methods are refused
@@ -119,7 +135,7 @@ resource_route site request (Some (resources.Read query form)) = get_only reques
 resource_route site request (Some resources.Call) = call_route site request
 resource_route site request (Some resources.Names) = names_route site request
 
--- the route of a request: host, origin, path, method, token and body are tested in this order
+-- the route of a request: host, origin, path, method, token, person and body are tested in this order
 abbrev pub route_of : Site → Request (List ℕ) → Route
 route_of site request =
     if not (has_own_host site request) then routes.Refused ForeignHost

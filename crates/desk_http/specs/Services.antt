@@ -10,7 +10,7 @@ use Rattle.desk_http.specs.declared.services.Responder.{Responder}
 use Rattle.desk_http.specs.declared.routing.Route.{Route}
 use Rattle.desk_http.specs.declared.routing.Route.TheVariants as routes
 use Rattle.desk_http.specs.Queries.{query_line}
-use Rattle.desk_http.specs.Routes.{route_of}
+use Rattle.desk_http.specs.Routes.{route_of, person_of}
 use Rattle.desk_http.specs.declared.responding.BridgeReply.{BridgeReply}
 use Rattle.desk_http.specs.declared.relaying.Tables.{Tables}
 use Rattle.desk_http.specs.Responses.{PageResponse, IsPageResponse, direct_response, mismatch_response, known_response}
@@ -32,11 +32,12 @@ bridge_line (routes.Refused refusal) body = None
 abbrev pub wanted_line : Router → Option (List ℕ)
 wanted_line router = option_map (λ line. line.items) router.line
 
--- a request is responded to at once, or its line is named
+-- a request is responded to at once, or its line is named, and who gives it
 pub record RoutesRequest (old : Router) (request : Request (List ℕ)) (response : Response) (new : Router)
     : Type 0 where
   pub content : IsPageResponse (direct_response old.site old.assets (route_of old.site request)) response
   pub line : wanted_line new ≡ bridge_line (route_of old.site request) (body_of request)
+  pub person : new.person.items ≡ person_of request
   pub site : new.site ≡ old.site
   pub assets : new.assets ≡ old.assets
 

@@ -4,7 +4,7 @@ use Rattle.std.specs.Prelude.{codes, length, take, drop, Option, Some, None}
 use Rattle.std.specs.Str.{bytes_eq}
 use Rattle.std.specs.Fmt.{decimal}
 use Rattle.desk_http.specs.declared.desk_texts.DeskTexts.{DeskTexts}
-use Rattle.desk_http.specs.declared.query.Query.TheVariants.{Desk, History, Stats}
+use Rattle.desk_http.specs.declared.query.Query.TheVariants.{Desk, History, Calls, Stats}
 use Rattle.desk_http.specs.declared.query.AnswerForm.TheVariants.{Lines, Json, Metrics}
 use Rattle.desk_http.specs.declared.routing.Route.{Route}
 use Rattle.desk_http.specs.declared.routing.Route.TheVariants as routes
@@ -43,6 +43,7 @@ is_desk_lines (routes.Read Desk Lines) = true
 is_desk_lines (routes.Read Desk Json) = false
 is_desk_lines (routes.Read Desk Metrics) = false
 is_desk_lines (routes.Read History form) = false
+is_desk_lines (routes.Read Calls form) = false
 is_desk_lines (routes.Read Stats form) = false
 is_desk_lines routes.Page = false
 is_desk_lines routes.Script = false

@@ -1,4 +1,4 @@
-//! The page's connection to the bridge, without its socket.
+//! The page's connection to the bridge, without its socket, and the name that the bridge knows it by.
 
 ghost use Rattle.std.specs.Prelude.{
   ◌≡◌,
@@ -14,6 +14,7 @@ ghost use Rattle.std.specs.Prelude.{
   min,
   drop,
   option_map,
+  true,
   None,
 };
 ghost use Rattle.std.specs.Option.{is_none};
@@ -30,8 +31,13 @@ ghost use Rattle.desk_http.specs.BridgeConnections.{
   is_reused,
   is_open_after,
   wants_read,
+  naming_line,
+  is_named_after,
+  has_name,
+  KeepsName,
 };
 
+use crate::connection_name::{named_by, naming_line};
 use crate::{BridgeReply, BridgeRequest, ReplyProgress};
 use std::alloc::{AllocError, Global};
 
@@ -53,7 +59,7 @@ pub(crate) enum RequestOutcome {
 
 /// The page's connection to the bridge, without its socket. It has one request at a time.
 ///
-/// Set [`is_open`](Self::is_open) once a socket connects, and [`begin`](Self::begin) a line. Send what is
+/// [`open`](Self::open) it once a socket connects, and [`begin`](Self::begin) a line. Send what is
 /// [`unsent`](Self::unsent), [`mark_sent`](Self::mark_sent) what the socket took, and [`receive`](Self::receive) what
 /// comes. [`poll_reply`](Self::poll_reply) then gives the line back with its reply.
 #[derive(Drop)]
@@ -68,6 +74,10 @@ pub struct BridgeConnection {
     pub deadline: u64,
     /// The socket is connected or connects. Where this is false, close the socket.
     pub is_open: bool,
+    /// The name that was asked for last.
+    pub name: Vec<u8>,
+    /// The bridge has given this name.
+    pub is_named: bool,
 }
 
 impl BridgeConnection {
@@ -75,6 +85,7 @@ impl BridgeConnection {
     pub fn new(alloc: Global) -> Self
         ensures request { result.request ≡ None }
         ensures is_open { result.is_open ≡ false }
+        ensures is_named { result.is_named ≡ false }
     {
         Self {
             request: None,
@@ -82,7 +93,28 @@ impl BridgeConnection {
             sent: 0,
             deadline: 0,
             is_open: false,
+            name: Vec::new(alloc),
+            is_named: false,
         }
+    }
+
+    /// A new socket connects. It has no name yet.
+    pub fn open(&mut self)
+        ensures is_open { self.new.is_open ≡ true }
+        ensures is_named { self.new.is_named ≡ false }
+        ensures request { self.new.request ≡ self.old.request }
+        ensures kept { KeepsLine self.old self.new }
+    {
+        self.is_open = true;
+        self.is_named = false;
+    }
+
+    /// Whether the bridge knows the connection by this name. A person's call goes over no other connection: where this
+    /// is false, [`begin_naming`](Self::begin_naming) first.
+    pub fn has_name(&self, name: &[u8]) -> bool
+        ensures { result ≡ has_name self.now name.now }
+    {
+        self.is_open && self.is_named && self.name.as_slice() == name
     }
 
     /// Whether no request is under way.
@@ -96,6 +128,7 @@ impl BridgeConnection {
     pub fn begin(&mut self, alloc: Global, line: Vec<u8>, now: u64) -> Result<(), AllocError>
         ensures started { OnOk result (IsStarted line.items now self.new) }
         ensures is_open { self.new.is_open ≡ self.old.is_open }
+        ensures kept { KeepsName self.old self.new }
     {
         let request = BridgeRequest::new(alloc, line);
         self.output = request.encode(alloc)?;
@@ -103,6 +136,19 @@ impl BridgeConnection {
         self.deadline = now.saturating_add(REPLY_TIMEOUT);
         self.request = Some(request);
         Ok(())
+    }
+
+    /// Begins the request that gives the connection this name.
+    pub fn begin_naming(&mut self, alloc: Global, name: &[u8], now: u64) -> Result<(), AllocError>
+        ensures started { OnOk result (IsStarted (naming_line name.now) now self.new) }
+        ensures name { OnOk result (self.new.name.items ≡ name.now) }
+        ensures is_named { OnOk result (self.new.is_named ≡ false) }
+        ensures is_open { self.new.is_open ≡ self.old.is_open }
+    {
+        let line = naming_line(alloc, name)?;
+        self.name = Vec::from_slice(alloc, name)?;
+        self.is_named = false;
+        self.begin(alloc, line, now)
     }
 
     /// The rest of the output, from what was marked as sent.
@@ -122,6 +168,7 @@ impl BridgeConnection {
         ensures request { self.new.request ≡ self.old.request }
         ensures deadline { self.new.deadline ≡ self.old.deadline }
         ensures is_open { self.new.is_open ≡ self.old.is_open }
+        ensures kept { KeepsName self.old self.new }
     {
         self.sent = self.sent.saturating_add(count);
     }
@@ -146,6 +193,7 @@ impl BridgeConnection {
         ensures is_open { OnOk result (self.new.is_open ≡ is_open_after self.old octets.now) }
         ensures err { OnErr result (received_of self.new ≡ received_of self.old) }
         ensures kept { KeepsLine self.old self.new }
+        ensures name { KeepsName self.old self.new }
     {
         match &mut self.request {
             Some(request) => {
@@ -206,11 +254,14 @@ impl BridgeConnection {
         ensures over { result ≡ finished_in self.old now }
         ensures is_open { IfSome result (λ over. self.new.is_open ≡ is_reused self.old now) }
         ensures free { IfSome result (λ over. self.new.request ≡ None) }
+        ensures is_named { IfSome result (λ over. self.new.is_named ≡ is_named_after self.old now) }
+        ensures name { self.new.name ≡ self.old.name }
         ensures on { IfNone result (self.new ≡ self.old) }
     {
         let outcome = self.outcome(now)?;
         let BridgeRequest { line, received } = self.request.take()?;
         self.is_open = self.is_open && matches!(outcome, RequestOutcome::Answered);
+        self.is_named = self.is_open && named_by(self.is_named, &line, &received);
         Some((line, reply_by(outcome, received)))
     }
 }

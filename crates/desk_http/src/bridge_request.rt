@@ -13,10 +13,10 @@ ghost use Rattle.desk_http.specs.BridgeRequests.{
   progress_of,
   call_progress,
   query_progress,
-  stats_progress,
+  listing_progress,
 };
 
-use crate::query::{is_query, is_stats};
+use crate::query::{is_calls, is_query, is_stats};
 use std::alloc::{AllocError, Global};
 
 /// The most octets of a reply: 16 MiB, six times the rows of a full desk.
@@ -119,10 +119,10 @@ pub(crate) fn is_fault(text: &[u8]) -> bool
     text.len() >= 6 && &text[..6] == b"fault ".as_slice()
 }
 
-/// The progress of a reply to `stats`, which ends with the line `end`. A bridge that doesn't know the question answers
-/// by one line, a fault.
-fn stats_progress(received: &[u8]) -> ReplyProgress
-    ensures { result ≡ stats_progress (before_last_lf received.now) }
+/// The progress of a reply to `stats` or `calls`, which ends with a line `end`. A bridge that doesn't know the question
+/// answers by one line, a fault.
+fn listing_progress(received: &[u8]) -> ReplyProgress
+    ensures { result ≡ listing_progress (before_last_lf received.now) }
 {
     match before_last_lf(received) {
         Some(text) => {
@@ -178,8 +178,8 @@ impl BridgeRequest {
             ReplyProgress::Busy
         } else if self.received.len() > MAX_REPLY {
             ReplyProgress::Malformed
-        } else if is_stats(&self.line) {
-            stats_progress(&self.received)
+        } else if is_stats(&self.line) || is_calls(&self.line) {
+            listing_progress(&self.received)
         } else if is_query(&self.line) {
             query_progress(&self.received)
         } else {

@@ -1,4 +1,4 @@
-//! The desk and its history as JSON. A row here is a key.
+//! The JSON of the desk. A row here is a key.
 
 use crate::reading::WordPlace;
 use crate::rows::{HistoryPart, RowField, RowKind, RowShape};
@@ -140,25 +140,10 @@ const FLOOR: [RowField; 2] = [
     },
 ];
 
-const VERSION: [RowField; 1] = [RowField {
+pub(crate) const VERSION: [RowField; 1] = [RowField {
     name: "version",
     place: WordPlace::Word(1),
 }];
-
-const CALL: [RowField; 3] = [
-    RowField {
-        name: "number",
-        place: WordPlace::Word(0),
-    },
-    RowField {
-        name: "operator",
-        place: WordPlace::Word(1),
-    },
-    RowField {
-        name: "call",
-        place: WordPlace::Rest(2),
-    },
-];
 
 const DESK: &[RowShape] = &[
     RowShape {
@@ -240,36 +225,7 @@ const DESK: &[RowShape] = &[
     },
 ];
 
-const HISTORY: &[RowShape] = &[
-    RowShape {
-        key: "done",
-        part: HistoryPart::Done,
-        kind: RowKind::Numbered,
-        is_list: true,
-        fields: &CALL,
-    },
-    RowShape {
-        key: "undone",
-        part: HistoryPart::Undone,
-        kind: RowKind::Numbered,
-        is_list: true,
-        fields: &CALL,
-    },
-    RowShape {
-        key: "end",
-        part: HistoryPart::All,
-        kind: RowKind::Named("end"),
-        is_list: false,
-        fields: &VERSION,
-    },
-];
-
 /// What `/desk` has.
 pub(crate) fn desk_shapes() -> &'static [RowShape] {
     DESK
-}
-
-/// What `/history` has.
-pub(crate) fn history_shapes() -> &'static [RowShape] {
-    HISTORY
 }

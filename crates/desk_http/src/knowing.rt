@@ -43,7 +43,7 @@ fn is_desk_lines(route: Route) -> bool
     match route {
         Route::Read(Query::Desk, AnswerForm::Lines) => true,
         Route::Read(Query::Desk, AnswerForm::Json | AnswerForm::Metrics) => false,
-        Route::Read(Query::History | Query::Stats, _) => false,
+        Route::Read(Query::History | Query::Calls | Query::Stats, _) => false,
         Route::Page
         | Route::Script
         | Route::Style

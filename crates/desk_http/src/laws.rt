@@ -3,7 +3,8 @@
 ghost use Rattle.desk_http.specs.PendingLines.{IsSentAtMostOnce};
 ghost use Rattle.desk_http.specs.Guarded.{IsGuarded};
 
-/// A request is a call only if it is a POST to the page's own host, from no other origin, with its token and a line.
+/// A request is a call only if it is a POST to the page's own host, from no other origin, with its token, a line, and a
+/// name that the bridge takes.
 pub fn calls_are_guarded()
     ensures { IsGuarded }
 {}

@@ -14,8 +14,8 @@ ghost use Rattle.desk_http.specs.PendingLines.{
 };
 
 use crate::Query;
+use crate::lines::is_names_line;
 use crate::query::is_query;
-use crate::routing::is_names_line;
 use std::mem;
 
 /// The line of a connection, on its way to the bridge. A connection has one request, and so at most one line.
@@ -61,7 +61,7 @@ impl PendingLine {
     }
 
     /// Whether a line is queued that is no query, and not about names.
-    fn has_call(&self) -> bool
+    pub fn has_call(&self) -> bool
         ensures { result ≡ has_call (stage_of self.now) }
     {
         match self {

@@ -1,7 +1,7 @@
 //! What the page asks the bridge without changing anything.
 
 ghost use Rattle.std.specs.Prelude.{◌≡◌};
-ghost use Rattle.desk_http.specs.Queries.{query_line, is_query, is_stats};
+ghost use Rattle.desk_http.specs.Queries.{query_line, is_query, is_stats, is_calls};
 
 /// What the page asks the bridge without changing anything. Its reply has many lines, and all who ask get the same one.
 #[derive(Clone, Copy)]
@@ -11,6 +11,8 @@ pub enum Query {
     /// The last 256 calls in force, and the last 256 that can be redone. That is less than the 4 MiB that the bridge
     /// keeps for an operator.
     History,
+    /// The last 512 calls of the log, with their moments and names. An older bridge answers by a fault.
+    Calls,
     /// What the bridge counts. A bridge that doesn't know this question answers by a fault.
     Stats,
 }
@@ -34,6 +36,7 @@ impl Query {
         match self {
             Query::Desk => b"show",
             Query::History => b"history 256",
+            Query::Calls => b"calls 512",
             Query::Stats => b"stats",
         }
     }
@@ -46,9 +49,16 @@ pub(crate) fn is_stats(line: &[u8]) -> bool
     line == Query::Stats.line()
 }
 
+/// Whether a line asks for the calls of the log.
+pub(crate) fn is_calls(line: &[u8]) -> bool
+    ensures { result ≡ is_calls line.now }
+{
+    line == Query::Calls.line()
+}
+
 /// Whether a line asks without changing anything.
 pub(crate) fn is_query(line: &[u8]) -> bool
     ensures { result ≡ is_query line.now }
 {
-    line == Query::Desk.line() || line == Query::History.line() || is_stats(line)
+    line == Query::Desk.line() || line == Query::History.line() || is_calls(line) || is_stats(line)
 }

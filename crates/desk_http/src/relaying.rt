@@ -16,7 +16,8 @@ ghost use Rattle.desk_http.specs.Relays.{
 
 use crate::bridge_metrics::bridge_families;
 use crate::bridge_request::is_fault;
-use crate::desk_shapes::{desk_shapes, history_shapes};
+use crate::call_shapes::{calls_shapes, history_shapes};
+use crate::desk_shapes::desk_shapes;
 use crate::media_metrics::media_families;
 use crate::metrics::{Family, metrics_text};
 use crate::responding::{fill, fill_text};
@@ -38,6 +39,8 @@ pub struct Tables {
     pub desk: &'static [RowShape],
     /// The JSON of the answer to `history 256`.
     pub history: &'static [RowShape],
+    /// The JSON of the answer to `calls 512`.
+    pub calls: &'static [RowShape],
     /// The JSON of the answer to `stats`.
     pub stats: &'static [RowShape],
 }
@@ -49,6 +52,7 @@ pub fn page_tables() -> Tables {
         families: [media_families(), stream_families(), bridge_families()],
         desk: desk_shapes(),
         history: history_shapes(),
+        calls: calls_shapes(),
         stats: stats_shapes(),
     }
 }
@@ -60,6 +64,7 @@ impl Tables {
         match query {
             Query::Desk => self.desk,
             Query::History => self.history,
+            Query::Calls => self.calls,
             Query::Stats => self.stats,
         }
     }

@@ -133,8 +133,10 @@ fn refusal_status(refusal: PageRefusal) -> StatusCode
             StatusCode::FORBIDDEN,
         PageRefusal::NotFound => StatusCode::NOT_FOUND,
         PageRefusal::NotAllowed => StatusCode::METHOD_NOT_ALLOWED,
-        PageRefusal::NoLine | PageRefusal::Reserved | PageRefusal::NoNames =>
-            StatusCode::BAD_REQUEST,
+        PageRefusal::NoPerson
+        | PageRefusal::NoLine
+        | PageRefusal::Reserved
+        | PageRefusal::NoNames => StatusCode::BAD_REQUEST,
     }
 }
 
@@ -146,13 +148,15 @@ fn refusal_text(refusal: PageRefusal) -> &'static [u8]
         PageRefusal::ForeignHost => b"ForeignHost: this page answers to its own address alone\n",
         PageRefusal::ForeignOrigin => b"ForeignOrigin: this page takes nothing from other pages\n",
         PageRefusal::NotFound =>
-            b"NotFound: there are /, /desk, /history, /stats, /metrics, /call and /names\n",
+            b"NotFound: there are /, /desk, /history, /past, /stats, /metrics, /call and /names\n",
         PageRefusal::NotAllowed =>
             b"NotAllowed: POST to /call, GET or POST to /names, GET elsewhere\n",
         PageRefusal::NoToken => b"NoToken: load the page again, its token is of an earlier run\n",
+        PageRefusal::NoPerson =>
+            b"NoPerson: X-Desk-Person is a name of 1 to 64 octets from ! to ~, or isn't there\n",
         PageRefusal::NoLine => b"NoLine: a call is one line of 1 to 4096 printed octets\n",
         PageRefusal::Reserved =>
-            b"Reserved: show, history, stats, levels, watch, quit, stop and names are not for the page\n",
+            b"Reserved: calls alone are for the page, and no line such as show, watch, as or help\n",
         PageRefusal::NoNames =>
             b"NoNames: a change is the word names, the version that was seen, and a JSON object of texts\n",
     }

@@ -1,7 +1,6 @@
 //! Which route a request takes, by its host, origin, path, method, token and body.
 
-ghost use Rattle.std.specs.Prelude.{◌≡◌, ◌≤◌, length};
-ghost use Rattle.std.specs.List.{list_all, prefix_len};
+ghost use Rattle.std.specs.Prelude.{◌≡◌};
 ghost use Rattle.desk_http.specs.Routes.{
   change_route,
   post_names_route,
@@ -15,25 +14,14 @@ ghost use Rattle.desk_http.specs.Routes.{
   has_own_host,
   has_own_origin,
   has_token,
-};
-ghost use Rattle.desk_http.specs.Lines.{
-  is_printable,
-  is_not_space,
-  first_word,
-  is_names_line,
-  is_change,
-  is_reserved,
-  is_line,
+  person_of,
+  has_person,
 };
 
+use crate::lines::{is_change, is_line, is_person, is_reserved};
 use crate::{AnswerForm, Query, Site};
 use bytes::Bytes;
 use http::{Request, header};
-
-/// The most octets of a line for the bridge.
-pub const MAX_LINE: usize = 4_096;
-/// The most octets of a change of names.
-pub const MAX_CHANGE: usize = 262_144;
 
 /// What a request is for.
 #[derive(Clone, Copy)]
@@ -69,9 +57,11 @@ pub enum PageRefusal {
     NotAllowed,
     /// It doesn't have the page's token.
     NoToken,
+    /// Its person's name isn't 1 to 64 octets from 33 to 126.
+    NoPerson,
     /// Its body isn't 1 to 4,096 octets from 32 to 126.
     NoLine,
-    /// Its body begins with `show`, `history`, `stats`, `levels`, `watch`, `quit`, `stop` or `names`.
+    /// Its body begins with `names`, or as a line of an operator that is no call, such as `show` or `help`.
     Reserved,
     /// Its body doesn't begin with the word `names`, or has over 262,144 octets.
     NoNames,
@@ -105,6 +95,10 @@ fn resource_at(path: &str) -> Option<Resource>
         Some(Resource::Read(Query::History, AnswerForm::Json))
     } else if path == "/history.txt" {
         Some(Resource::Read(Query::History, AnswerForm::Lines))
+    } else if path == "/past" {
+        Some(Resource::Read(Query::Calls, AnswerForm::Json))
+    } else if path == "/past.txt" {
+        Some(Resource::Read(Query::Calls, AnswerForm::Lines))
     } else if path == "/stats" {
         Some(Resource::Read(Query::Stats, AnswerForm::Json))
     } else if path == "/metrics" {
@@ -116,62 +110,6 @@ fn resource_at(path: &str) -> Option<Resource>
     } else {
         None
     }
-}
-
-/// Whether each octet is one from a space to `~`.
-fn is_printable(body: &[u8]) -> bool
-    ensures { result ≡ list_all is_printable body.now }
-{
-    body.iter().all(|octet| 32 <= *octet && *octet <= 126)
-}
-
-/// Whether a body is a line: 1 to 4,096 printable octets.
-fn is_line(body: &[u8]) -> bool
-    ensures { result ≡ is_line body.now }
-{
-    0 < body.len() && body.len() <= MAX_LINE && is_printable(body)
-}
-
-fn first_word_length(line: &[u8]) -> usize
-    ensures value { result ≡ prefix_len is_not_space line.now }
-    ensures within { result ≤ length line.now }
-{
-    line.iter().take_while(|octet| **octet != b' ').count()
-}
-
-fn first_word(line: &[u8]) -> &[u8]
-    ensures { result.now ≡ first_word line.now }
-{
-    &line[..first_word_length(line)]
-}
-
-/// Whether the first word of a line is `names`. Such a line never goes to the bridge, which has no names.
-pub(crate) fn is_names_line(line: &[u8]) -> bool
-    ensures { result ≡ is_names_line line.now }
-{
-    first_word(line) == b"names".as_slice()
-}
-
-/// Whether a body is a change of names: it begins with that word, and isn't too long.
-fn is_change(body: &[u8]) -> bool
-    ensures { result ≡ is_change body.now }
-{
-    body.len() <= MAX_CHANGE && is_names_line(body)
-}
-
-/// Whether a line begins with a word that the page's operators may not send.
-fn is_reserved(line: &[u8]) -> bool
-    ensures { result ≡ is_reserved line.now }
-{
-    let word = first_word(line);
-    word == b"show".as_slice()
-        || word == b"history".as_slice()
-        || word == b"stats".as_slice()
-        || word == b"levels".as_slice()
-        || word == b"watch".as_slice()
-        || word == b"quit".as_slice()
-        || word == b"stop".as_slice()
-        || is_names_line(line)
 }
 
 fn line_route(body: &[u8]) -> Route
@@ -214,6 +152,22 @@ fn has_token(site: &Site, request: &Request<Bytes>) -> bool
     }
 }
 
+/// Who gives the request's line: `page` where the request doesn't say it.
+pub(crate) fn person_of(request: &Request<Bytes>) -> &[u8]
+    ensures { result.now ≡ person_of request.now }
+{
+    match request.headers().get("x-desk-person") {
+        Some(value) => value.as_bytes(),
+        None => b"page",
+    }
+}
+
+fn has_person(request: &Request<Bytes>) -> bool
+    ensures { result ≡ has_person request.now }
+{
+    is_person(person_of(request))
+}
+
 /// The route of a request to `/call`.
 fn call_route(site: &Site, request: &Request<Bytes>) -> Route
     ensures { result ≡ call_route site.now request.now }
@@ -222,6 +176,8 @@ fn call_route(site: &Site, request: &Request<Bytes>) -> Route
         Route::Refused(PageRefusal::NotAllowed)
     } else if !has_token(site, request) {
         Route::Refused(PageRefusal::NoToken)
+    } else if !has_person(request) {
+        Route::Refused(PageRefusal::NoPerson)
     } else {
         line_route(request.body().as_slice())
     }

@@ -9,6 +9,7 @@ ghost use Rattle.desk_http.specs.Services.{bridge_line, is_line_wanted, RoutesRe
 use crate::knowing::is_known;
 use crate::relaying::{Tables, relay};
 use crate::responding::{respond, respond_known, respond_mismatch};
+use crate::routing::person_of;
 use crate::{Assets, BridgeReply, Route, Site, route_of};
 use bytes::Bytes;
 use http::Request;
@@ -46,6 +47,8 @@ pub struct Router {
     pub site: Site,
     /// The page's files.
     pub assets: Assets,
+    /// Who gave the last request, as the request says it.
+    pub person: Vec<u8>,
     /// The request's line for the bridge. While there is one, what the connection would send is a placeholder.
     pub line: Option<Vec<u8>>,
 }
@@ -60,7 +63,10 @@ impl Service for Router {
     ) -> Result<(), AllocError> {
         let route = route_of(&self.site, request);
         respond(response, &self.site, self.assets, route)?;
-        self.line = copy_of(self.alloc, bridge_line(route, request.body().as_slice()))?;
+        let person = Vec::from_slice(self.alloc, person_of(request))?;
+        let line = copy_of(self.alloc, bridge_line(route, request.body().as_slice()))?;
+        self.person = person;
+        self.line = line;
         Ok(())
     }
 }

@@ -19,7 +19,7 @@ const DATAGRAMS: [RowField; 3] = [
     },
 ];
 
-const SENDER: [RowField; 16] = [
+const SENDER: [RowField; 22] = [
     RowField {
         name: "address",
         place: WordPlace::Word(1),
@@ -83,6 +83,30 @@ const SENDER: [RowField; 16] = [
     RowField {
         name: "energy",
         place: WordPlace::Behind("energy", 1),
+    },
+    RowField {
+        name: "bad_payload",
+        place: WordPlace::Behind("bad-payload", 1),
+    },
+    RowField {
+        name: "bad_type",
+        place: WordPlace::Behind("bad-type", 1),
+    },
+    RowField {
+        name: "spent",
+        place: WordPlace::Behind("spent", 1),
+    },
+    RowField {
+        name: "probation",
+        place: WordPlace::Behind("probation", 1),
+    },
+    RowField {
+        name: "jump",
+        place: WordPlace::Behind("jump", 1),
+    },
+    RowField {
+        name: "silent_ms",
+        place: WordPlace::Behind("silent", 1),
     },
 ];
 

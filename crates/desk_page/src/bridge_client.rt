@@ -115,8 +115,35 @@ impl BridgeClient {
     ) -> io::Result<()> {
         if self.stream.is_none() {
             self.stream = Some(connect_to(rt, registry, token, address)?);
-            self.connection.is_open = true;
+            self.connection.open();
         }
+        Ok(())
+    }
+
+    /// Whether the bridge knows the connection by this name.
+    pub(crate) fn has_name(&self, name: &[u8]) -> bool {
+        self.connection.has_name(name)
+    }
+
+    /// Whether the bridge has given the name that was asked for last.
+    pub(crate) fn is_named(&self) -> bool {
+        self.connection.is_named
+    }
+
+    /// Begins the request that gives the connection this name, as `begin` does one with a line.
+    pub(crate) fn begin_naming<N: Net>(
+        &mut self,
+        rt: &N,
+        alloc: Global,
+        registry: &Registry,
+        token: Token,
+        address: SocketAddr,
+        name: &[u8],
+        now: u64,
+    ) -> io::Result<()> {
+        self.connection.begin_naming(alloc, name, now)?;
+        self.ready = true;
+        let _ = self.connect(rt, registry, token, address);
         Ok(())
     }
 

@@ -1,5 +1,6 @@
 //! A browser's connection. It has one request.
 
+use crate::client_state::ClientState;
 use crate::server_config::ServerConfig;
 use desk_http::{ClientActivity, ClientStage, PendingLine, Query, Responder, Router};
 use http_server::Connection;
@@ -18,20 +19,6 @@ const MAX_REQUEST: usize = 278_529;
 /// How many reads or writes are tried in a row.
 const MAX_TRANSFERS: u32 = 16;
 
-/// The state of a connection. It goes from each to a later one.
-#[derive(Clone, Copy, PartialEq, Eq)]
-enum ClientState {
-    /// The request is read.
-    Reading,
-    /// The request waits for the bridge's reply.
-    Waiting,
-    /// The response is written.
-    Writing,
-    /// All was written, and the browser has to close.
-    Draining,
-    Closed,
-}
-
 /// A browser's connection.
 #[derive(Drop)]
 pub(crate) struct Client {
@@ -40,6 +27,8 @@ pub(crate) struct Client {
     /// All octets of the request.
     request: Vec<u8>,
     pending: PendingLine,
+    /// Who gave the line.
+    person: Vec<u8>,
     /// Its line was handed to the bridge and has no reply yet.
     awaits_reply: bool,
     state: ClientState,
@@ -73,6 +62,7 @@ impl Client {
             connection: config.new_connection(),
             request: Vec::new(config.alloc),
             pending: PendingLine::Reading,
+            person: Vec::new(config.alloc),
             awaits_reply: false,
             state: ClientState::Reading,
             id,
@@ -124,6 +114,15 @@ impl Client {
     pub(crate) fn dispatch_query(&mut self, query: Query) -> Option<Vec<u8>> {
         let line = self.pending.take_query(query);
         self.dispatch(line)
+    }
+
+    /// Who gave the line, if it is a call that is queued.
+    pub(crate) fn caller(&self) -> Option<&[u8]> {
+        if self.pending.has_call() {
+            Some(&self.person)
+        } else {
+            None
+        }
     }
 
     /// Takes the line for the bridge if it is a call.
@@ -228,6 +227,7 @@ impl Client {
         self.request.extend_from_slice(octets)?;
         feed(&mut self.connection, octets)?;
         self.connection.advance(router);
+        self.person = Vec::from_slice(router.alloc, &router.person)?;
         self.proceed(router.line.take(), now);
         Ok(())
     }

@@ -79,6 +79,16 @@ impl Clients {
         }
     }
 
+    /// Who gave the oldest connection's call, if there is one.
+    pub(crate) fn next_caller(&self) -> Option<&[u8]> {
+        for client in &self.connected {
+            if let Some(person) = client.caller() {
+                return Some(person);
+            }
+        }
+        None
+    }
+
     /// Takes the oldest connection's call, for the bridge.
     pub(crate) fn next_call(&mut self) -> Option<Vec<u8>> {
         for client in &mut self.connected {

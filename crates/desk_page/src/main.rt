@@ -6,10 +6,12 @@
 
 mod bridge_client;
 mod client;
+mod client_state;
 mod clients;
 mod markup;
 mod names_store;
 mod options;
+mod page_sockets;
 mod query_timer;
 mod script_lines;
 mod script_view;

@@ -54,6 +54,8 @@ pub(crate) const HTML_AFTER: &[u8] = br##"">
     </section>
     <section aria-labelledby="calls-title">
       <h2 id="calls-title">History</h2>
+      <label class="you"><span>Your name</span> <input id="person" autocomplete="nickname" dir="auto" spellcheck="false"
+        placeholder="page, as long as you say none"></label>
       <p id="no-calls" class="hint">Nothing was changed yet.</p>
       <ol id="calls"></ol>
     </section>

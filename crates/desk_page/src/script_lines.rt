@@ -1,9 +1,49 @@
 //! What the page makes of the bridge's texts, and the lines that clicks send.
 //! `tools/bridge make page` writes this file, from these files of web/:
-//! lines.js, overview.js, kept.js, levels.js, stats.js, rules.js, history.js.
+//! advice.js, lines.js, overview.js, kept.js, levels.js, stats.js, people.js, rules.js, history.js.
 
 /// The first part of the page's script.
 pub(crate) const LINES: &[u8] = br##""use strict";
+// What refusals and faults mean, and what to do. `tools/bridge make words` writes this.
+const advice = {
+  1: "it is there already: take another number, address, SSRC or index, or remove what is there",
+  2: "there is no such room: it may have been removed",
+  3: "there is no such member: it may have been removed",
+  4: "there is no such source: it may have gone with its member",
+  5: "there is no such slot: it may have gone with its member",
+  6: "the source is of the other kind: `set-gain` takes audio, `subscribe` and `pin` take video",
+  7: "they are in two rooms: move the member, or choose within the room",
+  8: "the SSRC is used already: take another one",
+  9: "a value is out of range: port 1 to 65535, index 0 to 15, gain 0 to 1024, rate 8000 or 44100",
+  10: "nothing to do: the desk is so already",
+  11: "nothing to do: there is none to take away",
+  12: "the table is full: remove something, or use another room",
+  13: "the bridge is out of memory: try again",
+  14: "another change came first: look at it, then name its number, or take your own call back by `revert`",
+  15: "there is nothing to undo",
+  16: "there is nothing to redo",
+  17: "the log is full: start the bridge anew",
+  18: "the group is empty",
+  19: "the group has over 64 commands: make it smaller",
+  20: "one command of the group is refused, so none of it happened",
+  21: "the room has another rate: one of 44100 Hz takes l16 alone, and members move between rooms of one rate",
+  23: "no such call is in force: it was undone or reverted, is an undo or a redo, or was never made; see `history`",
+  24: "over 256 commands lie behind it: give the command that takes it back, such as `unmute`",
+  25: "a later call rests on it: revert that one first, or give the command that takes yours back",
+  26: "somebody else would come or go with it: give the command that takes it back",
+};
+const faults = {
+  1: "the line is too long: 4096 octets are the most",
+  2: "an octet is none of a space to ~, and ends the connection",
+  3: "the word is none of those that may stand there",
+  4: "a word is missing",
+  5: "a word is too many, and each space makes one, also at the end",
+  6: "that is no number, or out of range",
+  7: "that is no address, such as 127.0.0.1:6000",
+  8: "those are no octets in hexadecimal",
+  9: "those packets make no frame",
+};
+
 // What the page makes of the desk's text, and the lines that clicks send. No function touches the page.
 
 // The rates of rooms, in Hz.
@@ -184,34 +224,6 @@ function suggested(desk) {
     ["add-source", "ssrc", 101], ["add-slot", "ssrc", 501]];
   return fields.map(([form, field, least]) => [form, field, free(desk, field, least)]);
 }
-
-const advice = {
-  1: "it is there already: take another number, address, SSRC or index, or remove what is there",
-  2: "there is no such room: it may have been removed",
-  3: "there is no such member: it may have been removed",
-  4: "there is no such source: it may have gone with its member",
-  5: "there is no such slot: it may have gone with its member",
-  6: "the source is of the other kind: choose one of this kind",
-  7: "they are in two rooms: move the member, or choose within the room",
-  8: "the SSRC is used already: take another one",
-  9: "a value is out of range: port 1 to 65535, index 0 to 15, gain 0 to 1024, rate 8000 or 44100",
-  10: "nothing to do: the desk is so already",
-  11: "nothing to do: there is none to take away",
-  12: "the table is full: remove something, or use another room",
-  13: "the bridge is out of memory: try again",
-  14: "another change came first: look at the desk, then try again",
-  15: "there is nothing to undo",
-  16: "there is nothing to redo",
-  17: "the log is full: start the bridge anew",
-  18: "the group is empty",
-  19: "the group has over 64 commands: make it smaller",
-  20: "one command of the group is refused, so none of it happened",
-  21: "the room has another rate: a room of 44100 Hz takes l16 alone, and a member moves between rooms of one rate",
-};
-const faults = {
-  1: "the line is too long", 2: "an octet is none of a space to ~", 3: "the word is unknown", 4: "a word is missing",
-  5: "a word is too many", 6: "that is no number, or out of range", 7: "that is no address, such as 127.0.0.1:6000",
-};
 
 // An answer of the bridge in words. `seen` is what the page knows: the names, the desk and the history.
 function inWords(said, seen = {}) {
@@ -550,7 +562,13 @@ function countInWords(count) {
   if (count.ago_ms === null) return "no packet came";
   const late = count.share > 0 ? `, ${(100 * count.share).toFixed(1)} percent of late` : "";
   const jitter = typeof count.jitter_ms === "number" ? `, jitter ${count.jitter_ms} ms` : "";
-  return `${count.packets} packets, ${count.lost} lost${late}${jitter}, the last one ${agoInWords(count.ago_ms)}`;
+  const told = `${count.packets} packets, ${count.lost} lost${late}${jitter}, the last one ${agoInWords(count.ago_ms)}`;
+  return `${told}${whyInWords(count)}`;
+}
+// Why a source isn't heard, though packets of it come.
+function whyInWords({ bad_payload: bad, bad_type: type, silent_ms: silent }) {
+  const dropped = bad > 0 ? `; ${bad} dropped as no sound of its room, the last one of type ${type}` : "";
+  return silent >= SILENT ? `${dropped}; silent for ${Math.floor(silent / 1000)} s of its sound` : dropped;
 }
 // What the receiver of a stream says of it.
 function streamInWords(count) {
@@ -623,6 +641,60 @@ function strangersIn(stats, desk) {
   return unknown.map((one) => strangerOf(desk, one));
 }
 
+// Who gave a call, and when. No function touches the page.
+
+// The name of somebody who has said none, how the name of a program begins, and the most octets of a name.
+const NOBODY = "page", PROGRAM = "agent-", LONGEST_PERSON = 64;
+function isProgram(name) { return name.startsWith(PROGRAM); }
+
+// A person's name as the bridge takes it: one word, in which `%` and two digits stand for each octet of UTF-8 that
+// isn't a letter, a digit or one of -_.!~*'() (RFC 3986 section 2.1). No person is a program, or nameless by `-`.
+function personWord(name) {
+  let word = "";
+  for (const letter of cut(name.toWellFormed())) {
+    const more = encodeURIComponent(letter);
+    if (word.length + more.length > LONGEST_PERSON - 2) break;
+    word += more;
+  }
+  return isProgram(word) || word === "-" ? word.replace("-", "%2D") : word || NOBODY;
+}
+// Controls, and marks that turn what follows.
+const HIDDEN = /[\u0000-\u001f\u007f-\u009f\u200e\u200f\u202a-\u202e\u2066-\u2069]/g;
+// The name in such a word, or the word where it is none.
+function personName(word) {
+  let name = word;
+  try {
+    name = decodeURIComponent(word);
+  } catch {
+    // Another program gave its connection a name with a `%` in it.
+  }
+  return cut(name.replace(HIDDEN, "")) || word;
+}
+
+// The calls in the text of /past.txt by their numbers, each with its moment, its operator, its name and its line. A
+// bridge that has no such text has none.
+function callsIn(text) {
+  const calls = new Map();
+  for (const row of text.split("\n")) {
+    const [, no, moment, op, name, line] = /^call ([0-9]+) ([0-9]+) ([0-9]+) (\S+) (.+)$/.exec(row) ?? [];
+    const [number, operator] = [Number(no), Number(op)];
+    if (line) calls.set(number, { number, moment: Number(moment), operator, name, line });
+  }
+  return calls;
+}
+
+// Who gave a call, in words. A name stands by itself, since it may run from right to left.
+function whoOf({ name = "-", operator }) {
+  return name === "-" ? `operator ${operator}` : `\u2068${personName(name)}\u2069`;
+}
+// When that was: the time of day, and the day too where it wasn't today.
+function timeOf(moment, now) {
+  const when = new Date(moment), [day, time] = [when.toDateString(), when.toTimeString().slice(0, 5)];
+  return day === new Date(now).toDateString() ? time : `${day.slice(4, 10)} ${time}`;
+}
+// Whether a call is another one's: neither this page's, nor by the name that its operator has.
+function isOthers(call, me, mine) { return call !== undefined && !mine.has(call.number) && call.name !== me; }
+
 // The rules of the page: what stays in its place, when a press is meant, and who is in trouble. No function touches the
 // page.
 
@@ -683,6 +755,39 @@ function placeChanges(before, after) {
 function inOldPlaces(before, now, key) {
   const found = new Map(now.map((one) => [one[key], one]));
   return before.map((one) => found.get(one[key]) ?? { ...one, hasLeft: true });
+}
+
+// What Undo takes back and Redo does again, where programs give calls as well. `calls` are those of the log. A person's
+// call is one that no program gave.
+function undoOf(past, calls) {
+  const over = passedOver(past, calls);
+  const one = past.done.findLast(({ number }) => isPersons(calls, number) && !over.has(number));
+  if (!one) return null;
+  const isNewest = one === past.done[past.done.length - 1];
+  return { number: one.number, line: isNewest ? lines.undo(past.version) : lines.revert(one.number) };
+}
+function redoOf(past, calls) {
+  const last = past.undone[past.undone.length - 1], over = passedOver(past, calls);
+  if (last) return { number: last.number, line: lines.redo(past.version) };
+  for (const { number } of past.done.filter((one) => isPersons(calls, one.number)).reverse()) {
+    if (!over.has(number)) return null;
+    const { number: taken, isBack } = over.get(number);
+    if (!isBack) return { number: taken, line: lines.revert(number) };
+  }
+  return null;
+}
+function isPersons(calls, number) { return !isProgram(calls.get(number)?.name ?? "-"); }
+// The reverts that are Undos and Redos: each takes back a person's call, or brings it back, behind which no other
+// person's call was in force. By its number, that call and whether it is back.
+function passedOver(past, calls) {
+  const over = new Map();
+  let newest = 0;
+  for (const { number, line } of past.done.filter((one) => isPersons(calls, one.number))) {
+    const turned = revertedBy(line) === null ? null : turnedBy(past.known, line);
+    if (turned && isPersons(calls, turned.number) && newest <= turned.number) over.set(number, turned);
+    else newest = number;
+  }
+  return over;
 }
 
 // What troubles a member: nothing comes of a source, many packets are lost on their way to the bridge or from it, or it
@@ -877,7 +982,8 @@ if (typeof module !== "undefined") {
     movedAll, goesAlong, changedRooms, nameRefusal, parseDesk, isMusic, roomsFor, codecOf, seen, videosFor, heard,
     lines, dropped, free, suggested, inWords, replyInWords, parseHistory, worded, callWords, begun, wayTo, wayWords,
     callInTheWay, changes, keptText, groupsIn, parseStats, agoInWords, isSilent, isLossy, countOf, countInWords,
-    streamInWords, turnedRooms, strangersIn, figuresOf, levelOf, speechAfter, levelInWords, spanInWords, objectsOfRow,
+    streamInWords, turnedRooms, strangersIn, personWord, personName, callsIn, whoOf, timeOf, isOthers, undoOf, redoOf,
+    figuresOf, levelOf, speechAfter, levelInWords, spanInWords, objectsOfRow,
     objectsOfLine, othersObjects, placeChanges, inOldPlaces, troubleOf, tallyOf, isCounted, linkOf, linkInWords };
 }
 "##;

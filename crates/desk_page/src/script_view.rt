@@ -1,6 +1,6 @@
 //! How the page shows the desk, and what is done at it.
 //! `tools/bridge make page` writes this file, from these files of web/:
-//! view.js, rows.js, page.js, link.js, counts.js, places.js, drawing.js, hands.js.
+//! view.js, rows.js, page.js, taking.js, link.js, counts.js, places.js, drawing.js, hands.js.
 
 /// The rest of the page's script.
 pub(crate) const VIEW: &[u8] = br##"// Drawing.
@@ -226,20 +226,20 @@ function strangerItem({ model: { address, ssrc, type, packets, member, isElsewhe
 }
 
 // A call of the history, and below the one that is clicked how it is taken back alone, and what leads to it.
-function callItem({ model: { number, operator, text, isUndone, isWalked, isOnWay, way, revert, hasLeft } }) {
+function callItem({ model: { number, when, who, text, isUndone, isWalked, isOnWay, way, revert, hasLeft } }) {
   return el("li", { class: `${isUndone ? "undone" : ""}${isOnWay ? " way" : ""}${hasLeft ? " left" : ""}` },
     el("button", { type: "button", class: "call", "data-act": "walk", "data-of": number, "data-key": `walk ${number}`,
       "aria-label": `${text} version ${number}`, "aria-expanded": String(isWalked) }, code(text)),
-    soft(`${isUndone ? "undone, " : ""}version ${number}, operator ${operator}`),
-    isWalked ? el("div", { class: "row" }, revert ? revertButton(number, operator, revert) : "",
+    soft(`${isUndone ? "undone, " : ""}${when}${who}, version ${number}`),
+    isWalked ? el("div", { class: "row" }, revert ? revertButton(number, who, revert) : "",
       el("span", { class: "soft grow" }, way.text),
       way.count ? does(way.label, "go", number, `to the desk behind version ${number}`) : "") : "");
 }
 // Takes one call back, and disturbs nobody. Of a long call the beginning is shown, and whose it is.
-function revertButton(number, operator, what) {
-  const line = lines.revert(number), whose = `, by operator ${operator}`;
+function revertButton(number, who, what) {
+  const line = lines.revert(number), whose = `, by ${who}`;
   return el("button", { type: "button", class: "small revert", title: line, "data-key": line, "data-line": line,
-    "data-words": `Revert: ${begun(what)}`, "aria-label": `Revert: ${what}${whose}, version ${number}`,
+    "data-act": "revert", "data-of": number, "aria-label": `Revert: ${what}${whose}, version ${number}`,
     "aria-busy": busy(line) }, el("span", {}, `Revert: ${what}`), whose);
 }
 function wayOf(way) {
@@ -378,6 +378,8 @@ const folded = new Map(), picked = new Set(), here = new Map();
 const widened = new Set(), resting = new Map(), suggestions = new Map();
 let desk = null, shownText = null, drag = null, group = [], timer = null, asking = false, opened = null, past = null;
 let names = {}, namesVersion = -1, walked = null, stats = null, counted = -Infinity;
+// The calls of the log, who is at this page, and what a question is about that a newer change closes.
+let calls = new Map(), me = NOBODY, asked = null;
 // The link: when news last came, what the program says of its bridge, and what the page makes of both.
 let lastNews = performance.now(), since = null, told = "", link = "connecting";
 // The versions that calls of this page made, when others have last changed an object, and which control is pressed.
@@ -460,15 +462,6 @@ async function call(line, words = line, key = pressed) {
   answered(control, version);
   show();
   return version;
-}
-
-// Undoes or redoes calls, one after another. It stops where one isn't accepted, such as where another call came first.
-async function goes({ word, calls }) {
-  const name = word === "undo" ? "Undo" : "Redo";
-  let version = past.version;
-  for (const { number } of calls) {
-    if (version) version = await call(`${word} ${version}`, `${name}: ${saidOf(number)}`, null);
-  }
 }
 
 // Hands the desk to the browser as a file.
@@ -600,6 +593,10 @@ const acts = {
   "mute-chosen": () => callAll(pickedVoices(false).map((s) => lines.mute(s.ssrc)), "mute the selected members"),
   "unmute-chosen": () => callAll(pickedVoices(true).map((s) => lines.unmute(s.ssrc)), "unmute the selected members"),
   clear: () => { picked.clear(); render(); },
+  revert: (of) => {
+    const number = Number(of), line = lines.revert(number);
+    takes({ number, line }, `Revert: ${begun(saidOf(number))}`, line, "Revert");
+  },
   save,
   restore: () => at("file").click(),
   name: async (of) => {
@@ -646,6 +643,40 @@ function setHere(member) {
   if (row) here.set(row.room, member);
 }
 
+// Taking calls back, and doing them again.
+
+// Asks before another one's calls are taken back. A change that comes meanwhile closes the question.
+async function mayTake(numbers, word) {
+  const others = numbers.map((number) => calls.get(number)).filter((one) => isOthers(one, me, mine));
+  if (others.length === 0) return true;
+  const [{ number, moment }] = others, whose = [...new Set(others.map(whoOf))].join(", ");
+  const many = others.length > 1 ? ` That is the newest of ${others.length}.` : "";
+  asked = { numbers, version: past.version };
+  const text = `${timeOf(moment, Date.now())} ${whoOf(others[0])}: ${saidOf(number)}.${many}`;
+  const isWanted = await question(`${word} what ${whose} did?`, text, word) !== null;
+  asked = null;
+  return isWanted;
+}
+function closeStale() {
+  if (!asked || asked.version === past.version) return;
+  at("ask").close();
+  notice("Not done: another change came first. Look, and press again.");
+}
+// Takes a call back, or does one again, by a line.
+async function takes({ number, line }, words, key, word) {
+  if (word === "Redo" || whyNot(line, key) || await mayTake([number], word)) await call(line, words, key);
+}
+
+// Undoes or redoes calls, one after another. It stops where one isn't accepted, such as where another call came first.
+async function goes({ word, calls: those }) {
+  const name = word === "undo" ? "Undo" : "Redo";
+  if (word === "undo" && !await mayTake(those.map(({ number }) => number), name)) return;
+  let version = past.version;
+  for (const { number } of those) {
+    if (version) version = await call(`${word} ${version}`, `${name}: ${saidOf(number)}`, null);
+  }
+}
+
 // Asking the page's program, and what comes in: the desk, its history, and what others did.
 
 async function ask(path, options) {
@@ -666,7 +697,7 @@ async function get(path) {
 
 // Posts. A token of an earlier run of the program is replaced, but nothing is sent twice.
 async function post(path, body) {
-  const reply = await ask(path, { method: "POST", headers: { "X-Desk-Token": token }, body });
+  const reply = await ask(path, { method: "POST", headers: { "X-Desk-Token": token, "X-Desk-Person": me }, body });
   if (reply.status === 403) await takeToken().catch(() => {});
   return reply;
 }
@@ -769,14 +800,18 @@ function loseSliders() {
   }
 }
 
-// The history, as the bridge tells it. Where it fails, it is asked for with the next desk.
+// The history and the log, as the bridge tells them. Where that fails, they are asked for with the next desk.
 async function takeHistory() {
-  const reply = await get("/history.txt");
+  const [reply, logged] = await Promise.all([get("/history.txt"), get("/past.txt")]);
   if (!reply.ok) return;
-  const before = past;
-  past = parseHistory(await reply.text(), past);
+  const before = past, next = parseHistory(await reply.text(), past);
+  const log = callsIn(logged.ok ? await logged.text() : "");
+  // A log from before the history lacks its newest calls.
+  calls = log.size === 0 || log.has(next.version) ? log : callsIn(await (await get("/past.txt")).text());
+  past = next;
   if (before) tellOthers(before);
   renderHistory();
+  closeStale();
 }
 
 // Tells what others did since the history before: their calls, or what they took back or did again.
@@ -789,8 +824,10 @@ function tellOthers(before) {
   const more = count > 1 ? `, and ${count - 1} more` : "", last = fresh[fresh.length - 1];
   const is = past.undone.length > before.undone.length ? "undid" : "did again";
   const [taken] = (is === "undid" ? past.undone : past.done).slice(-1);
-  if (last) tellNews(`operator ${last.operator}: ${worded(names, desk, last.line, past.known)}${more}`);
-  else if (taken) tellNews(`another operator ${is}: ${saidOf(taken.number)}${more}`);
+  const told = [...calls.values()].filter(({ number }) => number > before.version && !mine.has(number)).pop();
+  const who = told ? `${timeOf(told.moment, Date.now())} ${whoOf(told)}` : `operator ${last?.operator}`;
+  if (last) tellNews(`${who}: ${worded(names, desk, last.line, past.known)}${more}`);
+  else if (taken) tellNews(`${told ? who : "another operator"} ${is}: ${saidOf(taken.number)}${more}`);
 }
 
 
@@ -999,13 +1036,15 @@ function renderSum() {
 
 // Drawing what stands around the rooms, and all of the page.
 
-// Undo and Redo name the call that they take. Their line has the version at which that is so.
+// Undo and Redo name the call that they take. Their line has the version at which that is so, or is a revert that
+// leaves what programs did since.
 function button(id, word, top) {
-  const text = top ? `${word}: ${saidOf(top.number)}` : word, line = past ? `${id} ${past.version}` : "";
+  const text = top ? `${word}: ${saidOf(top.number)}` : word, isAlone = top?.line.startsWith("revert ");
   if (at(id).textContent !== text) at(id).textContent = text;
-  at(id).title = top ? `${text} (${line})` : past ? `there is nothing to ${id}` : "";
+  const how = `${text} (${top?.line}${isAlone ? ", later calls stay" : ""})`;
+  at(id).title = top ? how : past ? `there is nothing to ${id}` : "";
   at(id).disabled = !top;
-  at(id).onclick = () => call(line, text, id);
+  at(id).onclick = () => takes(top, text, id, word);
 }
 // Fills a choice again, and keeps what was picked.
 function options(form, field, values) {
@@ -1098,13 +1137,12 @@ function heldDetail(before, now) {
 }
 
 function renderHistory() {
-  const last = (calls) => calls?.[calls.length - 1];
-  button("undo", "Undo", last(past?.done));
-  button("redo", "Redo", last(past?.undone));
+  button("undo", "Undo", past && undoOf(past, calls));
+  button("redo", "Redo", past && redoOf(past, calls));
   const way = past && walked !== null ? wayTo(past, walked) : null, passed = way?.calls.map((one) => one.number) ?? [];
   const item = (one, isUndone) => {
     const isWalked = one.number === walked && way !== null, canRevert = isWalked && !isUndone && passed.length > 0;
-    return { key: one.number, model: { number: one.number, operator: one.operator, isUndone, isWalked,
+    return { key: one.number, model: { number: one.number, ...whenAndWho(one), isUndone, isWalked,
       text: worded(names, desk, one.line, past.known), isOnWay: passed.includes(one.number),
       way: isWalked ? wayOf(way) : null, revert: canRevert ? saidOf(one.number) : null } };
   };
@@ -1114,6 +1152,11 @@ function renderHistory() {
   drawHeld(at("calls"), [...undone, ...(past?.done ?? []).map((one) => item(one, false)).reverse()], callItem);
   // Where a call goes, as a revert takes it, the focus goes to the one after it, or else before it.
   if (row && !row.isConnected) others.find((one) => one.isConnected)?.querySelector("button").focus();
+}
+// When a call of the history was given, and by whom.
+function whenAndWho({ number, operator }) {
+  const one = calls.get(number);
+  return { when: one ? `${timeOf(one.moment, Date.now())} ` : "", who: whoOf(one ?? { operator }) };
 }
 // The rows after a row of a list, and then those before it, from the nearest one on.
 function besides(rows, row) {
@@ -1175,8 +1218,8 @@ document.addEventListener("click", (event) => {
     picked[node.checked ? "add" : "delete"](Number(node.dataset.select));
     render();
   } else presses(node.dataset.key, () => {
-    if (node.dataset.line) call(node.dataset.line, node.dataset.words);
-    else acts[node.dataset.act](node.dataset.of);
+    if (node.dataset.act) acts[node.dataset.act](node.dataset.of);
+    else call(node.dataset.line, node.dataset.words);
   });
 });
 // Does what a control is for. What it sends has its answer shown at the control.
@@ -1354,6 +1397,19 @@ at("file").addEventListener("change", async ({ target }) => {
   const [file] = target.files;
   if (file) await restore(await file.text());
   target.value = "";
+});
+// Who is at the page, as the browser keeps it.
+function takePerson(name) {
+  me = personWord(name);
+  if (past) renderHistory();
+}
+// A browser may refuse to keep anything.
+try { at("person").value = localStorage.getItem("person") ?? ""; } catch (error) { console.warn(error); }
+takePerson(at("person").value);
+at("person").addEventListener("change", ({ target }) => {
+  target.value = cut(target.value);
+  takePerson(target.value);
+  try { localStorage.setItem("person", target.value); } catch (error) { console.warn(error); }
 });
 at("search").addEventListener("input", () => render(null, true, true));
 at("sort").addEventListener("change", () => render(null, true, true));

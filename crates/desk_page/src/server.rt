@@ -3,91 +3,30 @@
 use crate::bridge_client::BridgeClient;
 use crate::clients::Clients;
 use crate::names_store::NamesStore;
+use crate::page_sockets::{LISTENER, PageSockets};
 use crate::query_timer::{QueryTimer, millis_since};
 use crate::server_config::ServerConfig;
 use crate::setup::{router_at, run_name, server_config};
-use desk_http::{Addresses, BridgeReply, DeskTexts, Query, Router};
-use mio::net::{TcpListener, TcpStream};
-use mio::{Events, Interest, Poll, Registry, Token};
+use desk_http::{Addresses, BridgeReply, DeskTexts, Query, Router, is_naming};
+use mio::net::TcpStream;
+use mio::{Interest, Token};
 use std::alloc::{AllocError, AllocGlobal, Global};
 use std::fs::Files;
 use std::io;
-use std::io::{Eprint, ErrorKind};
-use std::net::{Net, SocketAddr, SocketAddrV4};
+use std::io::Eprint;
+use std::net::{Net, SocketAddr};
 use std::random::RandomSource;
 use std::rt::Runtime;
 use std::sync::Wait;
-use std::time::{Clock, Duration, Instant};
-
-const LISTENER: Token = Token(0);
+use std::time::{Clock, Instant};
 
 const BRIDGE: Token = Token(1);
 /// The token of the first browser's connection.
 const FIRST_CLIENT: usize = 2;
-/// How many milliseconds a round waits at most.
-const MAX_WAIT: u64 = 25;
-/// How many of the system's events are taken at a time.
-const MAX_EVENTS: usize = 32;
 /// How many connections are accepted in a round at most.
 const MAX_ACCEPTS: u32 = 1_024;
 /// How many octets are read at a time.
 const CHUNK_SIZE: usize = 16_384;
-
-/// The socket that browsers connect to, and the events of all sockets.
-#[derive(Drop)]
-struct PageSockets {
-    poll: Poll,
-    events: Events,
-    listener: TcpListener,
-    /// Connections may be waiting, which the system reports only once.
-    may_accept: bool,
-}
-
-/// Opens the socket for browsers.
-fn listener_at<R: Net>(
-    rt: &R,
-    registry: &Registry,
-    address: SocketAddrV4,
-) -> io::Result<TcpListener> {
-    let mut listener = TcpListener::bind(rt, SocketAddr::V4(address))?;
-    registry.register(&mut listener, LISTENER, Interest::READABLE)?;
-    Ok(listener)
-}
-
-impl PageSockets {
-    /// Opens the socket for browsers at this address.
-    fn open<R: Net>(rt: &R, alloc: Global, address: SocketAddrV4) -> io::Result<Self> {
-        let poll = Poll::new(rt)?;
-        let events = Events::with_capacity(alloc, MAX_EVENTS)?;
-        let listener = listener_at(rt, poll.registry(), address)?;
-        Ok(Self {
-            poll,
-            events,
-            listener,
-            may_accept: true,
-        })
-    }
-
-    /// Waits until a socket is ready, for a round at most.
-    fn wait(&mut self) -> io::Result<()> {
-        self.poll
-            .poll(&mut self.events, Some(Duration::from_millis(MAX_WAIT)))
-    }
-
-    /// Accepts a connection, if one is waiting. Where the system has no descriptor for it, the next round tries again.
-    fn next_connection(&mut self) -> Option<TcpStream> {
-        if !self.may_accept {
-            return None;
-        }
-        match self.listener.accept() {
-            Ok((stream, _)) => Some(stream),
-            Err(error) => {
-                self.may_accept = error.kind() != ErrorKind::WouldBlock;
-                None
-            }
-        }
-    }
-}
 
 /// The page's server.
 #[derive(Drop)]
@@ -105,6 +44,7 @@ pub(crate) struct Server {
     bridge: BridgeClient,
     desk: QueryTimer,
     history: QueryTimer,
+    calls: QueryTimer,
     stats: QueryTimer,
     /// The buffer of all reads.
     chunk: Vec<u8>,
@@ -137,6 +77,7 @@ impl Server {
             bridge: BridgeClient::new(alloc),
             desk: QueryTimer::new(Query::Desk),
             history: QueryTimer::new(Query::History),
+            calls: QueryTimer::new(Query::Calls),
             stats: QueryTimer::new(Query::Stats),
             chunk: Vec::new(alloc),
         };
@@ -225,19 +166,43 @@ impl Server {
 
     /// The next line for the bridge: the oldest connection's call, or else a query.
     fn next_line(&mut self, now: u64) -> Option<Vec<u8>> {
-        if let Some(line) = self.clients.next_call() {
-            return Some(line);
+        match self.clients.next_call() {
+            Some(line) => Some(line),
+            None => self.due_query(now),
         }
+    }
+
+    fn due_query(&mut self, now: u64) -> Option<Vec<u8>> {
         if let Some(line) = self.clients.due_query(&mut self.desk, now) {
             return Some(line);
         }
         if let Some(line) = self.clients.due_query(&mut self.history, now) {
             return Some(line);
         }
+        if let Some(line) = self.clients.due_query(&mut self.calls, now) {
+            return Some(line);
+        }
         self.clients.due_query(&mut self.stats, now)
     }
 
+    /// Gives the connection the name of whom the next call is of, unless it has that name. Returns whether it does.
+    fn begin_naming<R: Net>(&mut self, rt: &R, now: u64) -> io::Result<bool> {
+        let (alloc, address) = (self.config.alloc, self.bridge_address);
+        let registry = self.sockets.poll.registry();
+        match self.clients.next_caller() {
+            Some(name) if !self.bridge.has_name(name) => {
+                self.bridge
+                    .begin_naming(rt, alloc, registry, BRIDGE, address, name, now)?;
+                Ok(true)
+            }
+            Some(_) | None => Ok(false),
+        }
+    }
+
     fn begin_request<R: Net>(&mut self, rt: &R, now: u64) -> io::Result<()> {
+        if self.begin_naming(rt, now)? {
+            return Ok(());
+        }
         if let Some(line) = self.next_line(now) {
             let registry = self.sockets.poll.registry();
             let (alloc, address) = (self.config.alloc, self.bridge_address);
@@ -264,11 +229,21 @@ impl Server {
         self.note_reply(&line, &mut reply)?;
         self.complete(&line, &reply, now);
         match reply {
-            BridgeReply::Text(_) => {}
+            BridgeReply::Text(_) => self.refuse_unnamed(&line, &reply, now),
             BridgeReply::Busy => self.complete_queued(&BridgeReply::Busy, now),
             BridgeReply::Gone | BridgeReply::Lost => self.complete_queued(&BridgeReply::Gone, now),
         }
         Ok(())
+    }
+
+    /// Responds to the next call by the answer to a name that the bridge doesn't give: without it the call isn't sent.
+    fn refuse_unnamed(&mut self, line: &[u8], reply: &BridgeReply, now: u64) {
+        if !is_naming(line) || self.bridge.is_named() {
+            return;
+        }
+        if let Some(call) = self.clients.next_call() {
+            self.complete(&call, reply, now);
+        }
     }
 
     fn note_desk(&mut self, text: &mut Vec<u8>) -> Result<(), AllocError> {
@@ -278,16 +253,21 @@ impl Server {
         self.texts.append_state(alloc, &self.run_name, text)
     }
 
-    /// Adds the version of the names to the desk, and the state that names its text. After a call the desk and the
-    /// history are asked for at once.
+    /// Adds the version of the names to the desk, and the state that names its text. After a call the desk, the history
+    /// and the log are asked for at once.
     fn note_reply(&mut self, line: &[u8], reply: &mut BridgeReply) -> Result<(), AllocError> {
         if line == Query::Desk.line() {
             if let BridgeReply::Text(text) = reply {
                 self.note_desk(text)?;
             }
-        } else if line != Query::History.line() && line != Query::Stats.line() {
+        } else if line != Query::History.line()
+            && line != Query::Calls.line()
+            && line != Query::Stats.line()
+            && !is_naming(line)
+        {
             self.desk.reset();
             self.history.reset();
+            self.calls.reset();
         }
         Ok(())
     }

@@ -49,6 +49,7 @@ pub(crate) fn router_at<R: RandomSource>(
         alloc,
         site: site(rt, alloc, address)?,
         assets: assets(),
+        person: Vec::new(alloc),
         line: None,
     })
 }

@@ -179,6 +179,9 @@ input[type="range"] { width: 8rem; padding: 0; }
 #strangers li { padding: .25rem 0; border-top: 1px solid var(--line); overflow-wrap: anywhere; }
 .source.silent::after { content: " \2716"; color: var(--warn); }
 .source.lossy::after { content: " \26A0"; color: var(--warn); }
+.you { display: grid; grid-template-columns: auto minmax(0, 1fr); gap: .4rem; align-items: center; font-size: .85em;
+  color: var(--soft); margin-bottom: .3rem; }
+.you input { color: var(--ink); min-height: 24px; }
 #calls { list-style: none; margin: 0; padding: 0; max-height: 15rem; overflow: auto; }
 #calls li, #collected li { padding: .25rem 0; border-top: 1px solid var(--line); overflow-wrap: anywhere; }
 code { font: .92em ui-monospace, "DejaVu Sans Mono", monospace; }

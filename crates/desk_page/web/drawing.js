@@ -1,12 +1,14 @@
 // Drawing what stands around the rooms, and all of the page.
 
-// Undo and Redo name the call that they take. Their line has the version at which that is so.
+// Undo and Redo name the call that they take. Their line has the version at which that is so, or is a revert that
+// leaves what programs did since.
 function button(id, word, top) {
-  const text = top ? `${word}: ${saidOf(top.number)}` : word, line = past ? `${id} ${past.version}` : "";
+  const text = top ? `${word}: ${saidOf(top.number)}` : word, isAlone = top?.line.startsWith("revert ");
   if (at(id).textContent !== text) at(id).textContent = text;
-  at(id).title = top ? `${text} (${line})` : past ? `there is nothing to ${id}` : "";
+  const how = `${text} (${top?.line}${isAlone ? ", later calls stay" : ""})`;
+  at(id).title = top ? how : past ? `there is nothing to ${id}` : "";
   at(id).disabled = !top;
-  at(id).onclick = () => call(line, text, id);
+  at(id).onclick = () => takes(top, text, id, word);
 }
 // Fills a choice again, and keeps what was picked.
 function options(form, field, values) {
@@ -99,13 +101,12 @@ function heldDetail(before, now) {
 }
 
 function renderHistory() {
-  const last = (calls) => calls?.[calls.length - 1];
-  button("undo", "Undo", last(past?.done));
-  button("redo", "Redo", last(past?.undone));
+  button("undo", "Undo", past && undoOf(past, calls));
+  button("redo", "Redo", past && redoOf(past, calls));
   const way = past && walked !== null ? wayTo(past, walked) : null, passed = way?.calls.map((one) => one.number) ?? [];
   const item = (one, isUndone) => {
     const isWalked = one.number === walked && way !== null, canRevert = isWalked && !isUndone && passed.length > 0;
-    return { key: one.number, model: { number: one.number, operator: one.operator, isUndone, isWalked,
+    return { key: one.number, model: { number: one.number, ...whenAndWho(one), isUndone, isWalked,
       text: worded(names, desk, one.line, past.known), isOnWay: passed.includes(one.number),
       way: isWalked ? wayOf(way) : null, revert: canRevert ? saidOf(one.number) : null } };
   };
@@ -115,6 +116,11 @@ function renderHistory() {
   drawHeld(at("calls"), [...undone, ...(past?.done ?? []).map((one) => item(one, false)).reverse()], callItem);
   // Where a call goes, as a revert takes it, the focus goes to the one after it, or else before it.
   if (row && !row.isConnected) others.find((one) => one.isConnected)?.querySelector("button").focus();
+}
+// When a call of the history was given, and by whom.
+function whenAndWho({ number, operator }) {
+  const one = calls.get(number);
+  return { when: one ? `${timeOf(one.moment, Date.now())} ` : "", who: whoOf(one ?? { operator }) };
 }
 // The rows after a row of a list, and then those before it, from the nearest one on.
 function besides(rows, row) {

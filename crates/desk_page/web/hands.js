@@ -14,8 +14,8 @@ document.addEventListener("click", (event) => {
     picked[node.checked ? "add" : "delete"](Number(node.dataset.select));
     render();
   } else presses(node.dataset.key, () => {
-    if (node.dataset.line) call(node.dataset.line, node.dataset.words);
-    else acts[node.dataset.act](node.dataset.of);
+    if (node.dataset.act) acts[node.dataset.act](node.dataset.of);
+    else call(node.dataset.line, node.dataset.words);
   });
 });
 // Does what a control is for. What it sends has its answer shown at the control.
@@ -193,6 +193,19 @@ at("file").addEventListener("change", async ({ target }) => {
   const [file] = target.files;
   if (file) await restore(await file.text());
   target.value = "";
+});
+// Who is at the page, as the browser keeps it.
+function takePerson(name) {
+  me = personWord(name);
+  if (past) renderHistory();
+}
+// A browser may refuse to keep anything.
+try { at("person").value = localStorage.getItem("person") ?? ""; } catch (error) { console.warn(error); }
+takePerson(at("person").value);
+at("person").addEventListener("change", ({ target }) => {
+  target.value = cut(target.value);
+  takePerson(target.value);
+  try { localStorage.setItem("person", target.value); } catch (error) { console.warn(error); }
 });
 at("search").addEventListener("input", () => render(null, true, true));
 at("sort").addEventListener("change", () => render(null, true, true));

@@ -140,6 +140,7 @@ if (typeof module !== "undefined") {
     movedAll, goesAlong, changedRooms, nameRefusal, parseDesk, isMusic, roomsFor, codecOf, seen, videosFor, heard,
     lines, dropped, free, suggested, inWords, replyInWords, parseHistory, worded, callWords, begun, wayTo, wayWords,
     callInTheWay, changes, keptText, groupsIn, parseStats, agoInWords, isSilent, isLossy, countOf, countInWords,
-    streamInWords, turnedRooms, strangersIn, figuresOf, levelOf, speechAfter, levelInWords, spanInWords, objectsOfRow,
+    streamInWords, turnedRooms, strangersIn, personWord, personName, callsIn, whoOf, timeOf, isOthers, undoOf, redoOf,
+    figuresOf, levelOf, speechAfter, levelInWords, spanInWords, objectsOfRow,
     objectsOfLine, othersObjects, placeChanges, inOldPlaces, troubleOf, tallyOf, isCounted, linkOf, linkInWords };
 }

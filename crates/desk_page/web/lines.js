@@ -1,4 +1,3 @@
-"use strict";
 // What the page makes of the desk's text, and the lines that clicks send. No function touches the page.
 
 // The rates of rooms, in Hz.
@@ -179,34 +178,6 @@ function suggested(desk) {
     ["add-source", "ssrc", 101], ["add-slot", "ssrc", 501]];
   return fields.map(([form, field, least]) => [form, field, free(desk, field, least)]);
 }
-
-const advice = {
-  1: "it is there already: take another number, address, SSRC or index, or remove what is there",
-  2: "there is no such room: it may have been removed",
-  3: "there is no such member: it may have been removed",
-  4: "there is no such source: it may have gone with its member",
-  5: "there is no such slot: it may have gone with its member",
-  6: "the source is of the other kind: choose one of this kind",
-  7: "they are in two rooms: move the member, or choose within the room",
-  8: "the SSRC is used already: take another one",
-  9: "a value is out of range: port 1 to 65535, index 0 to 15, gain 0 to 1024, rate 8000 or 44100",
-  10: "nothing to do: the desk is so already",
-  11: "nothing to do: there is none to take away",
-  12: "the table is full: remove something, or use another room",
-  13: "the bridge is out of memory: try again",
-  14: "another change came first: look at the desk, then try again",
-  15: "there is nothing to undo",
-  16: "there is nothing to redo",
-  17: "the log is full: start the bridge anew",
-  18: "the group is empty",
-  19: "the group has over 64 commands: make it smaller",
-  20: "one command of the group is refused, so none of it happened",
-  21: "the room has another rate: a room of 44100 Hz takes l16 alone, and a member moves between rooms of one rate",
-};
-const faults = {
-  1: "the line is too long", 2: "an octet is none of a space to ~", 3: "the word is unknown", 4: "a word is missing",
-  5: "a word is too many", 6: "that is no number, or out of range", 7: "that is no address, such as 127.0.0.1:6000",
-};
 
 // An answer of the bridge in words. `seen` is what the page knows: the names, the desk and the history.
 function inWords(said, seen = {}) {

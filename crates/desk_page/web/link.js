@@ -18,7 +18,7 @@ async function get(path) {
 
 // Posts. A token of an earlier run of the program is replaced, but nothing is sent twice.
 async function post(path, body) {
-  const reply = await ask(path, { method: "POST", headers: { "X-Desk-Token": token }, body });
+  const reply = await ask(path, { method: "POST", headers: { "X-Desk-Token": token, "X-Desk-Person": me }, body });
   if (reply.status === 403) await takeToken().catch(() => {});
   return reply;
 }
@@ -121,14 +121,18 @@ function loseSliders() {
   }
 }
 
-// The history, as the bridge tells it. Where it fails, it is asked for with the next desk.
+// The history and the log, as the bridge tells them. Where that fails, they are asked for with the next desk.
 async function takeHistory() {
-  const reply = await get("/history.txt");
+  const [reply, logged] = await Promise.all([get("/history.txt"), get("/past.txt")]);
   if (!reply.ok) return;
-  const before = past;
-  past = parseHistory(await reply.text(), past);
+  const before = past, next = parseHistory(await reply.text(), past);
+  const log = callsIn(logged.ok ? await logged.text() : "");
+  // A log from before the history lacks its newest calls.
+  calls = log.size === 0 || log.has(next.version) ? log : callsIn(await (await get("/past.txt")).text());
+  past = next;
   if (before) tellOthers(before);
   renderHistory();
+  closeStale();
 }
 
 // Tells what others did since the history before: their calls, or what they took back or did again.
@@ -141,6 +145,8 @@ function tellOthers(before) {
   const more = count > 1 ? `, and ${count - 1} more` : "", last = fresh[fresh.length - 1];
   const is = past.undone.length > before.undone.length ? "undid" : "did again";
   const [taken] = (is === "undid" ? past.undone : past.done).slice(-1);
-  if (last) tellNews(`operator ${last.operator}: ${worded(names, desk, last.line, past.known)}${more}`);
-  else if (taken) tellNews(`another operator ${is}: ${saidOf(taken.number)}${more}`);
+  const told = [...calls.values()].filter(({ number }) => number > before.version && !mine.has(number)).pop();
+  const who = told ? `${timeOf(told.moment, Date.now())} ${whoOf(told)}` : `operator ${last?.operator}`;
+  if (last) tellNews(`${who}: ${worded(names, desk, last.line, past.known)}${more}`);
+  else if (taken) tellNews(`${told ? who : "another operator"} ${is}: ${saidOf(taken.number)}${more}`);
 }

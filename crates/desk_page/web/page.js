@@ -5,6 +5,8 @@ const folded = new Map(), picked = new Set(), here = new Map();
 const widened = new Set(), resting = new Map(), suggestions = new Map();
 let desk = null, shownText = null, drag = null, group = [], timer = null, asking = false, opened = null, past = null;
 let names = {}, namesVersion = -1, walked = null, stats = null, counted = -Infinity;
+// The calls of the log, who is at this page, and what a question is about that a newer change closes.
+let calls = new Map(), me = NOBODY, asked = null;
 // The link: when news last came, what the program says of its bridge, and what the page makes of both.
 let lastNews = performance.now(), since = null, told = "", link = "connecting";
 // The versions that calls of this page made, when others have last changed an object, and which control is pressed.
@@ -87,15 +89,6 @@ async function call(line, words = line, key = pressed) {
   answered(control, version);
   show();
   return version;
-}
-
-// Undoes or redoes calls, one after another. It stops where one isn't accepted, such as where another call came first.
-async function goes({ word, calls }) {
-  const name = word === "undo" ? "Undo" : "Redo";
-  let version = past.version;
-  for (const { number } of calls) {
-    if (version) version = await call(`${word} ${version}`, `${name}: ${saidOf(number)}`, null);
-  }
 }
 
 // Hands the desk to the browser as a file.
@@ -227,6 +220,10 @@ const acts = {
   "mute-chosen": () => callAll(pickedVoices(false).map((s) => lines.mute(s.ssrc)), "mute the selected members"),
   "unmute-chosen": () => callAll(pickedVoices(true).map((s) => lines.unmute(s.ssrc)), "unmute the selected members"),
   clear: () => { picked.clear(); render(); },
+  revert: (of) => {
+    const number = Number(of), line = lines.revert(number);
+    takes({ number, line }, `Revert: ${begun(saidOf(number))}`, line, "Revert");
+  },
   save,
   restore: () => at("file").click(),
   name: async (of) => {

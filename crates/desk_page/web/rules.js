@@ -60,6 +60,39 @@ function inOldPlaces(before, now, key) {
   return before.map((one) => found.get(one[key]) ?? { ...one, hasLeft: true });
 }
 
+// What Undo takes back and Redo does again, where programs give calls as well. `calls` are those of the log. A person's
+// call is one that no program gave.
+function undoOf(past, calls) {
+  const over = passedOver(past, calls);
+  const one = past.done.findLast(({ number }) => isPersons(calls, number) && !over.has(number));
+  if (!one) return null;
+  const isNewest = one === past.done[past.done.length - 1];
+  return { number: one.number, line: isNewest ? lines.undo(past.version) : lines.revert(one.number) };
+}
+function redoOf(past, calls) {
+  const last = past.undone[past.undone.length - 1], over = passedOver(past, calls);
+  if (last) return { number: last.number, line: lines.redo(past.version) };
+  for (const { number } of past.done.filter((one) => isPersons(calls, one.number)).reverse()) {
+    if (!over.has(number)) return null;
+    const { number: taken, isBack } = over.get(number);
+    if (!isBack) return { number: taken, line: lines.revert(number) };
+  }
+  return null;
+}
+function isPersons(calls, number) { return !isProgram(calls.get(number)?.name ?? "-"); }
+// The reverts that are Undos and Redos: each takes back a person's call, or brings it back, behind which no other
+// person's call was in force. By its number, that call and whether it is back.
+function passedOver(past, calls) {
+  const over = new Map();
+  let newest = 0;
+  for (const { number, line } of past.done.filter((one) => isPersons(calls, one.number))) {
+    const turned = revertedBy(line) === null ? null : turnedBy(past.known, line);
+    if (turned && isPersons(calls, turned.number) && newest <= turned.number) over.set(number, turned);
+    else newest = number;
+  }
+  return over;
+}
+
 // What troubles a member: nothing comes of a source, many packets are lost on their way to the bridge or from it, or it
 // has the floor and is muted.
 function troubleOf(desk, stats, member) {

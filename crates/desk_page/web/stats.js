@@ -63,7 +63,13 @@ function countInWords(count) {
   if (count.ago_ms === null) return "no packet came";
   const late = count.share > 0 ? `, ${(100 * count.share).toFixed(1)} percent of late` : "";
   const jitter = typeof count.jitter_ms === "number" ? `, jitter ${count.jitter_ms} ms` : "";
-  return `${count.packets} packets, ${count.lost} lost${late}${jitter}, the last one ${agoInWords(count.ago_ms)}`;
+  const told = `${count.packets} packets, ${count.lost} lost${late}${jitter}, the last one ${agoInWords(count.ago_ms)}`;
+  return `${told}${whyInWords(count)}`;
+}
+// Why a source isn't heard, though packets of it come.
+function whyInWords({ bad_payload: bad, bad_type: type, silent_ms: silent }) {
+  const dropped = bad > 0 ? `; ${bad} dropped as no sound of its room, the last one of type ${type}` : "";
+  return silent >= SILENT ? `${dropped}; silent for ${Math.floor(silent / 1000)} s of its sound` : dropped;
 }
 // What the receiver of a stream says of it.
 function streamInWords(count) {

@@ -221,20 +221,20 @@ function strangerItem({ model: { address, ssrc, type, packets, member, isElsewhe
 }
 
 // A call of the history, and below the one that is clicked how it is taken back alone, and what leads to it.
-function callItem({ model: { number, operator, text, isUndone, isWalked, isOnWay, way, revert, hasLeft } }) {
+function callItem({ model: { number, when, who, text, isUndone, isWalked, isOnWay, way, revert, hasLeft } }) {
   return el("li", { class: `${isUndone ? "undone" : ""}${isOnWay ? " way" : ""}${hasLeft ? " left" : ""}` },
     el("button", { type: "button", class: "call", "data-act": "walk", "data-of": number, "data-key": `walk ${number}`,
       "aria-label": `${text} version ${number}`, "aria-expanded": String(isWalked) }, code(text)),
-    soft(`${isUndone ? "undone, " : ""}version ${number}, operator ${operator}`),
-    isWalked ? el("div", { class: "row" }, revert ? revertButton(number, operator, revert) : "",
+    soft(`${isUndone ? "undone, " : ""}${when}${who}, version ${number}`),
+    isWalked ? el("div", { class: "row" }, revert ? revertButton(number, who, revert) : "",
       el("span", { class: "soft grow" }, way.text),
       way.count ? does(way.label, "go", number, `to the desk behind version ${number}`) : "") : "");
 }
 // Takes one call back, and disturbs nobody. Of a long call the beginning is shown, and whose it is.
-function revertButton(number, operator, what) {
-  const line = lines.revert(number), whose = `, by operator ${operator}`;
+function revertButton(number, who, what) {
+  const line = lines.revert(number), whose = `, by ${who}`;
   return el("button", { type: "button", class: "small revert", title: line, "data-key": line, "data-line": line,
-    "data-words": `Revert: ${begun(what)}`, "aria-label": `Revert: ${what}${whose}, version ${number}`,
+    "data-act": "revert", "data-of": number, "aria-label": `Revert: ${what}${whose}, version ${number}`,
     "aria-busy": busy(line) }, el("span", {}, `Revert: ${what}`), whose);
 }
 function wayOf(way) {

@@ -1,7 +1,7 @@
 //! A case, by its first word.
 
 use crate::admissions::placement_is;
-use crate::connections::reply_is;
+use crate::connections::{is_named, reply_is};
 use crate::request::{octets_of, request_of, spoken};
 use crate::states::state_is;
 use desk_http::{
@@ -102,6 +102,7 @@ fn router_at(alloc: Global, port: u16) -> Result<Router, AllocError> {
         alloc,
         site: Site::new(alloc, address, Vec::from_slice(alloc, b"secret")?)?,
         assets: ASSETS,
+        person: Vec::new(alloc),
         line: None,
     })
 }
@@ -203,6 +204,13 @@ impl Page {
         }
     }
 
+    /// Whether the request is of this person.
+    fn is_of(&mut self, request: &str, wanted: &str) -> Option<bool> {
+        let (alloc, keys, config) = (self.alloc, self.keys, self.config);
+        drop(Self::response_of(alloc, keys, config, &mut self.router, request)?);
+        Some(self.router.person.as_slice() == wanted.as_bytes())
+    }
+
     /// The response to a request by this reply to this line.
     fn relayed(&self, line: &[u8], reply: &BridgeReply, request: &str) -> Option<Vec<u8>> {
         let site = &self.router.site;
@@ -242,6 +250,8 @@ impl Page {
             "route" => self.routes(7080, text, wanted),
             "route-80" => self.routes(80, text, wanted),
             "start" => may_start(text, wanted),
+            "person" => self.is_of(text, wanted),
+            "named" => is_named(self.alloc, text, wanted),
             "connection" => reply_is(self.alloc, text, wanted),
             "admit" => placement_is(self.alloc, text, wanted),
             "state" => state_is(self.alloc, text, wanted),

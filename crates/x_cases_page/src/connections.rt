@@ -64,3 +64,19 @@ pub fn reply_is(alloc: Global, text: &str, wanted: &str) -> Option<bool> {
     let is_reply = is_reply(alloc, &reply, wanted)?;
     Some(is_reply && connection.is_open == (state == "open"))
 }
+
+/// Whether the bridge knows the connection by a name, after it was asked for one: `NAME ; ASKED ; STEP ; STEP ..`.
+pub fn is_named(alloc: Global, text: &str, wanted: &str) -> Option<bool> {
+    let mut words = text.split(" ; ");
+    let name = words.next()?;
+    let mut connection = BridgeConnection::new(alloc);
+    connection.open();
+    connection
+        .begin_naming(alloc, words.next()?.as_bytes(), 0)
+        .ok()?;
+    steps(alloc, &mut connection, words)?;
+    let reply = connection.poll_reply(0);
+    let has_name = connection.has_name(name.as_bytes());
+    drop(reply);
+    Some(has_name == (wanted == "yes"))
+}

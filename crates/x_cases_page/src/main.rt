@@ -17,6 +17,9 @@
 //!   each of them `idle`, `sending`, `waiting` or `responding`. It gets a free place, none, or the place of the
 //!   connection with this number, from 0.
 //! - `state RUN ; TEXT ; TEXT .. > LINE`: the desk has these texts one after another in a run, and LINE names the last.
+//! - `person REQUEST > NAME`: the page takes the request as this person's.
+//! - `named NAME ; ASKED ; STEP ; STEP .. > yes`, or `no`: an open connection asks for the name ASKED, the steps are
+//!   those of `connection`, and the bridge knows it by NAME then.
 //! - `start BRIDGE LISTEN > yes`, or `no`: the page may start with these addresses.
 //!
 //! A REQUEST is `METHOD PATH FIELD=VALUE ..`, and after ` | ` its body. In all texts `\n` is an LF, and `TEXT*N` is a

@@ -1,0 +1,33 @@
+// Taking calls back, and doing them again.
+
+// Asks before another one's calls are taken back. A change that comes meanwhile closes the question.
+async function mayTake(numbers, word) {
+  const others = numbers.map((number) => calls.get(number)).filter((one) => isOthers(one, me, mine));
+  if (others.length === 0) return true;
+  const [{ number, moment }] = others, whose = [...new Set(others.map(whoOf))].join(", ");
+  const many = others.length > 1 ? ` That is the newest of ${others.length}.` : "";
+  asked = { numbers, version: past.version };
+  const text = `${timeOf(moment, Date.now())} ${whoOf(others[0])}: ${saidOf(number)}.${many}`;
+  const isWanted = await question(`${word} what ${whose} did?`, text, word) !== null;
+  asked = null;
+  return isWanted;
+}
+function closeStale() {
+  if (!asked || asked.version === past.version) return;
+  at("ask").close();
+  notice("Not done: another change came first. Look, and press again.");
+}
+// Takes a call back, or does one again, by a line.
+async function takes({ number, line }, words, key, word) {
+  if (word === "Redo" || whyNot(line, key) || await mayTake([number], word)) await call(line, words, key);
+}
+
+// Undoes or redoes calls, one after another. It stops where one isn't accepted, such as where another call came first.
+async function goes({ word, calls: those }) {
+  const name = word === "undo" ? "Undo" : "Redo";
+  if (word === "undo" && !await mayTake(those.map(({ number }) => number), name)) return;
+  let version = past.version;
+  for (const { number } of those) {
+    if (version) version = await call(`${word} ${version}`, `${name}: ${saidOf(number)}`, null);
+  }
+}
