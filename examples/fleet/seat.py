@@ -12,6 +12,8 @@ from refused import Refused
 # How many octets are taken at once. How many calls are remembered: others', those that wait to be looked at, and the
 # numbers of the agent's own.
 OCTETS, CALLS, FRESH, OWN = 65536, 64, 1024, 16384
+# The name of its connections.
+NAME = "agent-fleet"
 
 
 class Seat(Desk):
@@ -44,6 +46,8 @@ class Seat(Desk):
 
     def connect(self):
         self.stream, self.octets = socket.create_connection(self.address, 10), b""
+        # The page's Undo leaves what a program of such a name did.
+        self.asked(f"as {NAME}", lambda said: True, 1)
         self.told, self.is_new = int(self.asked("watch", lambda said: True, 1)[0][4:] or 0), True
         self.fresh.clear()
         if self.told < max(self.own, default=0):

@@ -78,7 +78,7 @@ def calls_of(engine, rows, gateway):
             continue
         call.room, call.mix = rows.members[call.member], rows.mixes[call.member]
         own = {kind: ssrc for ssrc, (member, kind) in rows.sources.items() if member == call.member}
-        call.voice, call.camera = own.get("audio"), own.get("video")
+        call.voice, call.camera, call.shares = own.get("audio"), own.get("video"), "screen" in own
         slots = sorted((index, ssrc) for ssrc, (member, index) in rows.slots.items() if member == call.member)
         call.slots = [ssrc for _, ssrc in slots]
         found.append(call)
@@ -101,6 +101,17 @@ def opened_by(history, numbers):
         words, more = first.split(" ")[2:], rest.split(" ")
         if words[:2] == ["group", "add-room"] and more[0] == "add-member" and int(more[1]) in numbers:
             found[int(words[2])] = int(more[1])
+    return found
+
+
+def screens_in(history, numbers):
+    """The screens of a gateway, by a desk's history: a source with video is one that hasn't come with its member."""
+    found = set()
+    for line in history:
+        parts = [part.split(" ") for part in line.split(" ", 2)[2].removeprefix("group ").split(" / ")]
+        new = {part[1] for part in parts if part[0] == "add-member"}
+        videos = [part for part in parts if part[0] == "add-source" and part[3] == "video"]
+        found |= {int(ssrc) for _, ssrc, member, _ in videos if int(member) in numbers and member not in new}
     return found
 
 

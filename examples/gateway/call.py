@@ -1,5 +1,6 @@
 """A call of a browser or a phone, and what rtpengine remembers of it for an agent that is started anew."""
 
+import contextlib
 import json
 import secrets
 import time
@@ -28,7 +29,11 @@ class Call:
         self.side, self.room, self.name, self.source, self.id = side, room, name[:40], source, secrets.token_hex(16)
         # The streams that the member gets. Slot 0 is the stage: it shows what operators pin, or who has the floor.
         self.mix, self.slots = secrets.randbits(32), [secrets.randbits(32) for _ in range(slots)]
-        self.member = self.voice = self.camera = self.refused = None
+        self.member = self.voice = self.camera = self.screen = self.refused = None
+        # Whether it shows its screen, under the SSRC that is always there for one.
+        self.shares = False
+        # Of a page with an invitation: whether that is a host's or a guest's.
+        self.role = None
         # The member that it is to be again, and the mix of that one: a page comes again by itself.
         self.again = None
         # Whether rtpengine has the call, and why it has ended. By what its table has it, and where the bridge sends.
@@ -56,6 +61,15 @@ class Call:
         """What rtpengine is to remember, with the gateway's own number: others may have calls there."""
         return json.dumps({"gateway": gateway} | {word: getattr(self, word) for word in TOLD} | more)
 
+    def sections(self):
+        """How many sections a browser's descriptions have: of its voice, its camera, each further slot, its screen."""
+        return 2 + len(self.slots)
+
+    def pictures(self):
+        """The SSRCs of the pictures that it shows, its screen first."""
+        shown = (self.screen if self.shares else None), self.camera
+        return [ssrc for ssrc in shown if ssrc is not None]
+
     def commands(self, member, address):
         """The commands that make its member, sources and slots."""
         group = [f"add-member {member} {self.room} {address} pcmu {self.mix} {numbers()}"]
@@ -64,17 +78,24 @@ class Call:
         return group + [f"add-slot {slot} {member} {index} {numbers()}" for index, slot in enumerate(self.slots)]
 
 
+def labels(tags):
+    """What rtpengine remembers of a call with these tags."""
+    for one in tags.values():
+        with contextlib.suppress(ValueError):
+            told = json.loads(one.get("label", ""))
+            if isinstance(told, dict):
+                yield told
+
+
 def labelled(tags, gateway):
     """The call of these tags of rtpengine, if it is this gateway's. Its member isn't known by that."""
-    for one in tags.values():
-        try:
-            told = json.loads(one.get("label", ""))
-        except ValueError:
-            continue
-        if isinstance(told, dict) and told.get("gateway") == gateway and told.keys() >= set(TOLD):
+    for told in labels(tags):
+        if told.get("gateway") == gateway and told.keys() >= set(TOLD):
             call = Call(told["side"], None, told["name"], told["source"], 0)
             call.key = tuple(told["key"]) if isinstance(told["key"], list) else told["key"]
             call.tag, call.is_held, call.is_open = told["tag"], told["is_held"], True
             call.is_transcoded, call.offer = told["is_transcoded"], told["offer"]
+            # A browser's answer has named it.
+            call.screen = next((one["screen"] for one in labels(tags) if "screen" in one), None)
             return call
     return None

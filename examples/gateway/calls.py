@@ -3,15 +3,17 @@
 import contextlib
 import hmac
 import itertools
+import json
 import secrets
 import threading
 import time
 
 import sdp
-from again import NO_MEMBER, Absents, calls_of, key_of, opened_by, tied
+from again import NO_MEMBER, Absents, calls_of, key_of, opened_by, screens_in, tied
 from call import Call, log
 from desk import FULL, MUSIC, ROOMS, SPEECH, Desk, Rows, groups_of, in_words
 from fleet_rooms import LEAST, Fleet
+from invitations import CLOSED, GUEST, HOST
 from keys import Pins
 from meeting import Meeting
 from mutes import Mutes
@@ -19,13 +21,16 @@ from own_rooms import EMPTY, OwnRooms
 from phone_calls import KNOWN, MUX, PhoneCalls
 from pictures import Pictures
 from refused import Refused, words_of
-from rtpengine import Rtpengine
+from rtpengine import Rtpengine, UnknownCall
 from targets import Targets
+from turn import servers
 
 # An agent's members have as many numbers, from `first_member` of the settings on.
 NUMBERS = 100_000
 # For how many seconds an agent that ends waits until Kamailio asks which calls are over.
 TELLING = 3
+# Where a browser is: ICE says so.
+NOWHERE = "127.0.0.1", 9
 # How often, each tenth of a second, an agent looks for a room that its fleet has placed.
 LOOKS = 50
 
@@ -44,6 +49,8 @@ class Calls(PhoneCalls, Meeting, Mutes):
         self.pages, self.ended, self.phones, self.lock = {}, {}, {}, threading.RLock()
         # The rooms that have names, and those that have a PIN; and set once Kamailio has heard which calls are over.
         self.names, self.pins, self.told_over = settings["names"], Pins(settings["pins"]), threading.Event()
+        # By which invitations are signed, where pages need them; and the TURN servers of pages.
+        self.key, self.turn = settings["invitations"]["key"], settings["turn"]
         # The desk as it was last read.
         self.seen = Rows()
         # Members that have to go from the desk, with their cameras, and the rooms that the agent added.
@@ -63,7 +70,7 @@ class Calls(PhoneCalls, Meeting, Mutes):
         with self.lock:
             before, now = self.seen, self.desk.rows()
             if before.version < 0:
-                self.takes_up(now)
+                now = self.takes_up()
             self.seen = now
             if before.version < 0 or self.fleet:
                 known = {call.member for call in self} | {member for member, _ in self.leaving}
@@ -78,19 +85,23 @@ class Calls(PhoneCalls, Meeting, Mutes):
             self.clear()
             return self.seen
 
-    def takes_up(self, rows):
-        """Takes up the calls of an agent before this one, and the rooms that it has opened."""
+    def takes_up(self):
+        """Takes up the calls of an agent before this one, and the rooms that it has opened. The desk as it is."""
+        history = self.desk.history()
+        self.desk.screens |= screens_in(history, self.numbers)
+        rows = self.desk.rows()
         found = {call.member: call for call in calls_of(self.engine, rows, self.settings["first_member"])}
         for call in found.values():
             call.table = self.pages if call.side == "browser" else self.phones
             call.key = call.id if call.side == "browser" else call.key
             call.table[call.key] = call
         # In a fleet rooms end by its agents.
-        for room, member in {} if self.fleet else opened_by(self.desk.history(), self.numbers).items():
+        for room, member in {} if self.fleet else opened_by(history, self.numbers).items():
             if room in rows.rooms:
                 self.own_rooms.add(room, found[member].source if member in found else "")
         if found:
             log(f"{len(found)} calls of an agent before this one go on")
+        return rows
 
     def begins_anew(self, before):
         """The bridge is another one. Pages come again; phones are members again, as they were. In a fleet its agents
@@ -113,10 +124,11 @@ class Calls(PhoneCalls, Meeting, Mutes):
 
     # Joining
 
-    def offer(self, room, name, source, again=None):
+    def offer(self, room, name, source, again=None, role=None):
         """The offer for a browser. The agent offers, so that all browsers have one payload type for VP8. `again` says
-        which member it was, and shows that."""
+        which member it was, and shows that. `role` is that of its invitation, where one is needed."""
         call = Call("browser", room, name, source, 1 + self.settings["pictures"])
+        call.role = role
         if again:
             key = key_of(self.secret, again["member"], again["mix"])
             if not hmac.compare_digest(key.encode(), again["key"].encode()):
@@ -129,22 +141,46 @@ class Calls(PhoneCalls, Meeting, Mutes):
             ways = {"ICE": "force", "SDES": ["off"], "rtcp_mux": MUX, "direction": ["bridge", "outside"]}
             ways |= {"transport_protocol": "UDP/TLS/RTP/SAVPF", "flags": KNOWN}
             said = self.opened(call, from_tag="bridge", sdp=own, label=self.label(call), **ways)
-            return {"id": call.id, "sdp": sdp.bundled(said["sdp"], [call.mix, *call.slots])}
+            offer = sdp.bundled(said["sdp"], [call.mix, *call.slots])
+            return {"id": call.id, "sdp": offer, "ice": servers(self.turn, call.mix)}
 
     def answer(self, call, text):
         """Takes a browser's answer, and makes it a member."""
         with self.whole_or_not(call):
             found = sdp.demand(text, from_browser=True)
             call.voice, call.camera = [*(one.ssrc for one in found), None][:2]
-            own = sdp.plain(("127.0.0.1", 9), "UDP/TLS/RTP/SAVPF", found[0].transport())
-            said = self.engine.ask("answer", call_id=call.id, from_tag="bridge", to_tag="browser", sdp=own, flags=KNOWN)
+            call.screen = found[-1].ssrc if len(found) == call.sections() else None
+            own = sdp.plain(NOWHERE, "UDP/TLS/RTP/SAVPF", found[0].transport())
+            tags, label = {"from_tag": "bridge", "to_tag": "browser"}, json.dumps({"screen": call.screen})
+            said = self.engine.ask("answer", call_id=call.id, **tags, sdp=own, flags=KNOWN, label=label)
             self.join(call, sdp.plain_address(said["sdp"]))
-        return {"member": call.member, "voice": call.voice, "camera": call.camera} | self.way_back(call)
+        own = {"member": call.member, "voice": call.voice, "camera": call.camera, "screen": call.screen}
+        return own | self.way_back(call)
+
+    def restart(self, call, text):
+        """Takes a browser's offer by which it restarts ICE (RFC 8445 section 9): its network has changed. It is the
+        member that it was, and at the desk nothing changes."""
+        found = sdp.demand(text, from_browser=True)
+        if call.member is None or len(found) != call.sections():
+            raise Refused("You have another call than that. Press Join.", 409)
+        own = sdp.plain(NOWHERE, "UDP/TLS/RTP/SAVPF", found[0].transport())
+        ways = {"ICE": "remove", "rtcp_mux": MUX, "direction": ["outside", "bridge"]}
+        ways |= {"transport_protocol": "RTP/AVPF", "flags": [*KNOWN, "port-latching"]}
+        tags = {"call_id": call.id, "from_tag": "browser", "to_tag": "bridge"}
+        try:
+            self.engine.ask("offer", **tags, sdp=own, **ways)
+            own = sdp.plain(self.bridge, "RTP/AVPF")
+            said = self.engine.ask("answer", **tags, sdp=own, ICE="force", flags=KNOWN)
+        except UnknownCall as why:
+            raise Refused(str(why), 410, True) from None
+        log(f"browser {call.name!r} has another network")
+        return {"sdp": sdp.bundled(said["sdp"], [call.mix, *call.slots], found)}
 
     def way_back(self, call):
-        """By what a page comes again, within how many seconds, and where else it may ask."""
+        """By what a page comes again, within how many seconds, where else it may ask, and by which TURN servers."""
         key = {"member": call.member, "mix": call.mix, "key": key_of(self.secret, call.member, call.mix)}
-        return {"again": key, "away": self.absent.away, "pages": self.fleet.pages if self.fleet else []}
+        pages, ice = self.fleet.pages if self.fleet else [], servers(self.turn, call.mix)
+        return {"again": key, "away": self.absent.away, "pages": pages, "ice": ice}
 
     def label(self, call, **more):
         return call.label(self.settings["first_member"], **more)
@@ -166,7 +202,7 @@ class Calls(PhoneCalls, Meeting, Mutes):
             table[key] = call
         if self.fleet:
             with self.whole_or_not(call):
-                self.fleet.demand(call.room)
+                self.fleet.demand(call.room, call.role != GUEST)
 
     def demand_room(self, call, rows):
         """Refuses a room that can't be joined, or that may not be opened."""
@@ -174,7 +210,9 @@ class Calls(PhoneCalls, Meeting, Mutes):
             raise Refused(MUSIC)
         if call.room in rows.rooms or self.fleet:
             return
-        if not self.settings["open_rooms"]:
+        if call.role == GUEST:
+            raise Refused(CLOSED.format(call.room), 404)
+        if call.role != HOST and not self.settings["open_rooms"]:
             raise Refused(f"There is no room {call.room}.", 404)
         if self.own_rooms.of(call.source, rows) >= self.settings["rooms"]:
             words = f"You have opened {self.settings['rooms']} rooms already. Try again when one of them is empty."
@@ -287,6 +325,9 @@ class Calls(PhoneCalls, Meeting, Mutes):
             rows = self.desk.rows()
             if call.room in rows.rooms and (not call.again or call.again[0] in rows.members):
                 return
+            if call.role == GUEST:
+                # It may have ended meanwhile.
+                self.fleet.demand(call.room, may_open=False)
             if not call.again:
                 self.fleet.place(call.room, call.source)
             time.sleep(0.1)

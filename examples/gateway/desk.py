@@ -51,9 +51,10 @@ def groups_of(commands):
 
 
 class Rows:
-    """The desk at one version. By default it is as nobody has read it yet."""
+    """The desk at one version. By default it is as nobody has read it yet. Of sources with video, `screens` are screens,
+    and the others cameras."""
 
-    def __init__(self, lines=("end -1",)):
+    def __init__(self, lines=("end -1",), screens=()):
         rows = [line.split() for line in lines]
         of = lambda kind: [row[1:] for row in rows if row[0] == kind]
         self.version = int(rows[-1][1])
@@ -63,8 +64,9 @@ class Rows:
         self.members = {int(row[1]): int(row[2]) for row in of("member")}
         self.mixes = {int(row[1]): int(row[5]) for row in of("member")}
         self.addresses = {row[3]: int(row[1]) for row in of("member")}
-        # Whose a source is, and of what kind; whose a slot is, and the how manieth.
-        self.sources = {int(ssrc): (int(member), kind) for ssrc, member, kind in of("source")}
+        # Whose a source is, and of what kind: "audio", "video" or "screen"; whose a slot is, and the how manieth.
+        kind_of = lambda ssrc, kind: "screen" if int(ssrc) in screens else kind
+        self.sources = {int(ssrc): (int(member), kind_of(ssrc, kind)) for ssrc, member, kind in of("source")}
         self.slots = {int(row[0]): (int(row[1]), int(row[2])) for row in of("slot")}
         self.subs = {int(slot): int(ssrc) for slot, ssrc in of("sub")}
         self.mutes = {int(ssrc) for ssrc, in of("mute")}
@@ -74,10 +76,12 @@ class Rows:
 
 
 class Desk:
-    """The agent's seat. It connects where it has to."""
+    """The agent's seat. It connects where it has to, and has a name that operators see (`calls`, `watch names`)."""
 
-    def __init__(self, address):
-        self.address, self.lock, self.lines = address, threading.Lock(), None
+    def __init__(self, address, name="agent-gateway"):
+        self.address, self.name, self.lock, self.lines = address, name, threading.Lock(), None
+        # The sources that are screens. The desk has no word for that.
+        self.screens = set()
 
     def ask(self, line, is_last=lambda said: True, count=1):
         """The lines that answer a line, up to the last one. Of several lines: so many answers."""
@@ -86,20 +90,26 @@ class Desk:
                 if self.lines is None:
                     with socket.create_connection(self.address, 10) as stream:
                         self.lines = stream.makefile("rw", newline="\n")
-                self.lines.write(line + "\n")
-                self.lines.flush()
-                answer = []
-                while len(answer) < count or not is_last(answer[-1]):
-                    answer.append(self.lines.readline().strip())
-                    if answer[-1] in ("", "busy"):
-                        raise OSError(answer[-1])
-                return answer
+                    # An older bridge knows no names. Its fault would end a connection whose first line that is.
+                    self.answer("history 0", lambda said: said.startswith("end "))
+                    self.answer(f"as {self.name}")
+                return self.answer(line, is_last, count)
             except OSError as why:
                 # A connection that is left open would keep its seat.
                 with contextlib.suppress(OSError, AttributeError):
                     self.lines.close()
                 self.lines = None
                 raise Refused(BUSY if str(why) == "busy" else GONE) from why
+
+    def answer(self, line, is_last=lambda said: True, count=1):
+        self.lines.write(line + "\n")
+        self.lines.flush()
+        answer = []
+        while len(answer) < count or not is_last(answer[-1]):
+            answer.append(self.lines.readline().strip())
+            if answer[-1] in ("", "busy"):
+                raise OSError(answer[-1])
+        return answer
 
     def history(self):
         """The last calls in force."""
@@ -112,16 +122,13 @@ class Desk:
         return list(itertools.takewhile(lambda line: line != "undone", lines[:-1]))
 
     def rows(self):
-        return Rows(self.ask("show", lambda said: said.startswith("end ")))
+        return Rows(self.ask("show", lambda said: said.startswith("end ")), self.screens)
 
     def version(self):
         return int(self.ask("history 0", lambda said: said.startswith("end "))[-1].split()[1])
 
     def levels(self):
         """How loud sources are (docs/FORMATS.md, Levels). None where the bridge is older than that."""
-        if self.lines is None:
-            # A fault of a connection's first line would end it.
-            self.version()
         lines = self.ask("levels", lambda said: said == "end" or said.startswith("fault "))
         return None if lines[-1].startswith("fault ") else lines[:-1]
 

@@ -6,6 +6,7 @@ import urllib.error
 import urllib.request
 
 from fleet_secret import secret_in, signed
+from invitations import CLOSED
 from refused import Refused
 
 # The least number of a gateway's member in a fleet. Members that signalling joins have less.
@@ -32,9 +33,13 @@ class Fleet:
         except (OSError, ValueError):
             raise Refused("The fleet doesn't answer. Try again in a minute.") from None
 
-    def demand(self, room):
-        """Refuses a room of another bridge, or one without a bridge for which another one has to be taken."""
-        self.is_here(room, self.ask(f"where?room={room}&at={self.udp}"))
+    def demand(self, room, may_open=True):
+        """Refuses a room of another bridge, or one without a bridge for which another one has to be taken, or that may
+        not be opened."""
+        told = self.ask(f"where?room={room}&at={self.udp}")
+        self.is_here(room, told)
+        if not may_open and not told["placed"]:
+            raise Refused(CLOSED.format(room), 404)
 
     def is_here(self, room, told):
         if told["udp"] != self.udp:

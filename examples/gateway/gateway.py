@@ -23,7 +23,9 @@ import tomllib
 
 from call import log
 from calls import Calls
+from invitations import LEAST
 from keys import Keys
+from names import Names
 from watch import Watch
 from web import ForBrowsers, ForKamailio, served
 
@@ -34,9 +36,12 @@ ADDRESSES += [("rtpengine", "keys")]
 MOST_PICTURES = 15
 # The settings that a file may leave out.
 DEFAULTS = {
+    "bridge": {"page": ""},
     "page": {"proxies": []},
     "phones": {"accounts": {}, "targets": [], "proxies": [], "tcp": "", "tls": "", "certificate": "", "key": ""},
     "calls": {"away": 30, "hold": 600, "removed": 5, "unanswered": 8, "rooms": 8},
+    "invitations": {"key": ""},
+    "turn": {"urls": [], "secret": ""},
     "names": {},
     "pins": {},
 }
@@ -56,6 +61,8 @@ def read(path):
         settings[table][key] = ip, int(port)
     if settings["calls"]["pictures"] not in range(MOST_PICTURES + 1):
         raise ValueError(f"`pictures` of [calls] has to be from 0 to {MOST_PICTURES}")
+    if 0 < len(settings["invitations"]["key"]) < LEAST:
+        raise ValueError(f"`key` of [invitations] has to have {LEAST} characters or more")
     return settings
 
 
@@ -67,6 +74,8 @@ def agent(settings, _):
     watch, page = Watch(calls), settings["page"]
     Keys(settings["rtpengine"]["keys"], calls).start()
     calls.pictures.start()
+    if settings["bridge"]["page"]:
+        Names(calls, settings["bridge"]["page"]).start()
     servers = [
         served(ForBrowsers, page["listen"], calls=calls, watch=watch, sites=page["sites"], proxies=page["proxies"]),
         served(ForKamailio, settings["phones"]["agent"], calls=calls),

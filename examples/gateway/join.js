@@ -3,64 +3,41 @@ const at = id => document.getElementById(id);
 const asked = new URLSearchParams(location.search);
 // `?plain` leaves the sound as the microphone gives it: for music, and for tones of a test.
 const plain = asked.has("plain");
+// The invitation that a link has: the gateway may want one.
+const invitation = asked.has("sign") && {
+  ...Object.fromEntries(["room", "name", "role", "sign"].map(key => [key, asked.get(key) || ""])),
+  until: Number(asked.get("until")),
+};
 // The call: its id at the gateway (`base`), what that said of the member, the connection, and the own devices.
 let call = null;
 // In ms: between two tries of a page to come again, and between two at others where its bridge is cut off.
 // And after how many questions that nobody has answered it asks the others.
 const TRY = 1000, CUT = 10000, SILENT = 4;
+// For how many ms a gateway may take to answer, as nothing says so where a network is lost; and for how many a note stands.
+const LOOKS = 4000, ASKS = 15000, NOTES = 6000;
+// What is said while the page comes back by itself.
+const SHORT = text => text.replace(/ (Press Join|Join it|Join again|Try again).*/, "");
 
 function say(text, wrong = false) {
   at("state").textContent = text;
   at("state").classList.toggle("wrong", wrong);
 }
 
+// Says something beside how the call stands, for some seconds.
+function tell(text) {
+  if (call) Object.assign(call, { note: text, noted: Date.now() });
+  say(text, true);
+}
+
 async function ask(base, path, words) {
-  const said = await fetch(base + path, { method: "POST", body: JSON.stringify(words) }).catch(() => null);
-  if (!said) throw new Error("The gateway doesn't answer.");
-  if (said.ok) return said.json();
-  const text = await said.text(), isTold = said.headers.get("Content-Type").startsWith("application/json");
+  const signal = AbortSignal.timeout(path === "offer" || path === "answer" ? ASKS : LOOKS);
+  const isGone = () => { throw new Error("The gateway doesn't answer."); };
+  const said = await fetch(base + path, { method: "POST", body: JSON.stringify(words), signal }).catch(isGone);
+  if (said.ok) return said.json().catch(isGone);
+  const text = await said.text().catch(isGone);
+  const isTold = said.headers.get("Content-Type").startsWith("application/json");
   const { words: why, again, page } = isTold ? JSON.parse(text) : { words: text };
   throw Object.assign(new Error(why), { status: said.status, again, page });
-}
-
-// Microphone and camera, or what there is of them. Who has neither, or doesn't allow them, listens.
-async function devices() {
-  if (!navigator.mediaDevices) throw new Error("Browsers give the camera to pages over HTTPS and to localhost alone.");
-  const process = !plain;
-  const audio = { echoCancellation: process, noiseSuppression: process, autoGainControl: process };
-  const video = { width: 640, height: 480 };
-  for (const wanted of [{ audio, video }, { audio }, { video }]) {
-    const found = await navigator.mediaDevices.getUserMedia(wanted).catch(() => null);
-    if (found) return found;
-  }
-  return new MediaStream();
-}
-
-function connected(mine) {
-  const peer = new RTCPeerConnection();
-  peer.ontrack = ({ track, streams: [stream], transceiver }) => {
-    if (track.kind === "audio") { at("mix").srcObject = stream; return; }
-    const slot = transceiver.mid - 1;
-    const figure = slot ? at("own").cloneNode(true) : at("stage");
-    if (slot) { figure.id = "slot" + slot; at("pictures").append(figure); }
-    figure.hidden = true;
-    figure.querySelector("video").srcObject = stream;
-  };
-  peer.onconnectionstatechange = () => {
-    if (peer.connectionState !== "failed" || mine !== call || mine.peer !== peer || mine.isComing) return;
-    leave("The way to the media server is closed. Is a firewall between?", true);
-  };
-  return peer;
-}
-
-async function gathered(peer) {
-  await peer.setLocalDescription();
-  const isDone = () => peer.iceGatheringState === "complete";
-  await new Promise(done => {
-    peer.onicegatheringstatechange = () => { if (isDone()) done(); };
-    if (isDone()) done();
-  });
-  return peer.localDescription.sdp;
 }
 
 async function join() {
@@ -68,7 +45,9 @@ async function join() {
   say("Joining ..");
   const mine = call = { base: "", pages: [], room: at("room").value, name: at("name").value, silent: 0, people: [] };
   try {
+    endTry();
     mine.own = await devices();
+    mine.own.getTracks().forEach(track => watchTrack(mine, track));
     await connect(mine, mine.base);
     if (call !== mine) return;
     at("own").querySelector("video").srcObject = mine.own;
@@ -76,8 +55,8 @@ async function join() {
     at("leave").disabled = false;
     at("microphone").disabled = !mine.own.getAudioTracks().length;
     at("camera").disabled = !mine.own.getVideoTracks().length;
-    mine.meter = metered(mine.own);
-    at("level").hidden = !mine.meter;
+    label();
+    measure(mine);
     mine.timers = [setInterval(look, 1000), setInterval(draw, 200)];
     look();
   } catch (why) {
@@ -89,7 +68,9 @@ async function join() {
 // before it lasts until then.
 async function connect(mine, base, again) {
   const { room, name } = mine, was = { id: mine.id, base: mine.base };
-  const { id, sdp } = await ask(base, "offer", again ? { room, name, again } : { room, name });
+  const words = again ? { again } : invitation ? { invitation } : {};
+  const { id, sdp, ice } = await ask(base, "offer", { room, name, ...words });
+  mine.ice = ice;
   const before = mine.peer, peer = connected(mine);
   if (!before) Object.assign(mine, { id, base, peer });
   try {
@@ -97,11 +78,13 @@ async function connect(mine, base, again) {
     await peer.setRemoteDescription({ type: "offer", sdp });
     // The tracks take the sections that the offer has for them.
     for (const track of mine.own.getTracks()) peer.addTrack(track, mine.own);
+    keepPlace(peer);
     const told = await ask(base, "answer", { id, sdp: await gathered(peer) });
     if (call !== mine) throw new Error("It has been left.");
     Object.assign(mine, { id, base, peer, told, pages: told.pages });
     if (before) before.close();
     if (was.id) ask(was.base, "leave", { id: was.id }).catch(() => {});
+    if (mine.screen) showScreen(mine);
   } catch (why) {
     peer.close();
     ask(base, "leave", { id }).catch(() => {});
@@ -115,7 +98,7 @@ async function comeAgain(mine, why, time = mine.told.away * 1000) {
   let page = why.page, last = why;
   const end = Date.now() + time;
   for (let isTime = true; isTime && call === mine; isTime = Date.now() < end) {
-    say(`${last.message.replace(/ (Press Join|Join it|Join again|Try again).*/, "")} Coming back ..`, true);
+    say(`${SHORT(last.message)} Coming back ..`, true);
     const asked = page;
     for (const base of new Set([page ? page + "/" : mine.base, mine.base, ...mine.pages.map(one => one + "/")])) {
       try {
@@ -130,19 +113,22 @@ async function comeAgain(mine, why, time = mine.told.away * 1000) {
         if (wrong.page) { page = wrong.page; break; }
       }
     }
-    if (page === asked) await new Promise(done => setTimeout(done, TRY));
+    if (page === asked) await pause(TRY);
   }
   if (call !== mine) return;
   // Where nobody answers, the call itself may go on.
   if (why.again) leave(last.message, true);
   Object.assign(mine, { isComing: false, silent: 0 });
+  if (call === mine && mine.hadWay && mine.peer.connectionState !== "connected") mend(mine);
 }
 
 // Asks the agent how things stand.
 async function look() {
   const mine = call;
-  if (mine.isComing) return;
+  if (mine.isComing || mine.isLooking) return;
+  mine.isLooking = true;
   const state = await ask(mine.base, "state", { id: mine.id }).catch(why => why);
+  mine.isLooking = false;
   if (call !== mine || mine.isComing) return;
   if (state instanceof Error) {
     if (state.status === 410 && !state.again) { leave(state.message, true); return; }
@@ -151,8 +137,8 @@ async function look() {
     if (state.again || mine.silent >= SILENT && mine.pages.length) comeAgain(mine, state);
     return;
   }
-  const { names, pages, people, speech, view } = state;
-  Object.assign(mine, { names, silent: 0, pages, room: state.room ?? mine.room, people, speech, view });
+  const { names, pages, people, speech, view, ice } = state;
+  Object.assign(mine, { names, silent: 0, pages, room: state.room ?? mine.room, people, speech, view, ice });
   mine.told.again = state.again;
   if (state.cut && mine.pages.length && Date.now() > (mine.next || 0)) {
     mine.next = Date.now() + CUT;
@@ -168,9 +154,11 @@ async function look() {
   if (me.muted === "operator") parts.push("An operator has muted your voice.", me.speaks ? "Nobody hears you." : "");
   if (me.muted === "itself") parts.push("You have muted yourself.");
   if (state.muted.includes(camera)) parts.push("An operator has stopped your picture.");
+  parts.push(isIn ? lookAtScreen(mine, me, state.muted) : "");
+  if (mine.isMending) parts.push("Your connection is broken. Coming back ..");
   if (view && view.weak) parts.push("Your connection loses packets: you get fewer pictures.");
-  parts.push(state.trouble);
-  say(parts.filter(Boolean).join(" "), !isIn || state.trouble !== "");
+  parts.push(Date.now() - (mine.noted || 0) < NOTES ? mine.note : "", state.trouble);
+  say(parts.filter(Boolean).join(" "), !isIn || mine.isMending || state.trouble !== "");
   showPeople(mine);
   showView(mine);
   // The others see who has muted himself. An operator may have unmuted him: his microphone is off still.
@@ -195,6 +183,8 @@ function draw() {
     const names = from.map(source => (call.names || {})[source] || `source ${source}`).join(", ");
     if (mid === "0") { at("heard").textContent = names && !call.speech ? `You hear ${names}.` : ""; continue; }
     const figure = mid === "1" ? at("stage") : at("slot" + (mid - 1));
+    // The screen has a section of its own, by which nothing comes.
+    if (!figure) continue;
     figure.hidden = !names;
     figure.querySelector("figcaption").textContent = names;
     figures.set(figure, from);
@@ -211,18 +201,20 @@ function clear() {
 }
 
 function leave(text, wrong = false) {
-  const { id, base, peer, own, meter, timers = [] } = call || {};
+  const { id, base, peer, own, meter, screen, timers = [] } = call || {};
   call = null;
   timers.forEach(clearInterval);
   if (id) ask(base, "leave", { id }).catch(() => {});
   if (peer) peer.close();
   if (own) own.getTracks().forEach(track => track.stop());
+  if (screen) screen.track.stop();
   if (meter) meter.close();
   clear();
   at("own").hidden = at("level").hidden = true;
   at("join").disabled = at("name").disabled = at("room").disabled = false;
   for (const { name, texts } of switches) turn(at(name), texts, false, []);
   at("leave").disabled = at("microphone").disabled = at("camera").disabled = true;
+  label();
   say(text, wrong);
 }
 
@@ -255,8 +247,16 @@ function turnTo(page) {
 at("speakers").onclick = () => turnTo(0);
 at("before").onclick = () => turnTo(call.view.page - 1);
 at("next").onclick = () => turnTo(call.view.page + 1);
+for (const [kind, { choice }] of Object.entries(KINDS)) at(choice).onchange = () => choose(kind, at(choice).value);
+at("try").onclick = () => tried ? endTry() : tryDevices().catch(why => say(why.message, true));
+if (navigator.mediaDevices) navigator.mediaDevices.ondevicechange = listDevices;
+listDevices();
+at("screen").onclick = () => call.screen ? unshare(call) : share();
 at("room").value = asked.get("room") || 1;
 at("name").value = asked.get("name") || "guest";
+// What an invitation says can't be had otherwise.
+at("room").readOnly = Boolean(invitation);
+at("name").readOnly = Boolean(invitation && invitation.name);
 at("form").onsubmit = event => { event.preventDefault(); join(); };
 at("leave").onclick = () => leave("You have left.");
 addEventListener("pagehide", () => {

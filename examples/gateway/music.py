@@ -20,7 +20,7 @@ from room_member import FIRST, RoomMember
 class Music:
     def __init__(self, room, file, *settings):
         self.room, self.file, self.settings = room, file, settings
-        self.desk, self.one, self.player = RoomMember(room, *settings).desk, None, None
+        self.desk, self.one, self.player = RoomMember("agent-music", room, *settings).desk, None, None
 
     def look(self):
         """Plays while one caller is in the room, and no longer."""
@@ -31,7 +31,7 @@ class Music:
             self.end()
 
     def begin(self):
-        self.one = RoomMember(self.room, *self.settings)
+        self.one = RoomMember("agent-music", self.room, *self.settings)
         self.one.desk = self.desk
         self.one.joins(speaks=True)
         words = ["ffmpeg", "-v", "error", "-re", "-stream_loop", "-1", "-i", self.file, "-vn", "-ac", "1", "-ar", "8000"]

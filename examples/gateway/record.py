@@ -22,7 +22,7 @@ def main():
     if len(sys.argv) not in (3, 4) or not sys.argv[1].isdecimal():
         sys.exit(__doc__)
     ends = signal.SIGINT, signal.SIGTERM
-    one = RoomMember(int(sys.argv[1]), *sys.argv[3:])
+    one = RoomMember("agent-recording", int(sys.argv[1]), *sys.argv[3:])
     with tempfile.NamedTemporaryFile("w", suffix=".sdp") as file:
         file.write(one.description())
         file.flush()

@@ -1,34 +1,8 @@
-// What the page shows of the room: who is in it, who speaks and who is muted, which picture is large, and the level of
-// the own microphone.
+// What the page shows of the room: who is in it, who speaks and who is muted, and which picture is large.
 "use strict";
 
 // For how many ms a picture stays large at least.
 const LARGE = 3000;
-// The level in dB below full scale at which the meter is empty.
-const FLOOR = -60;
-
-// A level meter of a microphone, which hears it also while it is muted. None where there is no microphone.
-function metered(stream) {
-  const [track] = stream.getAudioTracks();
-  if (!track || typeof AudioContext === "undefined") return null;
-  const own = track.clone(), context = new AudioContext(), analyser = context.createAnalyser();
-  own.enabled = true;
-  context.createMediaStreamSource(new MediaStream([own])).connect(analyser);
-  context.resume();
-  const samples = new Float32Array(analyser.fftSize);
-  return {
-    // From 0 to 1.
-    level() {
-      analyser.getFloatTimeDomainData(samples);
-      const power = samples.reduce((sum, x) => sum + x * x, 0) / samples.length;
-      return Math.max(0, 1 - 10 * Math.log10(power + 1e-12) / FLOOR);
-    },
-    close() {
-      own.stop();
-      context.close();
-    },
-  };
-}
 
 // By whom somebody is muted, in words.
 const MUTED = { itself: "muted", operator: "muted by an operator" };
@@ -37,16 +11,17 @@ const MUTED = { itself: "muted", operator: "muted by an operator" };
 function showPeople(mine) {
   const lines = mine.people.map(one => {
     const line = document.createElement("li"), isOwn = one.member === mine.told.member;
-    const words = [isOwn ? `${one.name} (you)` : one.name, one.speaks && !one.muted ? "speaks" : "", MUTED[one.muted]];
+    const name = isOwn ? `${one.name} (you)` : one.name, speaks = one.speaks && !one.muted;
+    const words = [name, speaks ? "speaks" : "", MUTED[one.muted], one.away && !isOwn ? "away" : ""];
     line.textContent = words.filter(Boolean).join(", ");
-    line.classList.toggle("speaks", one.speaks && !one.muted);
+    line.classList.toggle("speaks", speaks);
     return line;
   });
   at("people").replaceChildren(...lines);
 }
 
-// Marks whose pictures speak or are muted. One picture is large: the stage's, or else that of who speaks. Each figure
-// comes with the cameras that it shows.
+// Marks whose pictures speak or are muted. One picture is large: the stage's, or else a screen, or that of who speaks. Each
+// figure comes with the cameras that it shows.
 function showPictures(mine, figures) {
   const byCamera = new Map(mine.people.map(one => [one.camera, one])), speaking = [];
   for (const [figure, [camera]] of figures) {
@@ -56,8 +31,11 @@ function showPictures(mine, figures) {
     if (speaks) speaking.push(camera);
   }
   const { large = { since: 0 } } = mine, now = Date.now();
+  const screens = mine.people.map(one => one.screen).filter(Boolean);
+  const [screen] = [...figures.values()].flat().filter(camera => screens.includes(camera));
   const stays = speaking.includes(large.camera) || now - large.since < LARGE;
-  if (!stays && speaking.length) mine.large = { camera: speaking[0], since: now };
+  if (screen) mine.large = { camera: screen, since: 0 };
+  else if (!stays && speaking.length) mine.large = { camera: speaking[0], since: now };
   for (const [figure, [camera]] of figures) {
     const isIt = Boolean(mine.large && mine.large.camera === camera) && at("stage").hidden;
     figure.classList.toggle("large", isIt || figure === at("stage"));

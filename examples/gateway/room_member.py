@@ -15,13 +15,13 @@ FOLDER = pathlib.Path(__file__).resolve().parent
 
 
 class RoomMember:
-    """`settings` are those of the gateway. The member has a port, and two SSRCs: of what it gets, and of what it sends.
-    A program opens the port later."""
+    """`name` is that of its connection, `settings` are those of the gateway. The member has a port, and two SSRCs: of
+    what it gets, and of what it sends. A program opens the port later."""
 
-    def __init__(self, room, settings=None):
+    def __init__(self, name, room, settings=None):
         bridge = tomllib.loads(pathlib.Path(settings or FOLDER / "gateway.toml").read_text())["bridge"]
         self.bridge, (host, _, port) = bridge["udp"], bridge["tcp"].rpartition(":")
-        self.desk, self.room, self.member = Desk((host, int(port))), room, FIRST + secrets.randbelow(COUNT)
+        self.desk, self.room, self.member = Desk((host, int(port)), name), room, FIRST + secrets.randbelow(COUNT)
         with socket.socket(socket.AF_INET, socket.SOCK_DGRAM) as one:
             one.bind(("127.0.0.1", 0))
             self.port = one.getsockname()[1]

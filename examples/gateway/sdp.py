@@ -109,22 +109,27 @@ def refusing_others(answer, offer):
     return answer + described(f"m={one.kind} 0 {one.protocol} {' '.join(one.types)}" for one in offer[1:])
 
 
-def bundled(text, streams):
-    """The offer for a browser: its voice and the mix, its camera and slot 0, and a section for each further slot.
+def bundled(text, streams, offer=None):
+    """The offer for a browser: its voice and the mix, its camera and slot 0, a section for each further slot, and one for
+    its screen. Or the answer to its own offer of these sections.
 
     It has no header extension, no RTX and no reduced-size RTCP, and of the feedback NACK and PLI alone, as the bridge
     has no more.
     """
     first = sections(text)[0]
+    ways = ["sendrecv" if mid < 2 else "sendonly" for mid in range(len(streams))] + ["recvonly"]
+    if offer:
+        ways = [ANSWERS[direction_of(one)] for one in offer]
     shared = ["c=IN IP4 0.0.0.0", *(f"a={one}" for one in first.transport()), "a=rtcp-mux"]
     voice = [f"a=rtpmap:{PCMU} PCMU/8000", "a=ptime:20"]
     camera = [f"a=rtpmap:{VP8} VP8/90000", f"a=rtcp-fb:{VP8} nack", f"a=rtcp-fb:{VP8} nack pli"]
-    lines = [*session("127.0.0.1"), "a=group:BUNDLE " + " ".join(str(mid) for mid in range(len(streams)))]
-    for mid, ssrc in enumerate(streams):
+    lines = [*session("127.0.0.1"), "a=group:BUNDLE " + " ".join(str(mid) for mid in range(len(ways)))]
+    for mid, ssrc in enumerate([*streams, None]):
         kind, type_, own = ("video", VP8, camera) if mid else ("audio", PCMU, voice)
         lines += [f"m={kind} {first.port} UDP/TLS/RTP/SAVPF {type_}", *shared, f"a=mid:{mid}", *own]
-        lines += ["a=sendrecv" if mid < 2 else "a=sendonly", f"a=ssrc:{ssrc} cname:bridge"]
-        lines.append(f"a=ssrc:{ssrc} msid:stream{mid} {kind}{mid}")
+        lines.append(f"a={ways[mid]}")
+        if ssrc is not None:
+            lines += [f"a=ssrc:{ssrc} cname:bridge", f"a=ssrc:{ssrc} msid:stream{mid} {kind}{mid}"]
     return described(lines)
 
 

@@ -3,7 +3,8 @@
 Slot 0 of a member is its stage: the desk shows there what operators pin, or who has the floor. The other slots follow
 this rule. They show the cameras of the others in the room, each once, and none that the stage shows. Where there are
 more cameras than slots, those come first whose members spoke last, and then the others as they joined. A camera that
-is muted comes last. Who pages by hand sees a part of the others, as they joined, whoever speaks.
+is muted comes last. A screen that is shown is a camera, too, and comes before all others. Who pages by hand sees a part
+of the others, as they joined, whoever speaks.
 
 A slot that shows nothing is filled at once. One that shows a picture keeps it for `HOLD` seconds, and a change of a
 room gives a member one new picture for one that goes. Pins, pages and a weak way to a member change its slots at once.
@@ -46,7 +47,7 @@ class Stage:
         self.since = {slot: now if slot in new else self.since.get(slot, now) for slot in rows.slots}
         self.rows, self.cameras, self.slots = rows, collections.defaultdict(list), collections.defaultdict(dict)
         places = {member: place for place, member in enumerate(rows.members)}
-        videos = [(places[member], ssrc, member) for ssrc, (member, kind) in rows.sources.items() if kind == "video"]
+        videos = [(places[member], ssrc, member) for ssrc, (member, kind) in rows.sources.items() if kind != "audio"]
         for _, ssrc, member in sorted(videos):
             self.cameras[rows.members[member]].append(ssrc)
         for slot, (member, index) in rows.slots.items():
@@ -92,7 +93,8 @@ class Stage:
             first = self.most(member) * (min(page, self.count(member)) - 1)
             return others[first:] + others[:first]
         spoke = lambda camera: self.spoke.get(self.owner(camera), -math.inf)
-        return sorted(others, key=lambda camera: (camera in self.rows.mutes, -spoke(camera), camera not in shown))
+        is_last = lambda camera: (camera in self.rows.mutes, self.rows.sources[camera][1] != "screen")
+        return sorted(others, key=lambda camera: (*is_last(camera), -spoke(camera), camera not in shown))
 
     def changes_of(self, member, now):
         """The commands by which a member's slots show what they are to show next."""

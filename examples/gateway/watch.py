@@ -7,12 +7,13 @@ import traceback
 
 from call import log
 from desk import Rows, in_words
-from people import people
+from people import names_of, people
 from refused import FAILED, Refused, words_of
 from rtpengine import UnknownCall
 
 
-# The seconds within which a phone's sound has to come after its INVITE, or the PIN of its room.
+# The seconds within which a phone's sound has to come after its INVITE, or a page's answer after its offer; or the PIN of
+# a room.
 UNHEARD, UNTYPED = 10, 45
 # How often the bridge is asked for the SSRC that rtpengine has drawn for a phone, at most.
 ASKED = 20
@@ -100,10 +101,10 @@ class Watch:
         except UnknownCall as why:
             self.calls.lost(call, str(why))
             return
-        if came.packets != call.packets:
-            call.packets = came.packets
-            if call.ip in (None, came.ip):
-                self.is_alive(call)
+        if came.packets > call.packets and call.ip in (None, came.ip):
+            self.is_alive(call)
+        # What rtpengine drops makes fewer of them.
+        call.packets = came.packets
         silence = self.patience(call)
         if time.monotonic() - call.alive > silence:
             self.calls.end(call, f"Nothing has come from your {call.side} for {silence} s. Press Join to come back.")
@@ -149,9 +150,9 @@ class Watch:
             call.alive = time.monotonic()
 
     def patience(self, call):
-        """For how many seconds nothing may come."""
+        """For how many seconds nothing may come. A browser that is a member may be looking for another network."""
         if call.side == "browser":
-            return self.settings["silence"]
+            return UNHEARD if call.member is None else self.settings["away"]
         if call.member is None:
             return UNTYPED if call.room in self.calls.pins else UNHEARD
         return self.settings["hold" if call.is_held else "phone_silence"]
@@ -188,10 +189,10 @@ class Watch:
         others = [] if room is None else self.calls.in_room(room, rows)
         speaks = self.calls.pictures.speaks
         return {
-            "names": {ssrc: one.name for one in others for ssrc in (one.voice, one.camera) if ssrc is not None},
+            "names": {ssrc: name for one in others for ssrc, name in names_of(one).items()},
             "room": room,
-            "muted": [ssrc for ssrc in (call.voice, call.camera) if ssrc in rows.mutes],
-            "people": [] if room is None else people(room, rows, self.calls, speaks),
+            "muted": [ssrc for ssrc in (call.voice, call.camera, call.screen) if ssrc in rows.mutes],
+            "people": [] if room is None else people(room, rows, self.calls, speaks, self.settings["silence"]),
             # Whether the bridge tells who speaks.
             "speech": speaks is not None,
             "view": self.calls.pictures.told(call),

@@ -7,14 +7,16 @@ import re
 import traceback
 import urllib.parse
 
+import invitations
 from body import FLAG, ROOM, fields_of, is_text, text, whole
 from bounded import SECONDS, Bounded
 from desk import GONE
+from invitations import INVITATION
 from refused import FAILED, Refused
 
 FOLDER = pathlib.Path(__file__).parent
 FILES = {"/": ("join.html", "text/html")}
-FILES |= {f"/{name}": (name, "text/javascript") for name in ("join.js", "room.js")}
+FILES |= {f"/{name}": (name, "text/javascript") for name in ("devices.js", "join.js", "room.js", "screen.js", "way.js")}
 # The page takes nothing from elsewhere, and no other page shows it in a frame. In a fleet it asks the other gateways.
 POLICY = "default-src 'self'; connect-src 'self' {}; style-src 'self' 'unsafe-inline'; frame-ancestors 'none'"
 
@@ -101,10 +103,12 @@ class ForBrowsers(Handler):
     # Web servers before this one, whose word counts on who asks.
     proxies = ()
     REQUESTS = {
-        "offer": [{"room": ROOM, "name": NAME}, {"again": AGAIN}],
+        "offer": [{"room": ROOM, "name": NAME}, {"again": AGAIN, "invitation": INVITATION}],
         "answer": [{"id": ID, "sdp": SDP}],
         "state": [{"id": ID}],
+        "restart": [{"id": ID, "sdp": SDP}],
         "mute": [{"id": ID, "muted": FLAG}],
+        "screen": [{"id": ID, "shown": FLAG}],
         "turn": [{"id": ID, "page": whole(99)}],
         "leave": [{"id": ID}],
     }
@@ -120,7 +124,7 @@ class ForBrowsers(Handler):
 
     def carried_out(self, path, words):
         if path == "offer":
-            return self.calls.offer(room_of(words, self.calls.names), words["name"], self.source(), words.get("again"))
+            return self.offered(words)
         call = self.calls.pages.get(words["id"])
         if call is None and self.calls.seen.version < 0:
             # The calls of an agent before this one aren't taken up yet.
@@ -129,11 +133,26 @@ class ForBrowsers(Handler):
             raise Refused(*self.calls.ended.get(words["id"], (RESTARTED, 410, True)))
         if path == "answer":
             return self.calls.answer(call, words["sdp"])
+        if path == "restart":
+            return self.calls.restart(call, words["sdp"])
         if path == "mute":
             return self.calls.page_mutes(call, words["muted"])
+        if path == "screen":
+            return self.calls.shares_screen(call, words["shown"])
         if path == "turn":
             return self.calls.pictures.turn(call, words["page"])
         return self.watch.state(call) if path == "state" else self.calls.end(call, "It pressed Leave.")
+
+    def offered(self, words):
+        """The offer for a page. Where there is a key, who isn't a member already shows an invitation."""
+        again, invitation, key = words.get("again"), words.get("invitation"), self.calls.key
+        role = None
+        if key and again is None:
+            invitations.demand(key, invitation, words["room"])
+            role = invitation["role"]
+            words["name"] = invitation["name"] or words["name"]
+        room = room_of(words, self.calls.names)
+        return self.calls.offer(room, words["name"], self.source(), again, role)
 
     def source(self):
         """The address of who asks."""

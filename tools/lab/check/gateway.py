@@ -7,6 +7,11 @@ It starts a bridge, rtpengine, Kamailio and the agent. Then come its parts, each
     music      a room for music, which browsers and phones can't join
     again      an agent, rtpengine and the bridge are killed in mid-call: calls come again by themselves
     pages      the same with Chromium, whose page comes again without a click
+    names      operators see which calls are the gateway's, and who its members are
+    links      invitations, by which pages join: who may open a room, and which links are refused
+    screen     two Chromiums: one shows its screen, and takes another camera and microphone
+    turn       a Chromium joins by TURN over TLS, which is coturn's
+    network    a Chromium whose address changes, and whose link is down for a while, stays the member that it is
     stage      eight pages at a model of the desk: their pictures follow who speaks, and a page mutes itself
     gone       a bridge and rtpengine that are gone; then, in a call, they are started anew, and a browser is killed
     phones     two baresips in the room: one is muted, and one hangs up
@@ -23,11 +28,11 @@ Where all parts run, all five callers are in one room. Each sends a tone, and ea
 heard and seen is told apart. The check measures how long a new picture takes after an operator's line. What isn't
 installed is named, and its part is skipped. On Debian the packages are rtpengine-daemon, kamailio,
 kamailio-python3-modules, kamailio-tls-modules, sip-tester, chromium, baresip-core, ffmpeg, firefox-esr, pulseaudio,
-linphone-cli and iptables.
+linphone-cli, coturn, openssl and iptables.
 
 Each check prints a line, `ok` or `FAILED`. Each wait is bounded: where a step is late, its line says what it waited for
 and how long, and the next part begins with a bridge of its own. With --model a model without media stands in for the
-bridge, for the parts `again`, `pages`, `stage` and `sip`.
+bridge, for the parts `again`, `pages`, `names`, `links`, `network`, `turn`, `stage` and `sip`.
 """
 
 import pathlib
@@ -63,18 +68,23 @@ PARTS = {
     "music": (["try_music"], "", []),
     "again": (
         [
-            *("try_page_script", "try_sites", "try_agent_again", "try_rtpengine_again", "try_bridge_again"),
-            "try_nobody_comes",
+            *("try_page_script", "try_sites", "try_agent_again", "try_restarts", "try_given_up"),
+            *("try_rtpengine_again", "try_bridge_again", "try_nobody_comes"),
         ],
         "",
         [],
     ),
     "pages": ([], "", ["step_pages"]),
+    "names": (["try_own_calls", "try_members_named"], "", []),
+    "screen": ([], "AB", ["step_screen", "step_devices"]),
+    "turn": ([], "", ["step_turn", "step_wrong_secret"]),
+    "links": (["try_invitations", "try_spoiled_invitations"], "", []),
+    "network": ([], "", ["step_network_joins", "step_network"]),
     "stage": (["try_rule", "try_eight", "try_by_hand", "try_sixteen", "try_older"], "", []),
     "sip": (
         [
-            *("try_goodbyes", "try_gone_for_good", "try_acks", "try_requires", "try_trunk", "try_ways"),
-            *("try_room_names", "try_taken"),
+            *("try_goodbyes", "try_gone_for_good", "try_acks", "try_requires", "try_transfers", "try_trunk"),
+            *("try_ways", "try_room_names", "try_taken"),
         ],
         "",
         [],
@@ -94,7 +104,9 @@ PARTS = {
     "nat": ([], "A", ["step_nat"]),
 }
 # The parts that need no media of the bridge.
-WITHOUT_MEDIA = ["again", "pages", "stage", "sip"]
+WITHOUT_MEDIA = ["again", "pages", "names", "links", "network", "turn", "stage", "sip"]
+# Those that need no Kamailio.
+WITHOUT_KAMAILIO = ["refusals", "music", "again", "pages", "names", "links", "network", "screen", "turn", "stage"]
 # Those in which SIPp calls.
 SIPPS = ["sip", "sound", "recipes"]
 # In seconds: the most that a step may take, and the callers of a part until all are in the room.
@@ -127,7 +139,7 @@ def lacks(part, args):
         return lacking("sipp")
     if part == "phones":
         return lacking("baresip")
-    return lacking(args.browser, "ffmpeg") if PARTS[part][1] or part == "pages" else ""
+    return lacking(args.browser, "ffmpeg") if PARTS[part][1] or part in ("pages", "network", "turn") else ""
 
 
 def steps_of(trial, part, args):
@@ -138,8 +150,9 @@ def steps_of(trial, part, args):
 
 def hold(trial, args):
     """Runs the steps before a call of all parts, and then those in a call."""
-    trial.start_parts()
     parts = args.only or (WITHOUT_MEDIA if args.model else list(PARTS))
+    trial.has_phones = not {*parts} <= {*WITHOUT_KAMAILIO}
+    trial.start_parts()
     for part in parts:
         if part in SIPPS and lacks(part, args):
             continue

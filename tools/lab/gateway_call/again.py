@@ -9,28 +9,40 @@ import time
 import urllib.error
 import urllib.request
 
-from lab.gateway_call.parts import AWAY, until
+from lab.gateway_call.parts import AWAY, Parts, until
 from lab.gateway_call.refusals import RawPhone, answer_of, offer_of
 from lab.gateway_call.trial import Trial, lacking
 from operators.shared import ROOT
+
+import sdp
 
 # The room of this, the SSRCs of pages that come again under others, and that of a phone.
 ROOM, FIRST, PHONE = 7, 7000, 7900
 # A page's camera has an SSRC so much above its voice's.
 CAMERA = 500
 # The page's script beside gateways that it makes up, and how many checks that has.
-COMING, COMINGS = pathlib.Path(__file__).with_name("coming.js"), 15
+COMING, COMINGS = pathlib.Path(__file__).with_name("coming.js"), 38
+# The page's scripts, in the order in which it loads them.
+SCRIPTS = "devices.js", "room.js", "way.js", "screen.js", "join.js"
 # How often a page tries to come again, and how many seconds later than `away` a member may go.
 TRIES = 5
 LATE = 20
+# The SSRC of a page's screen, so much above its voice's.
+SCREEN = 50_000
+# How many small slots a page has, and what its offers say of ICE and DTLS beside a user fragment.
+SLOTS, UFRAG = 3, "a=ice-ufrag:"
+WAYS = ["sendrecv"] * 2 + ["sendonly"] * SLOTS + ["recvonly"]
+TRANSPORT = ["a=ice-pwd:abcdefghijklmnopqrstuvwx", "a=fingerprint:sha-256 " + ":".join(["AB"] * 32)]
+# For how many seconds a page is silent that is away then, and those after which an agent of a test gives it up.
+QUIET, GIVEN_UP = 9, 14
 
 
 class Page:
     """A browser's page as the agent sees it: it asks how things stand, each second, and comes again where it may."""
 
-    def __init__(self, parts, name, ssrc, room=ROOM):
+    def __init__(self, parts, name, ssrc, room=ROOM, **more):
         self.parts, self.name, self.room, self.ssrc, self.parted = parts, name, room, ssrc, None
-        self.goes_on, self.said = True, self.connected()
+        self.goes_on, self.said = True, self.connected(**more)
         threading.Thread(target=self.asks, daemon=True).start()
 
     def asks(self):
@@ -43,8 +55,8 @@ class Page:
         status, told = self.parts.ask("offer", room=str(self.room), name=self.name, **more)
         if status != 200:
             return status, told
-        sdp = answer_of(ssrc=self.ssrc, camera=self.ssrc + CAMERA)
-        status, said = self.parts.ask("answer", id=told["id"], sdp=sdp)
+        own = {"camera": self.ssrc + CAMERA, "screen": self.ssrc + SCREEN, "slots": self.parts.pictures}
+        status, said = self.parts.ask("answer", id=told["id"], sdp=answer_of(ssrc=self.ssrc, **own))
         if status == 200:
             self.id, self.told = told["id"], said
         return status, said
@@ -64,6 +76,17 @@ class Page:
         status, told = self.state()
         self.parted = told if status == 410 else None
         return isinstance(self.parted, dict) and self.parted["again"]
+
+    def restarts(self, way, sections=None, **more):
+        """Restarts ICE by an offer whose user fragment is `way`. Its status, and the sections that it is answered."""
+        voice = [f"a=ssrc:{self.ssrc} cname:x", "a=sendrecv", "a=rtcp-mux", "a=setup:actpass", *TRANSPORT, UFRAG + way]
+        media = ["m=audio 9 UDP/TLS/RTP/SAVPF 0 8", *voice, "m=video 9 UDP/TLS/RTP/SAVPF 96 97"]
+        media += [f"a=ssrc:{self.ssrc + CAMERA} cname:x", "a=sendrecv"]
+        media += ["m=video 9 UDP/TLS/RTP/SAVPF 96", "a=recvonly"] * SLOTS
+        media += ["m=video 9 UDP/TLS/RTP/SAVPF 96", "a=sendonly", f"a=ssrc:{self.ssrc + SCREEN} cname:x"]
+        offer = offer_of(media[:sections])
+        status, told = self.parts.ask("restart", **{"id": self.id, "sdp": offer} | more)
+        return status, sdp.sections(told["sdp"]) if status == 200 else told
 
     def comes_again(self, ssrc):
         """Comes again, and tries that anew as a browser's page does: an rtpengine that is started anew may give it the
@@ -126,7 +149,7 @@ class Again(Trial):
         if lacking("node"):
             print(f"skipped: the page's script ({lacking('node')})")
             return
-        words = ["node", COMING, *(ROOT / "examples/gateway" / one for one in ("room.js", "join.js"))]
+        words = ["node", COMING, *(ROOT / "examples/gateway" / one for one in SCRIPTS)]
         said = subprocess.run(words, capture_output=True, text=True, timeout=170, check=False)
         for line in said.stdout.splitlines():
             kind, _, text = line.partition(": ")
@@ -174,13 +197,77 @@ class Again(Trial):
         self.comes(lambda: not self.rows(), "the room goes with its last member", self.rows)
         self.check(self.parts.calls() == 0, "and rtpengine has no call")
 
+    def try_restarts(self):
+        """A page whose network changes restarts ICE, and is the member that it was. Away, it stays one for a while."""
+        self.pages_join()
+        one, other = self.pages
+        self.phone.hang_up()
+        self.comes(lambda: self.members() == 2, "the phone hangs up", self.rows)
+        before, streams = self.kept(), {row.split()[6] for row in self.rows() if row.startswith("member ")}
+        streams |= {row.split()[1] for row in self.rows() if row.startswith("slot ")}
+        ways = set()
+        for way in "next", "last":
+            status, told = one.restarts(way)
+            self.check(status == 200 and len(told) == 3 + SLOTS, "a page restarts ICE", told)
+            ways |= {word for each in told for word in each.transport() if word.startswith("ice-ufrag")}
+            good = all("setup:passive" in each.attributes for each in told)
+            good = good and {str(each.ssrc) for each in told[:-1]} <= streams
+            self.check(good, "and is answered by the streams that it had", [each.attributes for each in told])
+            directions = [sdp.direction_of(each) for each in told]
+            self.check(directions == WAYS, "in their directions", directions)
+        self.check(len(ways) == 2, "each time by credentials of their own", ways)
+        self.refuses_restarts(one)
+        one.goes_on = False
+        away = lambda: [each["away"] for each in other.state()[1]["people"]][:2]
+        self.comes(lambda: away() == [True, False], "it is silent: the others are told that it is away", away, QUIET)
+        time.sleep(2)
+        status, told = one.restarts("back")
+        self.check(status == 200 and one.state()[0] == 200, "it comes back by another network", told)
+        self.comes(lambda: away() == [False, False], "and is away no more", away, 3)
+        self.check(self.kept() == before, "meanwhile no row of the desk has changed", (before, self.kept()))
+        self.leave()
+
+    def kept(self):
+        """The rows that stay: all but who is seen in small slots."""
+        return [row for row in self.rows() if not row.startswith("sub ")]
+
+    def refuses_restarts(self, one):
+        """Offers that restart nothing, and change nothing."""
+        for text, wanted, said in (
+            ("an offer of few sections", 409, one.restarts("few", 10)),
+            ("an offer without audio", 406, one.restarts("none", 0)),
+            ("a call that nobody knows", 410, one.restarts("lost", id="none")),
+        ):
+            self.check(said[0] == wanted, f"{text} restarts nothing: {wanted}", said)
+        status, told = self.parts.ask("offer", room=ROOM, name="early")
+        said = one.restarts("early", id=told["id"])
+        self.check(status == 200 and said[0] == 409, "nor does one before its answer: 409", said)
+        self.parts.ask("leave", id=told["id"])
+
+    def try_given_up(self):
+        """A page that doesn't come back from its other network is a member for `away` seconds, and not for longer."""
+        parts = Parts(self.folder, self.udp, self.tcp, self.parts.control, first_member=860_000, away=GIVEN_UP)
+        self.others.append(parts)
+        parts.start("agent")
+        one = Page(parts, "gone", FIRST + 40)
+        one.goes_on = False
+        time.sleep(QUIET)
+        self.check(self.members() == 1, "a page that is silent is a member", self.rows())
+        self.comes(lambda: not self.rows(), f"for {GIVEN_UP} s", self.rows, GIVEN_UP - QUIET + LATE / 2)
+        status, told = one.restarts("late")
+        self.check(status == 410 and "Press Join" in str(told), "it comes too late, and is told so", told)
+        parts.stop("agent")
+
     def try_rtpengine_again(self):
         self.pages_join()
         members = [one.told["member"] for one in self.pages]
         self.parts.stop("rtpengine", signal.SIGKILL)
         self.parts.start("rtpengine")
+        status, told = self.pages[0].restarts("gone")
+        good = status == 410 and json.loads(told)["again"]
+        self.check(good, "rtpengine is started anew: who restarts ICE is told to come again", told)
         for one in self.pages:
-            self.comes(one.may_come, f"rtpengine is started anew: {one.name} is told to come again", one.state, 30)
+            self.comes(one.may_come, f"and so is {one.name}", one.state, 30)
         rows, version = self.operator.show()
         kept = [member for member in members if f" {member} {ROOM} " in str(rows)]
         self.check(kept == members, "meanwhile both are members", rows)

@@ -5,19 +5,24 @@ import socket
 import statistics
 import time
 
-from lab.gateway_call.again import Again
+from lab.gateway_call.again import LATE
 from lab.gateway_call.callers import RATE, PhoneCaller
 from lab.gateway_call.following import Following
+from lab.gateway_call.inviting import Inviting
 from lab.gateway_call.lossy import Lossy
+from lab.gateway_call.moving import Moving
+from lab.gateway_call.naming import Naming
 from lab.gateway_call.others import Others
-from lab.gateway_call.parts import ACCOUNTS, Parts, until
+from lab.gateway_call.parts import ACCOUNTS, AWAY, Parts, until
 from lab.gateway_call.phoning import Phoning
 from lab.gateway_call.recipes import Recipes
 from lab.gateway_call.refusals import Refusals
+from lab.gateway_call.sharing import Sharing
 from lab.gateway_call.staging import Staging
 from lab.gateway_call.strangers import Strangers
 from lab.gateway_call.trial import BROWSERS
 from lab.gateway_call.trunks import Trunks
+from lab.gateway_call.turning import Turning
 from operators.serving import free_port
 
 SWITCHES = 12
@@ -25,7 +30,11 @@ SWITCHES = 12
 MOST_MS, LOST = 1000, 0.02
 
 
-class Call(Refusals, Strangers, Others, Again, Staging, Following, Phoning, Trunks, Recipes):
+class Apart(Moving, Sharing, Naming, Inviting, Turning):
+    """The steps of what is tried apart."""
+
+
+class Call(Refusals, Strangers, Others, Apart, Staging, Following, Phoning, Trunks, Recipes):
     """The call of browsers and phones."""
 
     def gather(self, names):
@@ -194,7 +203,7 @@ class Call(Refusals, Strangers, Others, Again, Staging, Following, Phoning, Trun
         """A browser is killed, rtpengine too, and the bridge: who is in the call is told, and comes again."""
         a = self.callers["A"]
         self.kill_browser("B")
-        before = a.run("call.id")
+        killed, before = time.monotonic(), a.run("call.id")
         self.parts.stop("rtpengine", signal.SIGKILL)
         self.comes(lambda: "doesn't answer" in a.says(), "A's page says that rtpengine is gone", a.says)
         # A phone doesn't learn of it, and goes on to send.
@@ -204,6 +213,9 @@ class Call(Refusals, Strangers, Others, Again, Staging, Following, Phoning, Trun
         before = self.is_back(a, before, "rtpengine is started anew")
         self.restart_bridge()
         self.is_back(a, before, "the bridge is started anew")
+        alone = lambda: self.members() == 1
+        self.comes(alone, "the browser that was killed is a member no more", self.rows, 2 * AWAY + LATE)
+        print(f"      after {time.monotonic() - killed:.0f} s")
         a.leave()
         a.join()
         self.everyone_hears("A joins again")
@@ -220,8 +232,10 @@ class Call(Refusals, Strangers, Others, Again, Staging, Following, Phoning, Trun
         return id()
 
     def kill_browser(self, name):
-        before = self.members()
+        """A browser that is killed is away, as one is that has lost its network."""
+        member, one = self.callers[name].joined["member"], self.callers["A"]
         self.callers.pop(name).close()
-        took = self.comes(lambda: self.members() == before - 1, "a browser that is killed is no member", self.rows)
-        print(f"      after {took or 0:.1f} s")
         self.everyone_hears(f"{name} is killed")
+        away = lambda: f"{name}, " in one.people() and "away" in one.people()
+        self.comes(away, f"{name} is killed: A's page says that it is away", one.people)
+        self.check(f" {member} " in str(self.rows()), "it is a member for a while", self.rows())

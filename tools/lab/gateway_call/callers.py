@@ -84,6 +84,10 @@ class AtPage(Caller):
     def says(self):
         return self.run("document.getElementById('state').textContent")
 
+    def people(self):
+        """Whom the page lists, and what it says of them."""
+        return self.run("document.getElementById('people').innerText")
+
     def levels(self):
         told = self.run(f"levels({list(TONES.values())})")
         return {name: round(one, 4) for name, one in zip(TONES, told)}

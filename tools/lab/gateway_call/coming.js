@@ -1,11 +1,11 @@
 // The gateway's page as node runs it: a browser and gateways that say what this file has them say. It shows who speaks
 // and who is muted, and asks for mutes and other pictures. A page whose call has lost its bridge, gateway or rtpengine
-// comes again by itself. Time passes twenty times as fast.
+// comes again by itself, and one whose network has changed restarts ICE. Time passes twenty times as fast.
 //
 //     node coming.js SCRIPT ..
 "use strict";
 const fs = require("fs"), vm = require("vm");
-const FASTER = 20, elements = {}, asked = [];
+const FASTER = 20, SCREEN = 77, elements = {}, asked = [];
 let said = () => null, peers = 0;
 
 const classes = () => {
@@ -14,19 +14,92 @@ const classes = () => {
 };
 const at = id => elements[id] ||= {
   id, textContent: "", value: "", querySelector: () => ({}), append() {}, remove() {}, cloneNode: () => at("copy"),
-  classList: classes(), replaceChildren(...lines) { this.lines = lines.map(one => one.textContent); },
+  classList: classes(), replaceChildren(...lines) { this.lines = lines.map(one => one.textContent); }, disabled: false,
 };
-const own = { getTracks: () => [{ stop() {} }], getAudioTracks: () => [{}], getVideoTracks: () => [] };
 
-class Peer {
-  constructor() {
-    Object.assign(this, { number: ++peers, iceGatheringState: "complete", localDescription: { sdp: "answer" } });
+// A microphone, and what has been asked of it.
+const microphones = [];
+class Track {
+  constructor(asks) {
+    Object.assign(this, { kind: "audio", enabled: true, asks });
+    microphones.push(this);
   }
 
-  async setRemoteDescription() {}
-  async setLocalDescription() {}
-  addTrack() {}
-  getTransceivers() { return []; }
+  stop() { this.isOver = true; }
+  clone() { return this; }
+}
+
+class Stream {
+  constructor(tracks = []) { this.tracks = tracks; }
+  getTracks() { return [...this.tracks]; }
+  getAudioTracks() { return this.getTracks(); }
+  getVideoTracks() { return []; }
+  addTrack(track) { this.tracks.push(track); }
+  removeTrack(track) { this.tracks = this.tracks.filter(one => one !== track); }
+}
+
+// A browser with two microphones, of which one is broken, and no camera.
+async function getUserMedia({ audio, video }) {
+  const { exact } = audio && audio.deviceId || {};
+  if (video || exact === "broken") throw new Error("NotReadableError");
+  return new Stream([new Track(exact || "")]);
+}
+
+const enumerateDevices = async () => ["good", "broken"].map(deviceId => ({ kind: "audioinput", deviceId, label: "" }));
+
+// A screen of four times the pixels that one has at most.
+const screens = [];
+async function getDisplayMedia() {
+  const one = { stop() { this.isOver = true; }, getSettings: () => ({ width: 3840, height: 2160 }) };
+  screens.push(one);
+  return { getVideoTracks: () => [one] };
+}
+
+class Peer {
+  constructor({ iceServers }) {
+    Object.assign(this, { servers: iceServers, number: ++peers, signalingState: "stable", restarts: 0, isWhole: true });
+    Object.assign(this, { encoding: {}, asksAnew: 0 });
+    const sender = {
+      replaceTrack: async track => { this.screen = track; },
+      getStats: async () => new Map([["own", { type: "outbound-rtp", pliCount: this.asksAnew++ * this.isAnew }]]),
+      getParameters: () => ({ encodings: [{ ...this.encoding }] }),
+      setParameters: async ({ encodings: [one] }) => { this.encoding = one; },
+    };
+    const receiver = { getContributingSources: () => [] };
+    this.places = ["0", "1", "2"].map(mid => ({ mid, sender, receiver, direction: "recvonly" }));
+    this.isAnew = 0;
+  }
+
+  // The state of its way, which `is` sets.
+  is(state) {
+    this.connectionState = state;
+    this.onconnectionstatechange();
+  }
+
+  setConfiguration({ iceServers }) { this.servers = iceServers; }
+  restartIce() { this.restarts++; }
+
+  async setLocalDescription(wanted = {}) {
+    this.signalingState = wanted.type === "rollback" || this.isAsked ? "stable" : "have-local-offer";
+    this.localDescription = { sdp: this.isAsked ? "answer" : `offer ${this.restarts}` };
+    if (this.isAsked) setTimeout(() => this.is("connected"), 10);
+    this.isAsked = false;
+    if (this.isWhole) this.onicecandidate({ candidate: null });
+  }
+
+  async setRemoteDescription({ type, sdp }) {
+    this.isAsked = type === "offer";
+    if (type !== "answer") return;
+    this.signalingState = "stable";
+    if (sdp === `answer to offer ${this.restarts}`) this.is("connected");
+  }
+
+  addTrack(track) {
+    this.voice = { track, replaceTrack: async track => { this.voice.track = track; } };
+  }
+
+  getSenders() { return [this.voice]; }
+  getTransceivers() { return this.places; }
   close() { asked.push(`close ${this.number}`); }
 }
 
@@ -43,30 +116,34 @@ async function fetch(url, { body }) {
 
 const document = { getElementById: at, querySelectorAll: () => [], createElement: () => ({ classList: classes() }) };
 const page = vm.createContext({
-  document, location: { search: "?room=5&name=x" },
-  URLSearchParams, fetch, performance, clearInterval, addEventListener() {},
-  RTCPeerConnection: Peer, MediaStream: class {},
-  navigator: { mediaDevices: { getUserMedia: async () => own }, sendBeacon() {} },
+  document, location: { search: "?room=5&name=x&role=guest&until=9&sign=ab" },
+  URLSearchParams, fetch, performance, clearInterval,
+  addEventListener(name, work) { page[name] = work; },
+  RTCPeerConnection: Peer, MediaStream: Stream,
+  navigator: { mediaDevices: { getUserMedia, getDisplayMedia, enumerateDevices }, sendBeacon() {} },
   setInterval: (work, ms) => setInterval(work, ms / FASTER), setTimeout: (work, ms) => setTimeout(work, ms / FASTER),
   Date: { now: () => performance.now() * FASTER },
+  AbortSignal: { timeout: ms => AbortSignal.timeout(ms) },
 });
 const scripts = process.argv.slice(2).map(one => fs.readFileSync(one, "utf8"));
 vm.runInContext(`${scripts.join("\n")}\nglobalThis.current = () => call;`, page);
 
 // What a member is told; and gateways of which each answers some requests.
 const told = mix => ({
-  member: 1000, voice: 1, camera: null, away: 30, pages: ["https://x/b", "https://x/c"],
+  member: 1000, voice: 1, camera: null, screen: SCREEN, away: 30, pages: ["https://x/b", "https://x/c"],
   again: { member: 1000, mix, key: "key" },
 });
-const person = (member, name, speaks, muted) => ({ member, name, voice: member, camera: null, speaks, muted });
+const person = (member, name, speaks, muted, screen = null) =>
+  ({ member, name, voice: member, camera: null, screen, speaks, muted });
 const state = (mix, more) => ({
   names: {}, room: 5, muted: [1], people: [person(1000, "x", false, "operator")], speech: true, view: null, trouble: "",
-  cut: false, ...told(mix), ...more,
+  cut: false, ...told(mix), ice: ["a new name"], ...more,
 });
 const takes = (base, mix, more) => (url, body) => {
   const path = url.startsWith(base) ? url.slice(base.length) : "";
-  if (path === "offer") return [200, { id: `${base}${mix}`, sdp: "offer" }];
-  return { answer: [200, told(mix)], state: [200, state(mix, more)], mute: [200, {}], turn: [200, {}] }[path];
+  if (path === "offer") return [200, { id: `${base}${mix}`, sdp: "offer", ice: ["a server"] }];
+  const done = { mute: [200, {}], turn: [200, {}], screen: [200, {}] };
+  return { answer: [200, told(mix)], state: [200, state(mix, more)], ...done }[path];
 };
 const moved = { words: "Room 5 is on bridge c of the fleet now.", again: true, page: "https://x/c" };
 const lost = { words: "rtpengine has lost the call. Press Join to come back.", again: true, page: "" };
@@ -115,11 +192,109 @@ async function tryRoom() {
   await check("an operator's mute is told", () => shows(MUTED));
 }
 
+// A page takes another microphone, in its call.
+async function tryDevices() {
+  const { peer } = page.current(), choose = id => {
+    at("microphones").value = id;
+    at("microphones").onchange();
+  };
+  const isTaken = id => peer.voice.track.asks === id && page.current().own.getTracks()[0] === peer.voice.track;
+  const wanted = ["as the browser chooses", "Microphone 1", "Microphone 2"];
+  await check("it lists its microphones", () => String(at("microphones").lines) === String(wanted));
+  const [first] = microphones;
+  at("microphone").onclick();
+  choose("good");
+  await check("another one takes the place of the first", () => isTaken("good") && first.isOver);
+  await check("which was muted, and so is this", () => !peer.voice.track.enabled);
+  at("microphone").onclick();
+  const { track } = peer.voice;
+  choose("broken");
+  await check("one that is broken isn't taken, and the page says so", () => shows("can't be used") && isTaken("good"));
+  track.onended();
+  await check("one that is pulled out is replaced", () => isTaken("") && peer.voice.track !== track);
+  at("leave").onclick();
+  at("form").onsubmit({ preventDefault() {} });
+  await check("the next call takes the one that was chosen", () => isAt("7") && microphones.at(-1).asks === "good");
+}
+
+// A page shows its screen, as long as an operator doesn't take that away.
+async function tryScreen() {
+  const { peer } = page.current();
+  let shown = false;
+  said = (url, body) => {
+    if (url === "screen") shown = body.shown;
+    return takes("", 7, { muted: [], people: [person(1000, "x", false, "", shown ? SCREEN : null)] })(url, body);
+  };
+  at("screen").onclick();
+  await check("Share screen shows it, and the page says how large", () =>
+    shown && peer.screen === screens[0] && shows("You show your screen: at most 1920 x 1080 pixels, 5 frames"));
+  const { scaleResolutionDownBy: scale, maxBitrate, maxFramerate } = peer.encoding;
+  await check("it has a quarter of its pixels, and few bits and frames", () =>
+    scale === 2 && maxBitrate === 2e6 && maxFramerate === 5 && peer.places[2].direction === "sendonly");
+  peer.isAnew = 1;
+  await check("its pictures are asked for anew all the time: it has half of that", () =>
+    peer.encoding.maxBitrate === 1e6 && shows("at most 1358 x 764 pixels"));
+  peer.isAnew = 0;
+  shown = false;
+  await check("an operator takes it away: it ends, and the page says so", () =>
+    screens[0].isOver && peer.screen === null && shows("An operator has taken your screen away."));
+  at("screen").onclick();
+  await check("it is shown once more", () => shown && screens.length === 2 && shows("You show your screen"));
+  at("screen").onclick();
+  await check("Stop sharing ends it", () => !shown && screens[1].isOver && !shows("your screen"));
+}
+
+// A page whose network changes: its call is the same one.
+async function tryNetwork() {
+  await until(() => page.current().hadWay);
+  const { peer } = page.current(), isSame = () => page.current().peer === peer && isAt("7") && shows(MUTED);
+  const isMended = count => isSame() && !page.current().isMending && peer.restarts === count;
+  const answers = (url, { sdp }) => url === "restart" ? [200, { sdp: `answer to ${sdp}` }] : takes("", 7)(url, {});
+  said = answers;
+  peer.is("disconnected");
+  await check("its network changes: it restarts ICE, and goes on in its call", () => isMended(1));
+  await check("by the TURN servers that it was told last", () => String(peer.servers) === "a new name");
+  let tries = 0;
+  said = (url, body) => url === "restart" && ++tries < 4 ? null : answers(url, body);
+  peer.is("failed");
+  await check("nobody answers at first: it tries until somebody does", () => isMended(5) && tries === 4);
+  peer.isWhole = false;
+  page.online();
+  await check("its browser is online again: it restarts ICE at once, with the candidates that there are",
+    () => isMended(6));
+  said = (url, body) => url === "restart" ? [200, { sdp: "" }] : takes("", 7)(url, body);
+  peer.is("disconnected");
+  await check("no way is found: it says so, and tries on", () => peer.restarts > 7 && shows("broken. Coming back"));
+  said = answers;
+  await check("until there is one", () => isSame() && !page.current().isMending);
+}
+
+// The end of this: the gateway has given a page's member up meanwhile.
+async function tryTooLate() {
+  const over = "Nothing has come from your browser for 30 s. Press Join to come back.";
+  said = url => url.endsWith("restart") ? [410, over] : null;
+  page.current().peer.is("disconnected");
+  await check("it comes too late: it says so, and ends", () => !page.current() && shows(over));
+}
+
 (async () => {
-  said = takes("", 7);
+  let shown = null;
+  said = (url, body) => {
+    if (url === "offer") shown = body;
+    return takes("", 7)(url, body);
+  };
   at("form").onsubmit({ preventDefault() {} });
   await check("a page joins", () => isAt("7") && shows(MUTED));
+  const invitation = { room: "5", name: "x", role: "guest", sign: "ab", until: 9 };
+  await check("by the TURN servers of the offer", () => String(page.current().peer.servers) === "a server");
+  await check("by the invitation of its link, whose room and name stand", () =>
+    JSON.stringify(shown) === JSON.stringify({ room: "5", name: "x", invitation }) && at("room").readOnly);
   await tryRoom();
+  await tryDevices();
+  await tryScreen();
+  said = takes("", 7);
+  await check("and all is as before", () => isAt("7") && shows(MUTED));
+  await tryNetwork();
   let tries = 0;
   const again = takes("", 8);
   said = (url, body) => {
@@ -145,5 +320,10 @@ async function tryRoom() {
   await check("another one has the room then: it comes again there", () => isAt("https://x/c/9"));
   said = url => url.endsWith("state") ? [410, lost] : [410, "You are no member of this call any more."];
   await check("it is no member any more: it says so, and ends", () => !page.current() && shows("no member"));
+  said = takes("", 7);
+  at("form").onsubmit({ preventDefault() {} });
+  await check("it joins again", () => isAt("7") && shows(MUTED));
+  await until(() => page.current().hadWay);
+  await tryTooLate();
   process.exit(0);
 })();

@@ -1,4 +1,5 @@
-"""A network behind a NAT, made of network namespaces. Who is started in it reaches this machine by that NAT alone."""
+"""Networks beside this machine's own, made of network namespaces: one behind a NAT, and one whose address changes. Who
+is started in one reaches this machine by it alone."""
 
 import contextlib
 import ctypes
@@ -29,32 +30,46 @@ ip netns exec NAT iptables -t nat -A POSTROUTING -o out -p udp -j MASQUERADE --r
 ip netns exec NAT iptables -t nat -A POSTROUTING -o out -j MASQUERADE
 ip netns exec NAT iptables -A FORWARD -i out -m conntrack ! --ctstate ESTABLISHED,RELATED -j DROP
 """
+# The same of a network without a NAT, whose browser has the second address at first.
+HERE, THERE = "10.213.8.1", "10.213.8.{}"
+PLAIN = f"""
+ip netns add OWN
+ip link add LINK type veth peer name eth netns OWN
+ip address add {HERE}/24 dev LINK
+ip link set LINK up
+ip -n OWN address add {THERE.format(2)}/24 dev eth
+ip -n OWN link set eth up
+ip -n OWN link set lo up
+"""
 
 
-def lacks():
-    """What a NAT lacks on this machine."""
+def lacks(*programs):
+    """What a network lacks on this machine."""
     if os.geteuid():
         return "there is no leave to make one"
-    missing = [one for one in ("ip", "iptables") if not shutil.which(one)]
+    missing = [one for one in programs if not shutil.which(one)]
     return f"there is no {' and no '.join(missing)}" if missing else ""
 
 
-class Nat:
-    """A NAT that gives each flow a port of its own choice, and lets in what answers."""
+class Network:
+    """A network by its commands."""
 
-    def __init__(self):
+    def __init__(self, setup):
         self.names = {"NAT": f"nat{os.getpid()}", "OWN": f"own{os.getpid()}", "LINK": f"gw{os.getpid()}"}
         try:
-            for line in SETUP.strip().splitlines():
-                words = [self.names.get(word, word) for word in line.split()]
-                subprocess.run(words, input=b"1", stdout=subprocess.DEVNULL, check=True)
+            self.do(setup)
         except subprocess.CalledProcessError:
             self.close()
             raise
 
+    def do(self, commands):
+        for line in commands.strip().splitlines():
+            words = [self.names.get(word, word) for word in line.split()]
+            subprocess.run(words, input=b"1", stdout=subprocess.DEVNULL, check=True)
+
     @contextlib.contextmanager
     def within(self):
-        """What this thread opens and starts meanwhile is behind the NAT."""
+        """What this thread opens and starts meanwhile is in it."""
         c = ctypes.CDLL(None, use_errno=True)
         with open("/proc/thread-self/ns/net") as here, open(f"/run/netns/{self.names['OWN']}") as there:
             if c.setns(there.fileno(), CLONE_NEWNET):
@@ -64,11 +79,39 @@ class Nat:
             finally:
                 c.setns(here.fileno(), CLONE_NEWNET)
 
+    def close(self):
+        for name in self.names["NAT"], self.names["OWN"]:
+            subprocess.run(["ip", "netns", "del", name], stderr=subprocess.DEVNULL, check=False)
+
+
+class Nat(Network):
+    """A NAT that gives each flow a port of its own choice, and lets in what answers."""
+
+    def __init__(self):
+        super().__init__(SETUP)
+
     def flows(self):
         """How many flows of UDP it knows."""
         words = ["ip", "netns", "exec", self.names["NAT"], "cat", "/proc/net/nf_conntrack"]
         return subprocess.run(words, capture_output=True, text=True, check=False).stdout.count(" udp ")
 
-    def close(self):
-        for name in self.names["NAT"], self.names["OWN"]:
-            subprocess.run(["ip", "netns", "del", name], check=False)
+
+class Link(Network):
+    """A network without a NAT, whose browser gets another address each time."""
+
+    def __init__(self):
+        super().__init__(PLAIN)
+        self.number, self.address = 2, THERE.format(2)
+
+    def moves(self):
+        """Its address is another one at once."""
+        self.do(f"ip -n OWN address flush dev eth\nip -n OWN address add {THERE.format(self.number + 1)}/24 dev eth")
+        self.number, self.address = self.number + 1, THERE.format(self.number + 1)
+
+    def breaks(self):
+        self.do("ip -n OWN link set eth down")
+
+    def heals(self):
+        """It is there again, with another address."""
+        self.do("ip -n OWN link set eth up")
+        self.moves()

@@ -57,8 +57,8 @@ class Others(Holding):
 
     def step_nat(self):
         """Who is behind a NAT joins, and hears and is seen by who isn't. What they did before is over."""
-        if natted.lacks():
-            print(f"skipped: callers behind a NAT ({natted.lacks()})")
+        if natted.lacks("ip", "iptables"):
+            print(f"skipped: callers behind a NAT ({natted.lacks('ip', 'iptables')})")
             return
         for name in [*self.callers]:
             if name != "A":

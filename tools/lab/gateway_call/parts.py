@@ -66,8 +66,11 @@ class Parts:
         phones=(),
         away=AWAY,
         pictures=3,
+        desk_page=None,
+        key="",
+        turn=None,
     ):
-        self.folder, self.running = folder, {}
+        self.folder, self.running, self.pictures = folder, {}, pictures
         stream, datagram = socket.SOCK_STREAM, socket.SOCK_DGRAM
         self.page_port, self.phones_port, self.sip_port = free_port(stream), free_port(stream), free_port(datagram)
         self.control, self.keys = control or free_port(datagram), free_port(datagram)
@@ -77,7 +80,7 @@ class Parts:
         self.far_page, self.sip = f"http://{outside}:{self.page_port}", f"{outside}:{self.sip_port}"
         low = self.low = 30000 + self.control % 25 * 100
         tables = {
-            "bridge": {"udp": f"{bridge_ip}:{udp}", "tcp": f"127.0.0.1:{tcp}"},
+            "bridge": {"udp": f"{bridge_ip}:{udp}", "tcp": f"127.0.0.1:{tcp}", "page": ""},
             "rtpengine": {
                 "control": f"127.0.0.1:{self.control}",
                 "keys": f"127.0.0.1:{self.keys}",
@@ -100,6 +103,8 @@ class Parts:
                 **dict(phones),
             },
             "phones.accounts": ACCOUNTS,
+            "invitations": {"key": key},
+            "turn": turn or {"urls": [], "secret": ""},
             "names": {NAME: NAMED},
             "pins": {str(LOCKED): PIN},
             "calls": {
@@ -113,6 +118,8 @@ class Parts:
                 "most": 20,
             },
         }
+        if desk_page:
+            tables["bridge"]["page"] = f"127.0.0.1:{desk_page}"
         if fleet:
             tables["fleet"] = {"agent": fleet}
         # A value of JSON is one of TOML too, as far as texts, numbers, truth and lists go.

@@ -4,7 +4,8 @@
 // A camera of 15 frames a second: three browsers and the bridge may share a small machine.
 const camera = navigator.mediaDevices.getUserMedia.bind(navigator.mediaDevices);
 const small = { width: 320, height: 240, frameRate: 15 };
-navigator.mediaDevices.getUserMedia = ({ audio }) => camera({ audio, video: small });
+navigator.mediaDevices.getUserMedia = ({ audio, video }) =>
+  camera({ audio, video: video && { ...video, ...small } });
 
 // Devices for a browser that takes no files for them: a tone, and a picture of 15 frames a second whose upper half has
 // a colour.
@@ -25,6 +26,32 @@ window.makeDevices = (tone, level, colour) => {
   }, 1000 / 15);
   const tracks = [...voice.stream.getTracks(), ...canvas.captureStream(15).getTracks()];
   navigator.mediaDevices.getUserMedia = async () => new MediaStream(tracks.map(track => track.clone()));
+};
+
+// A screen for a browser that takes none: its upper half has a colour, and the lower one noise, which is hard to code.
+// While it is noisy there is other noise in each of its frames.
+window.makeScreen = (width, height, colour) => {
+  const noise = [0, 1].map(() => {
+    const one = new OffscreenCanvas(width, height / 2), paint = one.getContext("2d");
+    const data = paint.createImageData(width, height / 2);
+    for (let at = 0; at < data.data.length; at += 65536) crypto.getRandomValues(data.data.subarray(at, at + 65536));
+    paint.putImageData(data, 0, 0);
+    return one;
+  });
+  navigator.mediaDevices.getDisplayMedia = async () => {
+    const canvas = Object.assign(document.createElement("canvas"), { width, height }), paint = canvas.getContext("2d");
+    const stream = canvas.captureStream(5);
+    let count = 0;
+    const timer = setInterval(() => {
+      if (stream.getTracks()[0].readyState === "ended") { clearInterval(timer); return; }
+      paint.fillStyle = colour;
+      paint.fillRect(0, 0, width, height / 2);
+      paint.drawImage(noise[window.noisy ? ++count % 2 : 0], 0, height / 2);
+      paint.fillStyle = `hsl(${performance.now() / 10 % 360} 50% 50%)`;
+      paint.fillRect(0, height - 40, 40, 40);
+    }, 200);
+    return stream;
+  };
 };
 
 // What colour the upper half of a frame or a video has.

@@ -19,13 +19,16 @@ def offer_of(media):
     return "\r\n".join(["v=0", "o=- 1 1 IN IP4 127.0.0.1", "s=-", "c=IN IP4 127.0.0.1", "t=0 0", *media, ""])
 
 
-def answer_of(types="0", port=9, mux=True, ssrc=777, kind="audio", dtls=True, camera=None):
-    """A browser's answer that names what matters, but for the candidates. A camera has this SSRC."""
+def answer_of(types="0", port=9, mux=True, ssrc=777, kind="audio", dtls=True, camera=None, screen=None, slots=0):
+    """A browser's answer that names what matters, but for the candidates. A camera and a screen have these SSRCs, and
+    between them stand so many slots."""
     print_ = ":".join(["AB"] * 32)
     own = ["a=ice-ufrag:abcd", "a=ice-pwd:abcdefghijklmnopqrstuvwx", "a=mid:0", "a=sendrecv", f"a=ssrc:{ssrc} cname:x"]
     own += [f"a=fingerprint:sha-256 {print_}", "a=setup:active"] if dtls else []
     own += ["a=rtcp-mux"] if mux else []
     pictures = [f"m=video {port} UDP/TLS/RTP/SAVPF 96", "a=mid:1", f"a=ssrc:{camera} cname:x"] if camera else []
+    pictures += ["m=video 9 UDP/TLS/RTP/SAVPF 96", "a=recvonly"] * slots
+    pictures += ["m=video 9 UDP/TLS/RTP/SAVPF 96", "a=sendonly", f"a=ssrc:{screen} cname:x"] if screen else []
     return offer_of([f"m={kind} {port} UDP/TLS/RTP/SAVPF {types}", *own, *pictures])
 
 
@@ -126,7 +129,7 @@ class Refusals(Trial):
         )
         status, _ = self.parts.ask("offer", room="1", name="x")
         self.check(
-            status == 200 and until(lambda: self.parts.calls() == 0, 12) is not None,
+            status == 200 and until(lambda: self.parts.calls() == 0, 20) is not None,
             "an offer that nobody answers goes again",
         )
 

@@ -1,12 +1,13 @@
 """Pictures follow who speaks, in a room of eight pages. A model of the desk tells how loud who is."""
 
+import signal
 import subprocess
 import sys
 import threading
 import time
 
 from lab.gateway_call import hearing, rule
-from lab.gateway_call.again import CAMERA, Page
+from lab.gateway_call.again import CAMERA, SCREEN, Page
 from lab.gateway_call.parts import GATEWAY, Parts
 from lab.gateway_call.rule import HOLD
 from lab.gateway_call.trial import Trial
@@ -115,6 +116,12 @@ def shown(rows):
     return found
 
 
+def told_to(page):
+    """What a page is told of its room: nothing while its agent isn't there."""
+    status, said = page.state()
+    return said if status == 200 else {"names": {}, "people": []}
+
+
 class Staging(Trial):
     """The steps in which pictures follow who speaks."""
 
@@ -171,6 +178,7 @@ class Staging(Trial):
         front, parts, pages = self.model
         self.own_mutes(front, parts, pages)
         self.turns(front, parts, pages)
+        self.screens(front, parts, pages)
         self.loses(front, pages)
         self.go(front, parts, pages)
 
@@ -242,6 +250,36 @@ class Staging(Trial):
         for page in "1", -1, 100, None:
             status, said = parts.ask("turn", id=one.id, page=page)
             self.check(status == 400 and "`page`" in said, f"there is no page {page!r}", (status, said))
+
+    def screens(self, front, parts, pages):
+        """A page shows its screen: a second picture of its member, which all see, whoever speaks."""
+        one, other = pages[6], pages[1]
+        ssrc, member = one.ssrc + SCREEN, one.told["member"]
+        parts.ask("turn", id=pages[0].id, page=0)
+        shows = lambda shown, id=one.id: parts.ask("screen", id=id, shown=shown)
+        seen = lambda: [who for who, each in shown(front.rows()).items() if ssrc in each]
+        is_seen = lambda: len(seen()) == PAGES - 1 and member not in seen()
+        self.check(shows(True)[0] == 200 and front.rows().sources.get(ssrc) == (member, "video"), "a screen is shown")
+        self.comes(is_seen, "all others see it", seen, 2 * HOLD)
+        for turn in range(3):
+            front.speaking = {pages[turn].ssrc, pages[turn + 1].ssrc}
+            time.sleep(HOLD)
+        self.check(is_seen(), "whoever speaks", seen())
+        parts.stop("agent", signal.SIGHUP)
+        parts.start("agent")
+        told = lambda: told_to(other)
+        name = lambda: told()["names"].get(str(ssrc))
+        self.comes(lambda: name() == f"{one.name}'s screen", "the next agent knows that it is a screen", told)
+        of = lambda: next(each for each in told()["people"] if each["member"] == member)
+        self.check(of()["screen"] == ssrc and of()["camera"] == one.ssrc + CAMERA, "and whose", of())
+        number = front.do(f"remove-source {ssrc}").split()[1]
+        self.comes(lambda: of()["screen"] is None, "an operator takes it away, and pages are told", of, 5)
+        front.do(f"undo {number}")
+        self.check(shows(True)[0] == 200 and ssrc in front.rows().sources, "it is there again", front.rows().sources)
+        self.check(shows(False)[0] == 200 and ssrc not in front.rows().sources, "it is shown no more", seen())
+        three = lambda: all(len(each) == 3 for each in shown(front.rows()).values())
+        self.comes(three, "others are seen in its place", lambda: shown(front.rows()), 2 * HOLD)
+        self.check(shows(True, "none")[0] == 410, "a call that nobody knows shows none")
 
     def loses(self, front, pages):
         """A page whose packets are lost gets fewer pictures, and is told so. The others don't."""

@@ -31,6 +31,8 @@ class Trial:
         if not args.model:
             self.program, self.under = release_program(args.binary), []
         self.udp = self.tcp = 0
+        # Whether a part needs Kamailio.
+        self.has_phones = True
         self.start_bridge()
         self.parts, self.callers, self.others = Parts(folder, self.udp, self.tcp), {}, []
 
@@ -44,8 +46,8 @@ class Trial:
             self.operator.show()
 
     def start_parts(self):
-        """Starts rtpengine, the agent, and Kamailio if it is there."""
-        for part in ["rtpengine", "agent"] + ["kamailio"] * (not kamailio_lacks()):
+        """Starts rtpengine, the agent, and Kamailio if it is needed and there."""
+        for part in ["rtpengine", "agent"] + ["kamailio"] * (self.has_phones and not kamailio_lacks()):
             if part not in self.parts.running:
                 self.parts.start(part)
 

@@ -127,6 +127,20 @@ class Trunks(Trial):
         good = "Unsupported: 100rel\n" in text and f"Min-SE: {SHORTEST}\n" in text
         self.check(good, "each is told why", one.said())
 
+    def try_transfers(self):
+        """A phone that wants its call handed over (REFER, RFC 3515) is told what there is, and stays in its call."""
+        sound = self.sound(4062)
+        one = self.sipp(sound).waits(3).asks("REFER", status=405, more=["Refer-To: <sip:2@127.0.0.1>"])
+        self.ringing(one.waits(3).asks("BYE").waits(1), sound)
+        self.is_in(4062)
+        self.comes(lambda: one.counts("SIP/2.0 405", "REFER"), "a REFER is refused by 405", one.said, 20)
+        said = next((each for each in one.messages("received") if each.startswith("SIP/2.0 405")), "")
+        allow = next((line for line in said.split("\n") if line.startswith("Allow: ")), "")
+        self.check("INVITE" in allow and "REFER" not in allow, "which lists what there is", said)
+        self.check("source 4062 " in " ".join(self.rows()), "and its call goes on", self.rows())
+        self.ends(one, "it hangs up")
+        sound.close()
+
     def try_ways(self):
         """TCP and TLS, where the settings have them. A BYE comes by the connection of the call."""
         if lacking("openssl"):

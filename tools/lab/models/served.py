@@ -37,12 +37,17 @@ class Front(socketserver.ThreadingTCPServer):
         super().__init__(address, Operator)
         self.log, self.lock, self.seats, self.taken, self.watching = Log(), threading.Lock(), seats, {}, set()
         self.log.desk.bridge = ssrc
+        # The line of each accepted call as `calls` tells it.
+        self.stamped = []
         # The answers to some lines.
         self.answers = {"stats": lambda: ["end"], "levels": lambda: ["end"]}
 
 
 class Operator(socketserver.StreamRequestHandler):
     """A connection."""
+
+    # The name of the connection, and whether its watch has names.
+    name, form = "-", False
 
     def handle(self):
         try:
@@ -88,8 +93,16 @@ class Operator(socketserver.StreamRequestHandler):
             lines = log.desk.shown(log.version)
         elif words[0] == "history":
             lines = log.history(int((words[1:] or [EVERY_CALL])[0]))
-        elif words == ["watch"]:
+        elif words[0] == "as":
+            self.name, lines = words[1], [" ".join(words)]
+        elif words[0] in ("why", "help"):
+            lines = ["end"]
+        elif words[0] == "calls":
+            most = int((words[1:] or [EVERY_CALL])[0])
+            lines = [*self.server.stamped[max(0, len(self.server.stamped) - most) :], f"end {log.version}"]
+        elif words[0] == "watch":
             self.server.watching.add(self)
+            self.form = words[1:] == ["names"]
             lines = [f"end {log.version}"]
         elif words in (["stats"], ["levels"]):
             lines = self.server.answers[words[0]]()
@@ -102,9 +115,13 @@ class Operator(socketserver.StreamRequestHandler):
 
     def tell_of(self, words, seat):
         """Tells those who watch of the last accepted call."""
+        line = made_line(self.server.log.version, seat, words)
+        number, seat, call = line.split(" ", 2)
+        stamped = f"call {number} {time.time_ns() // 1_000_000} {seat} {self.name} {call}"
+        self.server.stamped.append(stamped)
         for other in self.server.watching:
             try:
-                other.says(f"call {made_line(self.server.log.version, seat, words)}")
+                other.says(stamped if other.form else f"call {line}")
             except OSError:
                 pass
 

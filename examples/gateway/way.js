@@ -1,0 +1,85 @@
+// The way of media to rtpengine: how it is made, and how the same member gets it back when its network changes.
+"use strict";
+
+// In ms: for how long candidates are gathered, and how long a new way may take, and the first one.
+const GATHERS = 2000, COMES = 8000, OPENS = 20000;
+
+const pause = ms => new Promise(done => setTimeout(done, ms));
+
+function connected(mine) {
+  const peer = new RTCPeerConnection({ iceServers: mine.ice });
+  peer.ontrack = ({ track, streams: [stream], transceiver }) => {
+    if (track.kind === "audio") { at("mix").srcObject = stream; return; }
+    const slot = transceiver.mid - 1;
+    const figure = slot ? at("own").cloneNode(true) : at("stage");
+    if (slot) { figure.id = "slot" + slot; at("pictures").append(figure); }
+    figure.hidden = true;
+    figure.querySelector("video").srcObject = stream;
+  };
+  peer.onconnectionstatechange = () => {
+    if (mine !== call || mine.peer !== peer || mine.isComing) return;
+    const { connectionState: state } = peer;
+    if (state === "connected") mine.hadWay = true;
+    if (mine.hadWay && (state === "disconnected" || state === "failed")) mend(mine);
+    else if (state === "failed") closes();
+  };
+  // A browser that finds no candidate at all doesn't say that it has failed.
+  const closes = () => leave("The way to the media server is closed. Is a firewall between?", true);
+  pause(OPENS).then(() => { if (mine === call && mine.peer === peer && !mine.hadWay) closes(); });
+  return peer;
+}
+
+// The own description, once its candidates are gathered. Those that are late aren't in it: rtpengine learns them from
+// what comes from there.
+async function gathered(peer) {
+  const all = new Promise(done => { peer.onicecandidate = ({ candidate }) => { if (!candidate) done(); }; });
+  await peer.setLocalDescription();
+  await Promise.race([all, pause(GATHERS)]);
+  return peer.localDescription.sdp;
+}
+
+// Restarts ICE (RFC 8445 section 9) by an offer of the page. Whether there is a way then.
+async function restarted({ peer, base, id, ice }) {
+  peer.setConfiguration({ iceServers: ice });
+  peer.restartIce();
+  try {
+    const { sdp } = await ask(base, "restart", { id, sdp: await gathered(peer) });
+    await peer.setRemoteDescription({ type: "answer", sdp });
+  } catch (why) {
+    if (peer.signalingState === "have-local-offer") await peer.setLocalDescription({ type: "rollback" });
+    throw why;
+  }
+  const end = Date.now() + COMES, isThere = () => peer.connectionState === "connected";
+  while (!isThere() && Date.now() < end) await pause(100);
+  return isThere();
+}
+
+// Finds a new way for the same connection, for as long as the gateway keeps the member.
+async function mend(mine) {
+  if (mine.isMending || mine.isComing) return;
+  mine.isMending = true;
+  const end = Date.now() + mine.told.away * 1000, goesOn = () => mine === call && !mine.isComing;
+  let isThere = false, last = new Error("Your connection is broken. Press Join to come back.");
+  while (goesOn() && !isThere && Date.now() < end && last.status !== 410) {
+    say(`${SHORT(last.message)} Coming back ..`, true);
+    isThere = await restarted(mine).catch(why => { last = why; });
+    if (!isThere) await pause(TRY);
+  }
+  mine.isMending = false;
+  if (!goesOn()) return;
+  if (isThere) look();
+  else if (last.again) comeAgain(mine, last);
+  else leave(last.message, true);
+}
+
+const mends = () => { if (call && call.hadWay) mend(call); };
+addEventListener("online", mends);
+// Where the browser says so, as on a phone that leaves its Wi-Fi.
+{
+  const network = navigator.connection || {};
+  let { type } = network;
+  network.onchange = () => {
+    if (network.type !== type && network.type !== "none") mends();
+    ({ type } = network);
+  };
+}

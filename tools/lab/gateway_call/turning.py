@@ -1,0 +1,87 @@
+"""A page whose network lets nothing out but TLS: it joins by a TURN server, which is coturn."""
+
+import socket
+import subprocess
+
+from lab.gateway_call.parts import Parts
+from lab.gateway_call.trial import Trial, lacking
+from operators.serving import free_port
+
+# The secret of the agent and of the server, and one that the server doesn't have.
+SECRET, WRONG = "a secret of a test", "a secret of nobody"
+CURVE = "-newkey", "ec", "-pkeyopt", "ec_paramgen_curve:prime256v1"
+# A page that may use relays alone.
+RELAYED = """RTCPeerConnection = class extends RTCPeerConnection {
+  constructor(how) { super({ ...how, iceTransportPolicy: "relay" }); }
+}; true"""
+# By what the connection's media go.
+PAIR = """call.peer.getStats().then(all => {
+  const one = [...all.values()], transport = one.find(each => each.type === "transport");
+  const pair = transport && all.get(transport.selectedCandidatePairId), own = pair && all.get(pair.localCandidateId);
+  return own ? [own.candidateType, own.relayProtocol] : null;
+})"""
+
+
+class Turning(Trial):
+    """The step of such a page."""
+
+    def coturn(self, port):
+        """Starts a server that speaks TLS, with a certificate that nobody has signed."""
+        missing = lacking("turnserver", "openssl")
+        if missing:
+            return missing
+        names = ["-keyout", self.folder / "turn.key", "-out", self.folder / "turn.pem", "-subj", "/CN=127.0.0.1"]
+        made = ["openssl", "req", "-x509", *CURVE, "-nodes", "-days", "2", *names]
+        subprocess.run(made, check=True, capture_output=True, timeout=60)
+        words = ["turnserver", "-n", f"--tls-listening-port={port}", "--no-udp", "--no-tcp", "--no-dtls", "--no-cli"]
+        words += ["--use-auth-secret", f"--static-auth-secret={SECRET}", "--realm=test", "--allow-loopback-peers"]
+        words += ["--listening-ip=127.0.0.1", "--relay-ip=127.0.0.1", "--min-port=41000", "--max-port=41099"]
+        words += [f"--cert={self.folder / 'turn.pem'}", f"--pkey={self.folder / 'turn.key'}", "--log-file=stdout"]
+        words += [f"--pidfile={self.folder / 'turn.pid'}", f"--userdb={self.folder / 'turn.db'}"]
+        with (self.folder / "turn.log").open("w") as log:
+            server = subprocess.Popen(words, stdout=log, stderr=log, stdin=subprocess.DEVNULL)
+        server.close = server.kill
+        self.others.append(server)
+        listens = lambda: socket.socket().connect_ex(("127.0.0.1", port)) == 0
+        self.comes(listens, "coturn takes TLS", lambda: (self.folder / "turn.log").read_text()[-500:], 60)
+        return ""
+
+    def step_turn(self):
+        """A page joins by TURN over TLS, and is heard by one that needs none."""
+        port = free_port(socket.SOCK_STREAM)
+        missing = self.coturn(port)
+        if missing:
+            print(f"skipped: TURN over TLS ({missing})")
+            return
+        self.turn = f"turns:127.0.0.1:{port}?transport=tcp"
+        parts, one = self.relayed(530_000, SECRET)
+        way = lambda: one.run(PAIR)
+        self.comes(lambda: way() == ["relay", "tls"], "a page joins by TURN over TLS", lambda: (way(), one.says()), 30)
+        came = parts.engine.received(one.run("call.id"), "browser").packets
+        more = lambda: parts.engine.received(one.run("call.id"), "browser").packets > came + 20
+        self.comes(more, "its media come by that", one.says)
+        if not self.args.model:
+            self.browser("B", parts.page).join()
+            self.everyone_hears("A joins by TURN")
+        self.close_callers()
+        parts.stop("agent")
+
+    def relayed(self, first_member, secret):
+        """A gateway with this secret, and a page of it that may use relays alone."""
+        turn = {"urls": [self.turn], "secret": secret}
+        parts = Parts(self.folder, self.udp, self.tcp, self.parts.control, first_member, turn=turn)
+        self.others.append(parts)
+        parts.start("agent")
+        one = self.browser("A", parts.page, ["--ignore-certificate-errors"])
+        one.run(RELAYED)
+        return parts, one.join()
+
+    def step_wrong_secret(self):
+        """By another secret than the server's it doesn't join."""
+        if not hasattr(self, "turn"):
+            return
+        parts, one = self.relayed(540_000, WRONG)
+        closed = lambda: "The way to the media server is closed" in one.says()
+        self.comes(closed, "by another secret it has no way, and its page says so", one.says, 60)
+        self.close_callers()
+        parts.stop("agent")
