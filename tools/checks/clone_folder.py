@@ -16,8 +16,9 @@ from checks.sound import amplitude, write_tone
 from checks.substitutes import write_all
 from operators.shared import ROOT, fail
 
-# What differs each time: the moment at which a bridge that listens began, and the SSRC of a mix that an agent chose.
-ANY = re.compile(r'(?<=, ticks from )[0-9]+$|(?<="mix": )[0-9]+', re.M)
+# What differs each time: the moment at which a bridge that listens began, the SSRC of a mix that an agent chose, the
+# moments of calls.
+ANY = re.compile(r'(?<=, ticks from )[0-9]+$|(?<="mix": )[0-9]+|^[0-9-]{10}T[0-9:.]{12}(?= call )', re.M)
 # Blocks that end with another status than 0.
 STATUSES = {f"tools/bridge explain {name}.pcap\n": 1 for name in ("lacking", "full")}
 # How many seconds a command may take: a build without proofs on a busy machine.

@@ -163,6 +163,12 @@ def names_what_goes(browser, told, wanted=None):
         fail(f"the buttons say {words}, the bridge's history {said}, and wanted is {wanted}")
 
 
+def agrees(browser):
+    """Says yes where the page asks whether to take back what another operator did."""
+    browser.wait("document.getElementById('ask').open")
+    browser.click("#ask-yes")
+
+
 def undoes_others(browser, shown, told, ask):
     """The buttons name another operator's changes, undos and redos, from each moment on."""
     version, before = browser.run("version()"), browser.run("buttons()")[0]
@@ -178,6 +184,7 @@ def undoes_others(browser, shown, told, ask):
     time.sleep(MEANT)
     version += 1
     browser.run("document.getElementById('undo').click(); true")
+    agrees(browser)
     settles(browser, version)
     names_what_goes(browser, told, [before, "Redo: add-room 9 8000"])
     compare(browser, version, shown(), "another operator's change")
@@ -225,6 +232,7 @@ def reverts(browser, shown, told, ask):
     _, _, member, source, mute, move, _ = range(version + 1 - len(REVERTED), version + 1)
     operator = browser.run(f"past.done.find(({{ number }}) => number === {mute}).operator")
     presses_revert(browser, mute, f"Revert: mute 280, by operator {operator}")
+    agrees(browser)
     turns(browser, version + 1, mute, "reverted mute 280", "Undo: the revert of mute 280")
     is_refused(browser, move, "it would also take member 80 out.", None)
     is_refused(browser, member, f"call {source}, add-source 280 80 audio by operator {operator}, needs it "
@@ -233,8 +241,7 @@ def reverts(browser, shown, told, ask):
     time.sleep(MEANT)
     browser.run("fill('add-room', { room: '9', rate: '8000' }), true")
     settles(browser, version)
-    own = browser.run("past.done[past.done.length - 1].operator")
-    presses_revert(browser, revert, f"Revert: the revert of mute 280, by operator {own}")
+    presses_revert(browser, revert, "Revert: the revert of mute 280, by page")
     turns(browser, version + 1, revert, "brought back mute 280", "Undo: the return of mute 280")
     is_refused(browser, source, f"call {mute}, mute 280 by operator {operator}, needs it (no such source).", mute)
     time.sleep(MEANT)
@@ -244,6 +251,7 @@ def reverts(browser, shown, told, ask):
     compare(browser, version + 2, shown(), "the undo of a revert")
     undos = len(REVERTED) + 2
     browser.run(f"walked = {last}, renderHistory(), press('go {last}'), true")
+    agrees(browser)
     settles(browser, version + 2 + undos)
     is_told(browser, [("desk.rows", rows), ("past.done[past.done.length - 1].number", last)])
     names_what_goes(browser, told)
@@ -253,7 +261,7 @@ def presses_revert(browser, number, words):
     """Clicks on a call of the history, and presses by a key what takes it back alone."""
     browser.run(f"walked = null, renderHistory(), press('walk {number}'), true")
     button = f"document.querySelector('[data-key=\"revert {number}\"]')"
-    is_told(browser, [(f"{button}.textContent", words)])
+    is_told(browser, [(f"{button}.textContent.replace(/[\\u2068\\u2069]/g, '')", words)])
     browser.run(f"{button}.focus(), true")
     browser.press("Enter", 13)
 
@@ -276,6 +284,7 @@ def is_refused(browser, number, why, at):
     presses_revert(browser, number, browser.run(
         f"`Revert: ${{saidOf({number})}}, by operator ${{past.done.find((one) => one.number === {number}).operator}}`"
     ))  # fmt: skip
+    agrees(browser)
     browser.wait(f"document.getElementById('notice').textContent.endsWith({json.dumps(why)})")
     is_told(browser, [("version()", version), ("document.getElementById('show-call').hidden", at is None)])
     if at is not None:

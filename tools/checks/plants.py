@@ -83,7 +83,7 @@ PLANTS = {
         "drop(seat);",
     ),
     "operators_wake_nobody": (
-        "operator_threads/src/at_desk.rt",
+        "operator_threads/src/noting.rt",
         "            self.front.wake();",
         "            let _ = self.front;",
     ),

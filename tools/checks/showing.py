@@ -12,7 +12,8 @@ NAMES = {"room 1": "Weekly call", "room 2": "Lobby", "room 3": "Concert", "membe
 WITH_VIDEO = 6
 # The levels of those who speak, one of them while muted.
 SPEAKS = {212: -21.0, 215: -33.0, 225: -28.0, 240: -18.0}
-# What is done once all are there: an operator, and a line.
+# Who they are, and what is done once all are there: an operator, and a line.
+OPERATORS = {0: "page", 2: "Anna", 3: "Tom"}
 CHANGES = [
     (0, "give-floor 1 12"), (0, "set-gain 11 210 384"), (0, "set-gain 11 212 128"), (0, "subscribe 510 111"),
     (0, "subscribe 515 110"), (2, "group mute 214 / mute 216 / mute 225"), (0, "mute 219"), (3, "mute 218"),
@@ -39,7 +40,7 @@ def take_pictures(command, folder, into):
     names = {f"member {10 + place}": name for place, name in enumerate(PEOPLE)} | NAMES
     one = standin.Standin(text=json.dumps(names))
     for operator, line in [(0, line) for line in lines()] + CHANGES:
-        said = one.call(line, operator)
+        said = one.call(line, operator, OPERATORS[operator])
         assert said.startswith("ok "), f"{line}: {said}"
     counts = Counts(one, silent={217}, losing={113: 0.04}, levels=SPEAKS, reports={9020: (0.06, 22, 310)})
     one.counted = counts.told

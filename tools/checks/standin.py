@@ -13,8 +13,8 @@ from checks.make.page import PARTS, TOKEN, WEB
 from operators.models.desk import Log
 from operators.models.lines import COMMANDS, TURNS
 
-RESERVED = ("show", "history", "stats", "levels", "watch", "quit", "stop", "names")
-MOST_CALLS = 256
+RESERVED = ("show", "history", "calls", "stats", "levels", "watch", "as", "why", "help", "quit", "stop", "names")
+MOST_CALLS, MOST_PAST = 256, 512
 LONGEST_NAME, LONGEST_CHANGE = 800, 262_144
 
 
@@ -45,17 +45,29 @@ class Standin:
         while time.monotonic() < min(end, time.monotonic() + self.pause):
             time.sleep(0.02)
 
-    def call(self, line, operator=0):
+    def call(self, line, operator=0, name="page"):
         """What the bridge answers to a line. The page is operator 0."""
         words = line.split(" ")
         if words[0] not in (*COMMANDS, *TURNS, "group"):
             return "fault 1 3 UnknownWord"
         with self.lock:
-            return self.log.call(words, operator)
+            answer = self.log.call(words, operator)
+            if answer.startswith("ok "):
+                told = f"call {answer[3:]} {time.time_ns() // 1_000_000} {operator} {name} {line}"
+                self.logged().append(told)
+            return answer
 
-    def ask(self, line):
+    def ask(self, line, name="-"):
         """Another operator's call."""
-        return self.call(line, 1)
+        return self.call(line, 1, name)
+
+    def logged(self):
+        """The lines of all accepted calls. They go with their log."""
+        return vars(self.log).setdefault("told", [])
+
+    def past(self):
+        with self.lock:
+            return [*self.logged()[-MOST_PAST:], f"end {self.log.version}"]
 
     def shown(self):
         with self.lock:
@@ -136,11 +148,12 @@ def handler_of(standin):
             if self.path == "/stats":
                 return self.count()
             path, _, query = self.path.partition("?")
-            if path not in ("/desk.txt", "/history.txt"):
+            if path not in ("/desk.txt", "/history.txt", "/past.txt"):
                 return self.tell(404, "NotFound\n")
             if standin.is_gone:
                 return self.tell(502, "Gone: the bridge is not there, nothing was sent\n")
-            lines = standin.desk() if path == "/desk.txt" else standin.history()
+            told = {"/desk.txt": standin.desk, "/history.txt": standin.history, "/past.txt": standin.past}
+            lines = told[path]()
             if path == "/desk.txt" and query == f"after={lines[-1].partition(' ')[2]}":
                 return self.tell(204, "")
             return self.tell(200, "".join(f"{line}\n" for line in lines))
@@ -166,11 +179,11 @@ def handler_of(standin):
             if self.path == "/names":
                 return self.tell(200, standin.rename(body) + "\n")
             if body.split(" ")[0] in RESERVED:
-                told = "Reserved: show, history, stats, levels, watch, quit, stop and names are not for the page\n"
+                told = "Reserved: calls alone are for the page, and no line such as show, watch, as or help\n"
                 return self.tell(400, told)
             if standin.is_gone:
                 return self.tell(502, "Gone: the bridge is not there, nothing was sent\n")
-            return self.tell(200, standin.call(body) + "\n")
+            return self.tell(200, standin.call(body, name=self.headers["X-Desk-Person"] or "page") + "\n")
 
     return Handler
 

@@ -21,6 +21,8 @@ from operators.models.desk import parts_of
 from kept import Unmade, makings  # noqa: E402
 
 NEEDS = "a bridge that runs"
+# The name of its connection.
+NAME = "agent-restore"
 
 
 def options(parser):
@@ -72,6 +74,8 @@ def give(seat, groups):
     rows, _ = seat.rows()
     if rows:
         raise Trouble(f"the bridge at {seat.address} isn't empty: it has {len(rows)} rows. Nothing was given", 1)
+    # The page's Undo leaves what a program of such a name did.
+    seat.answered(f"as {NAME}")
     for at, (line, group) in enumerate(groups):
         try:
             said = seat.answered(group)

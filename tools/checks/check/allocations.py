@@ -147,6 +147,8 @@ class Sources:
             told = {self.type_in(g.gives.replace("Self", g.owner or "")) for g in given}
             if len(told) == 1:
                 known[name] = told.pop()
+        elif path := re.match(r"&?(?:mut )?(\w+(?:\.\w+)+)\s*;?\s*$", value):
+            known[name] = self.type_of_path(known, path[1].split("."))
         elif re.match(r"(\w+)(?:::\w+)?\s*$|(\w+) \{", value):
             known[name] = self.type_in(value)
 

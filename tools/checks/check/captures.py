@@ -180,7 +180,15 @@ def check_two(packets):
     for named in {"tcp": "7000"}, {"tcp": "127.0.0.1:7100"}, {"udp": "5104"}:
         said, found, _ = told(both, **named)
         check(found == 0, f"one of two bridges, {named}: {found} media packets differ\n{said}")
-    print("two bridges in one capture are named, and each can be chosen")
+    page, body = ("127.0.0.1:40500", "127.0.0.1:7080"), "".join(f"{line}\n" for line in [*ROWS, "end 12"])
+    asked, said = b"GET /desk.txt HTTP/1.1\r\n\r\n", f"HTTP/1.1 200 OK\r\n\r\n{body}".encode()
+    http = [
+        (BEGIN, tcp_packet(*page, 99, SYN)), (BEGIN, tcp_packet(*page[::-1], 999, SYN | ACK)),
+        (BEGIN + GAP, tcp_packet(*page, 100, 24, asked)), (BEGIN + GAP, tcp_packet(*page[::-1], 1000, 24, said)),
+    ]  # fmt: skip
+    said, found, _ = told(written(packets + http))
+    check(found == 0 and "another bridge" not in said, f"the page is taken for a bridge\n{said}")
+    print("two bridges in one capture are named, and each can be chosen; the page is none")
 
 
 def check_middle():
@@ -234,7 +242,7 @@ def check_planted():
 
 # Connections of operators
 
-# Rows of each kind, in answers of `show`, `history` and `watch`.
+# Rows of each kind, in answers of `show`, `history`, `watch`, `calls`, `help`, `why`, `stats` and `levels`.
 ROWS = [
     "room 1", "member 0 10 1 127.0.0.1:6000 pcmu 9001 0 0", "member 1 11 1 127.0.0.1:6002 pcmu 9002 0 0",
     "source 101 10 video", "source 201 10 audio", "source 202 11 audio", "slot 501 11 0 0 0", "sub 501 101", "mute 202",
@@ -245,6 +253,37 @@ HISTORY = [
     "4 0 mute 201", "undone", "5 0 pin 1 201",
 ]  # fmt: skip
 WATCHED = ["call 13 0 mute 201", "call 14 1 unmute 201", "call 15 0 group mute 201 / unpin 1"]
+NAMED = [
+    "call 13 1800000000123 0 - mute 201", "call 14 1800000000456 1 ann undo 13", "call 15 1800000000789 0 as redo 14",
+]  # fmt: skip
+LISTED = ["call 1 1800000000001 0 - add-room 1 8000", "call 2 1800000000002 1 mute add-room 2 44100"]
+HELP = [
+    "mute SOURCE", "pin ROOM SOURCE", "undo LAST", "group COMMAND / COMMAND ..", "show", "history [N]", "calls [N]",
+    "stats", "levels", "watch [names]", "as NAME", "why", "help [WORD]", "quit", "stop",
+]  # fmt: skip
+HELP_OF_MUTE = [
+    "mute SOURCE", "SOURCE: the SSRC of a source, 0 to 4294967295", "refused 10 Already nothing to do",
+    "example mute 201",
+]  # fmt: skip
+WHY = [
+    "line undo", "word 2 - LAST: the number of the last accepted call", "last 7",
+    "fault 4 MissingWord a word is missing",
+]  # fmt: skip
+WHY_REFUSED = [
+    "line revert 7", "refused 25 Conflict a later call rests on it", "call 9 part 0", "refused 10 Already nothing to do"
+]  # fmt: skip
+STATS = [
+    "datagrams 3 octets 51 dropped rtp 3 Csrc",
+    "source 127.0.0.1:6000 201 packets 50 octets 8600 late 0 duplicate 0 dropped 1 expected 50 lost 0 ago 4 jitter 0 "
+    "frames - given-up - waiting - samples 8000 energy 7626100", "stranger 10.0.0.9:5000 777 type 100 packets 12",
+    "left-out sources 0 strangers 0 streams 0 reports 0", "limited nacks 4 blocks 0 plis 1", "seats 2 of 4",
+]  # fmt: skip
+LEVELS = ["level 127.0.0.1:6000 201 8000 7626100"]
+# What an operator asks that is no call, and the rows of the answer.
+ASKED = {
+    "calls": LISTED, "calls 2": LISTED, "help": HELP, "help mute": HELP_OF_MUTE, "why": WHY, "stats": STATS,
+    "levels": LEVELS,
+}  # fmt: skip
 
 
 def talk(pairs, has_syn):
@@ -262,9 +301,43 @@ def talk(pairs, has_syn):
     return packets
 
 
+def check_asked():
+    """What an operator asks has its own answer, also where several lines come at once and some are faulty."""
+    asked = [
+        ("as ann", ["as ann"]), ("as", ["fault 2 4 MissingWord"]), ("undo", ["fault 2 4 MissingWord"]),
+        ("why", [*WHY, "end"]), ("why not", ["fault 2 5 ExtraWord"]), ("revert 7", ["no 12 23 NotInForce"]),
+        ("why", [*WHY_REFUSED, "end"]), ("help", [*HELP, "end"]), ("help mute", [*HELP_OF_MUTE, "end"]),
+        ("stats", [*STATS, "end"]), ("levels", [*LEVELS, "end"]), ("show", [*ROWS, "end 12"]),
+        ("watch names", ["end 12"]), ("mute 201", ["ok 13", NAMED[0]]), ("calls 2", [*LISTED, "end 2"]),
+        ("history", [*HISTORY, "end 6"]),
+    ]  # fmt: skip
+    for has_syn in True, False:
+        wanted = [(line, answer[-1] if line != "mute 201" else "ok 13") for line, answer in asked]
+        alone = [([line], answer) for line, answer in asked]
+        at_once = [([line for line, _ in asked], [one for _, answer in asked for one in answer])]
+        for pairs in alone, at_once:
+            calls, told = calls_of(wire_of(io.BytesIO(written(talk(pairs, has_syn)))))
+            # The order is that of their moments, and one answer may be that of several lines.
+            got = sorted((call.text, call.answer) for call in calls)
+            check(got == sorted(wanted), f"lines have the answers {got}")
+            check(len(told.shown) == 3, f"of what is asked the desk is told by {[one.by for one in told.shown]}")
+    print(f"{len(asked)} lines of an operator have their answers, one by one and at once")
+
+
 def check_rows():
     """A row in an answer is never an operator's line, also where the connection's beginning isn't there."""
     count = 0
+    for has_syn in True, False:
+        others = [[(["help"], [*HELP, "end"])], [(["as ann"], ["as ann"]), (["help"], [*HELP, "end"])]]
+        others += [[([question], [*rows, "end 2"])] for question, rows in ASKED.items()]
+        others += [[(["watch names"], ["end 12"]), ([], NAMED)]]
+        others += [[(["undo"], ["fault 2 4 MissingWord"]), (["why"], WHY)]]
+        for pairs in others:
+            it = explained(io.BytesIO(written(talk(pairs, has_syn))))
+            asked = {call.text for call in it.calls if call.client}
+            wanted = {line for question, _ in pairs for line in question}
+            check((it.wire.tcp, asked) == (DESK, wanted), f"of {pairs} the desk is {it.wire.tcp}, asked {asked}")
+            count += 1
     for has_syn in True, False:
         for row in ROWS:
             rows = [one for one in ROWS if one.split(" ")[0] != row.split(" ")[0]] + [row]
@@ -297,7 +370,7 @@ def check_lost_lines():
     lost = [one for one in call.packets if b"add-source 201 " not in one[1] and b"add-source 202 " not in one[1]]
     found, it = found_in(written(lost))
     words = [text for text, _ in it.run.odd]
-    lacks = "the capture lacks call 4: the desk isn't known from then on, until a `show` or a `history`"
+    lacks = "the capture lacks call 4: the desk isn't known from then on, until a `show`, a `history` or `calls`"
     check(words == [lacks], f"of lost lines it is noted: {words}")
     said = {(one.kind, one.about) for one in found}
     check(said == {("muted", 202)}, f"of a capture that lacks an operator's lines it is told: {found}")
@@ -319,7 +392,10 @@ def check_desks():
     made = [f"desk 0 {' '.join(words)}" for (_, _, words), _ in log.done]
     kept = ["# the desk of version 9", "group " + " / ".join(" ".join(words) for (_, _, words), _ in log.done[:9])]
     trace = ["bridge 1 bridge renew", *made[:9], f"rx {BEGIN + 59 * GAP} 1.2.3.4:5 00", *made[9:]]
-    for name, lines in ("show", rows), ("history", [*calls, "end 9"]), ("keep", kept), ("a trace", trace):
+    listed = [*call.accepted, "end 10"]
+    for name, lines in (
+        ("show", rows), ("history", [*calls, "end 9"]), ("calls", listed), ("keep", kept), ("a trace", trace)
+    ):  # fmt: skip
         found, it = found_in(written(rest), given=given_by("\n".join(lines)))
         differ = wrong(found, {("muted", 202)}, {("muted", 202)})
         check(not differ and not it.run.lost, f"by {name}: {differ} {it.run.odd}")
@@ -328,6 +404,23 @@ def check_desks():
     found, it = found_in(written([one for one in spoken if one[0] >= BEGIN + 50 * GAP]))
     told = [(one.kind, one.about) for one in found]
     check(told == 2 * [("muted", 202)] and not it.run.odd, f"by a history in the capture it is told: {found}")
+    # All calls in the capture, also an undo and a revert.
+    says = {20: "mute 202", 30: "undo 9", 40: "mute 202", 45: "mute 101", 50: "revert 12", 60: "calls"}
+    says[80] = "unmute 202"
+    spoken = Call(says={at: [line] for at, line in says.items()}).packets
+    found, it = found_in(written([one for one in spoken if one[0] >= BEGIN + 55 * GAP]))
+    told = [(one.kind, one.about) for one in found]
+    check(told == [("muted", 202)] and not it.run.odd, f"by `calls` in the capture it is told: {found} {it.run.odd}")
+    # What was undone before isn't told.
+    spoken = Call(says={20: ["mute 202"], 30: ["undo 9"], 60: ["history"]}).packets
+    found, it = found_in(written([one for one in spoken if one[0] >= BEGIN + 50 * GAP]))
+    check(not found and not it.run.odd, f"of what a history has as undone it is told: {found} {it.run.odd}")
+    # Who did it is told by name, as the operator said it, and as `calls` tells it of one whose lines aren't there.
+    spoken = Call(says={19: ["as ann"], 20: ["mute 202"], 60: ["mute 101"], 120: ["calls"]}).packets
+    found, it = found_in(written([one for one in spoken if b"mute 101\n" not in one[1] or b"call " in one[1]]))
+    told, by = {(one.kind, one.about) for one in found}, [one.text.split(" of ")[1][:16] for one in found[:2]]
+    check(told == {("muted", 202), ("muted", 101), ("slot", 501)} and not it.run.odd, f"{found} {it.run.odd}")
+    check(by == 2 * ["operator 0 (ann)"], f"who muted them is told so: {found}")
     # Reverts: where a history has one, or a call isn't known that one takes back, the desk is told once more.
     says = {30: "mute 202", 40: "pin 1 101", 60: "revert 9", 80: "revert 11", 90: "history", 110: "revert 10"}
     spoken = Call(says={at: [line] for at, line in says.items()}).packets
@@ -351,7 +444,7 @@ def check_desks():
     found, it = found_in(written([one for one in last if one[0] >= BEGIN + 30 * GAP]))
     told = [one.text for one in found]
     check(not told and it.begin > BEGIN + 119 * GAP, f"where `show` comes last, it is told: {told}")
-    print("the desk comes from `show`, `history`, `keep` and a trace, and a `show` stands where its answer ends")
+    print("the desk comes from `show`, `history`, `calls`, `keep` and a trace; a `show` stands where its answer ends")
 
 
 # Captures that are worse
@@ -515,6 +608,7 @@ def run(_args):
     check_two(packets)
     check_middle()
     check_rows()
+    check_asked()
     check_order()
     check_lost_lines()
     check_desks()

@@ -1,15 +1,15 @@
 """Checks that what tools make of the documents is current, and that what documents call proved is in the sources.
 
-Made are DEFINITIONS, ALL_PROMISES and parts of other documents. So each function and clause that docs/promises.txt
-names is in the sources, and each public law is named there. Where a document says "(proved: `NAME`)", or links a name
-to a source, a function, a type or a trait has that name.
+Made are DEFINITIONS, ALL_PROMISES, parts of other documents, and the words of the page's advice. So each function and
+clause that docs/promises.txt names is in the sources, and each public law is named there. Where a document says
+"(proved: `NAME`)", or links a name to a source, a function, a type or a trait has that name.
 """
 
 import re
 
 from checks import contracts
 from checks.check.style import documents
-from checks.make import crates, definitions, performance, promises
+from checks.make import crates, definitions, performance, promises, words
 from operators.shared import CRATES, ROOT
 
 NEEDS = "nothing"
@@ -26,6 +26,8 @@ def made():
     yield "make performance", performance.DOCUMENT, performance.document()
     yield "make promises", promises.DOCUMENT, promises.document()
     yield "make promises", promises.TEN, promises.ten_document()
+    yield "make words", words.DOCUMENT, words.document()
+    yield "make words", words.SCRIPT, words.script()
 
 
 def is_in(name, file):

@@ -9,7 +9,9 @@ answers the script as the models do, and each wrong sender is named. From its mi
 Then it holds calls whose members have planted faults, such as PCMA, a slow clock or a mute, on 1, 4 and 16 lanes. Each
 capture is made worse: begun at ten random places, with 2 percent of its packets lost, out of order by 5 ms, cut short
 by `-s 96`, with a clock that is set by an hour, and beside another bridge. Each planted fault that a capture shows has
-to be told, and nothing else may be. Where this process may not capture, all is skipped.
+to be told, and nothing else may be. On a machine that is busy the check knows, by its own clock and by what the system
+counts for the bridge's threads, what may be so though nobody planted it. Where this process may not capture, all is
+skipped.
 """
 
 import concurrent.futures
@@ -254,19 +256,12 @@ def check_one(program, args, lanes):
         if it and call.late < LATEST:
             check_parts(octets, it)
             return
-    if it:
-        fail(too_busy(call))
-    fail("media packets differ from the models'")
-
-
-def too_busy(call):
-    return f"no call was held in time: packets left {1000 * call.late:.0f} ms late, or some weren't captured"
+    check(it, "media packets differ from the models'")
+    print(f"from its middle on it isn't judged: packets left {1000 * call.late:.0f} ms late, as the machine is busy")
 
 
 # Planted faults
 
-# What is so where the machine is busy, and nobody planted it.
-BUSY = ("busy", None)
 # What explains captures has less of the processors than the calls that are held meanwhile.
 NICE = 15
 OTHERS = ("127.0.0.1:5104", "127.0.0.1:7100"), ("127.0.0.1:6100", "127.0.0.1:6102")
@@ -280,27 +275,31 @@ def check_planted(program, args, lanes, workers):
         record = held_in_time(program, args, lanes, names[at : at + args.at_once])
         seed = f"{args.seed} {lanes} {record.names}"
         due.append((record, workers.submit(differences, record, seed, args.cuts)))
-    count = 0
+    count, busy = 0, 0
     for record, job in due:
         tried, found = job.result()
-        count += tried
+        count, busy = count + tried, busy + bool(record.unsure())
         for how, octets, differ in found:
             if args.keep:
                 pathlib.Path(args.keep).write_bytes(octets)
             lines = "\n".join(f"  {line}" for line in differ)
             fail(f"on {lanes} lanes a call with {', '.join(record.names)}, {how}:\n{lines}")
     text = f"on {lanes} lanes {len(names)} planted faults are told, also in {count} worse captures, and nothing else"
-    print(text, flush=True)
+    left = f"; of {busy} of {len(due)} calls it isn't judged what a busy machine may do" if busy else ""
+    print(text + left, flush=True)
 
 
 def held_in_time(program, args, lanes, names):
-    """A call with some faults, of which no packet left late."""
+    """A call with some faults, in which the machine wasn't busy, or one that is whole."""
+    whole = []
     for _ in range(args.tries):
         with tempfile.TemporaryDirectory() as folder:
             held = Held(program, lanes, names, folder)
-        if held.is_whole and held.late < LATEST:
+        if held.is_whole and not held.record.unsure():
             return held.record
-    return fail(too_busy(held))
+        whole += [held.record] if held.is_whole else []
+    check(whole, "the capture lost packets each time")
+    return min(whole, key=lambda record: record.late)
 
 
 def differences(record, seed, cuts):
@@ -317,7 +316,9 @@ def differences(record, seed, cuts):
         it = explained(io.BytesIO(one.octets), **one.named)
         told = Telling(it, None, ALL).found() if it.run else []
         must, may = record.wanted(one.begin, one.broken)
-        differ = wrong(told, may | {BUSY}, must if it.run else set())
+        unsure = {"busy", *record.unsure()}
+        must = {fault for fault in must if it.run and fault[0] not in unsure}
+        differ = wrong([one for one in told if one.kind not in unsure], may, must)
         if differ:
             found.append((one.how, one.octets, differ))
     return count, found

@@ -32,8 +32,8 @@ datagrams 1042 octets 180266 accepted
 datagrams 3 octets 51 dropped rtp 3 Csrc
 source 10.0.0.1:5000 101 packets 1042 octets 180266 late 0 duplicate 1 dropped 2 expected 1043 lost 1 ago 12 jitter 7 \
 frames 31 given-up 2 waiting 40 samples - energy - since 7
-source 10.0.0.1:5000 201 packets 7 octets 1204 late 2 duplicate 0 dropped 0 expected 9 lost 2 ago 120000 jitter 0 \
-frames - given-up - waiting - samples 1120 energy 358400
+source 10.0.0.1:5000 201 packets 7 octets 1204 late 2 duplicate 0 dropped 23 expected 9 lost 2 ago 120000 jitter 0 \
+frames - given-up - waiting - samples 1120 energy 358400 bad-payload 22 bad-type 8 spent 0 probation 1 jump 0 silent 140
 stranger 10.0.0.9:5000 777 type 100 packets 12
 left-out sources 0 strangers 5 streams 0 reports 6
 stream 501 fraction 64 lost 1 highest 101 8 packets 20 octets 22000 resent 3 jitter 12 round-trip 35
@@ -58,6 +58,10 @@ SAMPLES = {
     'confbridge_source_frames{address="10.0.0.1:5000",ssrc="101"}': 31,
     'confbridge_source_samples_total{address="10.0.0.1:5000",ssrc="201"}': 1120,
     'confbridge_source_energy_total{address="10.0.0.1:5000",ssrc="201"}': 358400,
+    'confbridge_source_bad_payload_packets_total{address="10.0.0.1:5000",ssrc="201"}': 22,
+    'confbridge_source_probation_packets_total{address="10.0.0.1:5000",ssrc="201"}': 1,
+    'confbridge_source_bad_payload_type{address="10.0.0.1:5000",ssrc="201"}': 8,
+    'confbridge_source_silent_seconds{address="10.0.0.1:5000",ssrc="201"}': 0.14,
     'confbridge_stranger_packets_total{address="10.0.0.9:5000",ssrc="777"}': 12,
     'confbridge_uncounted_datagrams_total{kind="strangers"}': 5,
     'confbridge_uncounted_datagrams_total{kind="reports"}': 6,

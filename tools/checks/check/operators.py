@@ -10,13 +10,18 @@ Last, one of sixteen operators stops a bridge with a full desk. Another leaves `
 and the others go on calling. The bridge has to end with status 0 within four seconds of the line `stop`: what waits to
 be written is given a second. It says how many calls of each operator it accepted: all that were told to that operator,
 and at most the one whose answer was lost.
+
+`tools/bridge calls --follow` tells each call of two bridges, one after another at one port, also what is accepted
+before it has found the next one.
 """
 
 import contextlib
 import random
+import re
 import select
 import socket
 import subprocess
+import sys
 import tempfile
 import threading
 import time
@@ -24,8 +29,8 @@ import time
 from checks.bridges import operator_at, together
 from checks.filling import fill, full_desk
 from checks.pair import Pair
-from operators.serving import said_at_the_end, settings, started
-from operators.shared import add_program, fail, release_program
+from operators.serving import free_port, said_at_the_end, settings, started
+from operators.shared import ROOT, add_program, fail, release_program
 
 NEEDS = "the program, half a minute"
 
@@ -37,6 +42,8 @@ ALLOWED = 4
 PATIENCE = 60
 # How many of an operator's last calls it may revert.
 REVERTED = 20
+# A line of `tools/bridge calls --follow`.
+FOLLOWED = re.compile(r"[0-9-]{10}T[0-9:.]{12} call ([0-9]+) seat [0-9]+ (.+)\n", re.ASCII)
 # A call that is refused: it gives a connection its seat, and changes nothing.
 REFUSED = "remove-room 4294967295"
 
@@ -261,8 +268,50 @@ def check_stop(program, args):
     return took <= ALLOWED
 
 
+# Following
+
+
+def check_followed(program):
+    """Has `tools/bridge calls --follow` follow two bridges, one after another at one port."""
+    port, told = free_port(socket.SOCK_STREAM), 0
+    words = [sys.executable, "-B", ROOT / "tools/bridge", "calls", "--follow", str(port)]
+    with tempfile.TemporaryDirectory() as folder, contextlib.ExitStack() as stack:
+        how = {"stdout": subprocess.PIPE, "stderr": subprocess.PIPE, "text": True}
+        follower = stack.enter_context(subprocess.Popen(words, **how))
+        stack.callback(follower.kill)
+        # It follows from when it says that no bridge is there.
+        follower.stderr.readline()
+        # What isn't told in time isn't told at all.
+        limit = threading.Timer(4 * PATIENCE, follower.kill)
+        limit.start()
+        stack.callback(limit.cancel)
+        for name in "ann", "bob":
+            bridge, _, _ = started(program, settings(folder, tcp=port, operators=3))
+            first = seated(port)
+            for line in f"as {name}", "add-room 1", "undo 1":
+                first.ask(line)
+            wanted = [("1", f"{name}: add-room 1 8000"), ("2", f"{name}: undo 1")]
+            lines = few_calls(follower.stdout, len(wanted))
+            got = [found.groups() for found in map(FOLLOWED.fullmatch, lines) if found]
+            if got != wanted:
+                fail(f"of the calls of {name} it is told {got}, not {wanted}")
+            told += len(got)
+            first.tell("stop")
+            bridge.wait(PATIENCE)
+    print(f"followed over the end of a bridge: {told} calls, each once")
+
+
+def few_calls(lines, count):
+    """The next so many lines of calls, or fewer where no more come."""
+    found = []
+    while len(found) < count and (line := lines.readline()):
+        found += [] if line.startswith("following ") else [line]
+    return found
+
+
 def run(args):
     program = release_program(args.binary)
+    check_followed(program)
     for count in 2, 4, 16:
         check(program, count, args)
     return 0 if check_stop(program, args) else 1

@@ -1,9 +1,9 @@
 """Builds a package, and holds a call with it on a Debian that has nothing but the C library and Python.
 
-The package is built twice, and has the same octets. Programs that weren't proved are refused. lintian finds no error,
-and man no fault of a page. The .deb is installed in a root of its own, which debootstrap makes once and keeps in the
-user's cache (~/.cache/confbridge). Where it can't, the package is unpacked in a tree with the C library, a shell and
-Python of this machine alone, and isn't removed.
+The package is built twice, and has the same octets. Programs that weren't proved are refused. lintian finds no error
+and no warning, and man no fault of a page. The .deb is installed in a root of its own, which debootstrap makes once and
+keeps in the user's cache (~/.cache/confbridge). Where it can't, the package is unpacked in a tree with the C library, a
+shell and Python of this machine alone, and isn't removed.
 
 There the bridge starts as its unit starts it, with the settings of the package, as a user without rights. Two members
 talk through `confbridge-tools member`, `stats` counts them, and SIGTERM stops the bridge with its last lines. What
@@ -115,10 +115,10 @@ def check_refusal(folder):
 def check_forms(deb, tree):
     """What Debian's own tools say of the package."""
     if shutil.which("lintian"):
-        words = ["lintian", "--allow-root", "--fail-on", "error", deb]
+        words = ["lintian", "--allow-root", "--fail-on", "error,warning", deb]
         run = subprocess.run(words, capture_output=True, text=True, check=False)
-        check(run.returncode == 0, f"lintian finds errors:\n{run.stdout}{run.stderr}")
-        told("lintian", "no error")
+        check(run.returncode == 0, f"lintian finds errors or warnings:\n{run.stdout}{run.stderr}")
+        told("lintian", "no error, and no warning")
     else:
         skipped("lintian", "it isn't installed")
     pages = sorted(tree.glob("usr/share/man/man1/*"))

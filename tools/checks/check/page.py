@@ -34,6 +34,7 @@ from checks.handling import handle, names_things, stays_small
 from checks.lasting import finds_another, keeps_the_desk, shows_stale
 from checks.make.page import LINES, WEB
 from checks.page_plants import PLANTS
+from checks.persons import tells_persons
 from checks.showing import take_pictures
 from checks.staying import stays
 from checks.watching import watches
@@ -150,9 +151,10 @@ class Page:
         for path in "/page.js", "/page.css":
             check(self.ask("GET", path)[0] == 200, f"{path} isn't there")
 
-    def call(self, line):
+    def call(self, line, **fields):
         """What a call is answered: a status and a text."""
-        status, _, text = self.ask("POST", "/call", line.encode(), {"X-Desk-Token": self.token})
+        given = {"X-Desk-Token": self.token} | {f"X-Desk-{name}": value for name, value in fields.items()}
+        status, _, text = self.ask("POST", "/call", line.encode(), given)
         return status, text.strip()
 
     def desk(self):
@@ -274,6 +276,30 @@ def sees_others(page, operator, version):
     return version + 1
 
 
+def names_callers(page, operator, version):
+    """A call goes to the bridge by the name of whom it is of, and the page tells the log as the bridge does."""
+    anna, bob = ("Anna%20B.", {"Person": "Anna%20B."}), ("bob", {"Person": "bob"})
+    called = [anna, ("page", {}), bob, bob]
+    begun = int(time.time() * 1000)
+    for at, (_, fields) in enumerate(called):
+        told = page.call(f"{'add' if at % 2 == 0 else 'remove'}-room 9", **fields)
+        check(told == (200, f"ok {version + at + 1}"), f"a call of {fields} is told as {told}")
+    lines = page.lines_of("/past.txt")
+    check(lines == shown(operator, "calls 512"), f"the page's log is {lines}")
+    told = [line.split(" ")[4] for line in lines[-1 - len(called) : -1]]
+    check(told == [name for name, _ in called], f"the names of these calls are {told}")
+    moments = [int(line.split(" ")[2]) for line in lines[-1 - len(called) : -1]]
+    check(begun - 1000 < moments[0] <= moments[-1] < begun + 60_000, f"the moments are {moments} from {begun} on")
+    last = json.loads(page.ask("GET", "/past")[2])
+    check(last["end"]["version"] == version + len(called), f"the log as JSON ends by {last['end']}")
+    one = last["calls"][-1]
+    check(f"call {one['number']} {one['moment']} {one['operator']} {one['name']} {one['call']}" == lines[-2], f"{one}")
+    for bad in "", "n" * 65, "Anna B.", "J\u00f6rg":
+        status, text = page.call("add-room 9", Person=bad.encode())
+        check(status == 400 and text.startswith("NoPerson"), f"a call of `{bad}` is told as {status} {text}")
+    return version + len(called)
+
+
 def refuses(page, operator, version):
     """Bad requests are refused by name, and the bridge has none of them."""
     good = {"X-Desk-Token": page.token}
@@ -295,6 +321,10 @@ def refuses(page, operator, version):
         (400, "Reserved", "POST", "/call", b"history 256", good),
         (400, "Reserved", "POST", "/call", b"stats", good),
         (400, "Reserved", "POST", "/call", b"watch", good),
+        (400, "Reserved", "POST", "/call", b"calls 20", good),
+        (400, "Reserved", "POST", "/call", b"as bob", good),
+        (400, "Reserved", "POST", "/call", b"why", good),
+        (400, "Reserved", "POST", "/call", b"help", good),
         (405, "NotAllowed", "POST", "/history", b"", good),
         (405, "NotAllowed", "POST", "/metrics", b"", good),
         (403, "ForeignHost", "GET", "/metrics", None, {"Host": "desk.example"}),
@@ -481,7 +511,7 @@ def find_commands(browser):
             )
 
 
-TRIES = "page_lines.js", "page_figures.js"
+TRIES = "page_lines.js", "page_figures.js", "page_people.js"
 
 
 def tried_by_node(files, tests):
@@ -560,6 +590,7 @@ def try_by_hand(args, folder, address, bridge):
         stays_small(one, [standing(*size) for size in ((1, 2), (1, 64), (64, 16))])
         stays(one)
         watches(one)
+        tells_persons(one, two)
     finally:
         one.close()
         two.close()
@@ -682,7 +713,7 @@ def session(args, folder):
         connected(programs[1], port).close()
         page.load()
         keeps_names(page, names)
-        version = sees_others(page, operator, go_through(page, operator))
+        version = names_callers(page, operator, sees_others(page, operator, go_through(page, operator)))
         refuses(page, operator, version)
         takes_others(page, operator, version)
         version = knows_its_state(page, operator.ask, version)

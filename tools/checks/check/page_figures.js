@@ -26,6 +26,10 @@ same([101, 999].map((ssrc) => page.isSilent(null, desk, ssrc)), [false, false]);
 same([101, 201, 202].map((ssrc) => page.countInWords(page.countOf(stats, desk, ssrc))),
   ["9 packets, 1 lost, the last one 1 s ago", "7 packets, 0 lost, the last one 2 s ago", "no packet came"]);
 same(page.countInWords(page.countOf(null, desk, 101)), "");
+const whys = (one) => page.countInWords({ packets: 9, lost: 0, ago_ms: 3, ...one });
+same([{ bad_payload: 0, bad_type: null, silent_ms: 1999 }, { bad_payload: 22, bad_type: 8, silent_ms: null },
+  { bad_payload: 0, bad_type: null, silent_ms: 2999 }, {}].map(whys).map((words) => words.split(";").slice(1)),
+[[], [" 22 dropped as no sound of its room, the last one of type 8"], [" silent for 2 s of its sound"], []]);
 same([0, 999, 1000, 59999, 60000, 3599999, 3600000].map(page.agoInWords),
   ["just now", "just now", "1 s ago", "59 s ago", "1 min ago", "59 min ago", "1 h ago"]);
 same(page.strangersIn(stats, desk), [

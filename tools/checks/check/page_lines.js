@@ -72,8 +72,8 @@ same(page.inWords("no 7 14 NewerCommand 9").text.includes("another change came f
 same(page.inWords("no 6 20 PartRefused 1 2 NoRoom").text.includes("Command 2 of it: there is no such room"), true);
 same(page.inWords("fault 2 6 BadNumber").text.includes("at word 2"), true);
 same(page.inWords("no 4 21 RateMismatch").text,
-  "refused (21 RateMismatch): the room has another rate: a room of 44100 Hz takes l16 alone, and a member moves "
-    + "between rooms of one rate.");
+  "refused (21 RateMismatch): the room has another rate: one of 44100 Hz takes l16 alone, and members move between "
+    + "rooms of one rate.");
 same(page.inWords("no 4 20 PartRefused 0 21 RateMismatch").text.includes("Command 1 of it: the room has another rate"),
   true);
 same(page.inWords("no 4 9 BadValue").text.includes("rate 8000 or 44100"), true);

@@ -44,7 +44,7 @@ NEEDS = "the program, `cc`, two minutes"
 # The step whose frame begins a stream in the last lane.
 FRAME = next(iter(STEPS))
 
-OUT_OF_MEMORY, FAILED = "confbridge: out of memory\n", "confbridge: input or output failed\n"
+OUT_OF_MEMORY, NO_THREAD = "confbridge: out of memory\n", "confbridge: no thread could be started\n"
 # The line before says what failed, and why.
 CAUSE = re.compile(
     r"confbridge: (.*[.]toml|start|front|end|poll|lane [0-9]+): (out of memory.*|no thread could be started)\n"
@@ -458,7 +458,7 @@ def try_start(bridges, nth):
         stopped(bridge, operator_at(int(listens[2]), PATIENCE))
 
     return came_of(
-        bridge, heap, what, {2: OUT_OF_MEMORY, 3: FAILED}, lambda: is_started(bridge, bridges.lanes), is_served
+        bridge, heap, what, {2: OUT_OF_MEMORY, 3: NO_THREAD}, lambda: is_started(bridge, bridges.lanes), is_served
     )
 
 

@@ -65,6 +65,31 @@ BAD = [
     (BOTH + b"receive_buffer = 4095\n", "3 BadValue receive_buffer", "receive_buffer = 4095"),
     (BOTH + b"send_buffer = 1000000001\n", "3 BadValue send_buffer", "send_buffer = 1000000001"),
 ]
+# What is good, which stands behind what the file has: by key, and of keys.
+NUMBER = "a number from 1 to 16"
+BUFFER = "a number from 4096 to 1000000000"
+VALUES = {
+    "udp": "an address such as 10.0.0.5:5004",
+    "tcp": "an address in 127.0.0.0/8, such as 127.0.0.1:7000",
+    "lanes": NUMBER,
+    "operators": NUMBER,
+    "report_ms": "a number from 1000 to 5000",
+    "bridge_ssrc": "a number from 0 to 4294967295",
+    "cname": "a text of 1 to 255 octets from a space to ~",
+    "trace": "an address in 127.0.0.0/8, where operators is 2 or more and cname has no space",
+    "receive_buffer": BUFFER,
+    "send_buffer": BUFFER,
+}
+
+
+def with_good(fault, has):
+    """What a bridge says of a fault of its file: what that has, and what would be good."""
+    kind, key = fault.split(" ")[1], fault.split(" ")[-1]
+    if kind == "BadToml":
+        return has
+    return f"{has} \\({re.escape(', '.join(VALUES) if kind == 'UnknownKey' else VALUES[key])}\\)"
+
+
 # Good settings.
 GOOD = [
     BOTH,
@@ -207,7 +232,7 @@ def check_all(program, folder, taken):
     check_cause(program, ["serve", folder], 3, f"{re.escape(str(folder))}: is a directory", FAILED)
     for octets, fault, part in BAD:
         path.write_bytes(octets)
-        check_cause(program, ["serve", path], 1, f"{at}: {part}", f"confbridge: settings: {fault}\n")
+        check_cause(program, ["serve", path], 1, f"{at}: {with_good(fault, part)}", f"confbridge: settings: {fault}\n")
     tcp, udp = (one.getsockname()[1] for one in taken)
     path.write_bytes(UDP + b'tcp = "127.0.0.1:%d"\n' % tcp)
     check_cause(program, ["serve", path], 3, f"tcp 127.0.0.1:{tcp}: address in use", FAILED)

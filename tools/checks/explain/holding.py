@@ -9,6 +9,7 @@ from checks.bridges import accepted
 from checks.captures.recorder import Recorder
 from checks.explain.made import OTHER, STRANGER
 from checks.explain.planted import FAULTS, NEW, SAID, TICKS, wanted, whole
+from checks.explain.stalls import Stalls
 from operators.demo import picture, tone
 from operators.packets import number, rtp
 from operators.serving import Operator, port_of, settings, started, udp_socket
@@ -16,8 +17,12 @@ from operators.serving import Operator, port_of, settings, started, udp_socket
 EACH = 0.02
 # `show` is asked for at each of so many ticks.
 SHOWN = 20
-# A call whose packets leave later than this, in seconds, says nothing: the machine is busy.
-LATEST = 0.02
+# Where packets leave later than this, in seconds, or a thread of the bridge stands still for longer, the machine is
+# busy.
+LATEST, STOOD = 0.02, 0.03
+# The kinds of what is so then, and nobody planted it; such a fault that is planted may not show.
+BY_SENDERS = {"late", "early", "clock", "spacing", "still"}
+BY_BRIDGE = {"overrun", "still", "busy"}
 
 
 class Member:
@@ -52,14 +57,20 @@ def others_of(place):
 
 @dataclasses.dataclass(frozen=True)
 class Record:
-    """The capture of a call whose members have these faults; the rows of its desk before these, with their moment; and
-    the bridge's address."""
+    """The capture of a call whose members have these faults; the rows of its desk before these, with their moment; the
+    bridge's address; and by how much packets left too late, and the bridge stood still, in seconds."""
 
     names: tuple
     octets: bytes
     rows: str
     known: int
     udp: str
+    late: float
+    stood: float
+
+    def unsure(self):
+        """The kinds of what the machine itself may have made so."""
+        return (BY_SENDERS if self.late > LATEST else set()) | (BY_BRIDGE if self.stood > STOOD else set())
 
     def wanted(self, begin, broken=None):
         """What has to be told by a capture that begins at a moment, and what may be. At a moment its clock may be
@@ -74,8 +85,7 @@ class Record:
 
 
 class Held:
-    """A call that was held: its record, whether the capture has all of it, and by how much packets left too late, in
-    seconds."""
+    """A call that was held: its record, and whether the capture has all of it."""
 
     def __init__(self, program, lanes, names, folder):
         self.members = [Member(place, name) for place, name in enumerate(names)]
@@ -88,12 +98,13 @@ class Held:
             self.operator = Operator(connection)
             accepted(self.operator, *self.setup())
             self.rows, self.known = "\n".join(self.operator.shown()), time.time_ns()
-            self.hold(("127.0.0.1", udp))
-            time.sleep(0.2)
+            with Stalls(bridge.pid) as stalls:
+                self.hold(("127.0.0.1", udp))
+                time.sleep(0.2)
             self.operator.tell("stop")
             bridge.wait(60)
-        self.is_whole = recorder.end()
-        self.record = Record(tuple(names), recorder.path.read_bytes(), self.rows, self.known, self.udp)
+        self.is_whole, octets = recorder.end(), recorder.path.read_bytes()
+        self.record = Record(tuple(names), octets, self.rows, self.known, self.udp, self.late, stalls.longest)
 
     def setup(self):
         yield from ("add-room 1", f"add-member 10 1 127.0.0.1:{port_of(self.one)} pcmu 9001 0 0")

@@ -15,6 +15,7 @@ TALK = [
     (b"add-room 1", b"ok 1"), (b"add-" + HOSTILE + b" 1", b"fault 1 3 " + HOSTILE),
     (b"add-member 10 1 " + ONE.encode() + b" pcmu 9001 0 0", b"ok 2"), (b"add-source 201 10 audio", b"ok 3"),
     (b"show", b"room 1\nmember 0 10 1 " + ONE.encode() + b" pcmu 9001 0 0\nsource 201 10 " + HOSTILE + b"\nend 3"),
+    (b"as " + HOSTILE, b"as " + HOSTILE),
     (b"mute " + HOSTILE, b"no 3 4 " + HOSTILE), (HOSTILE, HOSTILE), (b"show", HOSTILE + b"\nend 3"),
 ]  # fmt: skip
 # A desk in a file.

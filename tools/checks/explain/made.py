@@ -3,6 +3,7 @@
 from checks.camera import asked_numbers
 from checks.captures.writing import tcp_packet, udp_packets
 from operators.captures.lines import ACK, FIN, SYN
+from operators.models.desk import with_rate
 from operators.models.mix import compressed
 from operators.models.reports import ReportBridge
 from operators.packets import rtp
@@ -39,8 +40,9 @@ class Made:
             udp, tcp
         ) = [], ReportBridge(), BEGIN, members, bridge
         self.udp, self.tcp, self.seqs, self.seq = udp, tcp, {OPERATOR: 1000, tcp: 5000}, 0
-        # The packets of video, and those that were asked for, with the tick at which they are sent again.
-        self.video, self.again = {}, []
+        # The packets of video, those that were asked for, with the tick at which they are sent again; and the accepted
+        # calls, as `calls` tells them, by an operator with a name.
+        self.video, self.again, self.accepted, self.name = {}, [], [], "-"
         self.bridge.answer("bridge 1 bridge renew")
         self.put(tcp_packet(OPERATOR, tcp, 999, SYN))
         self.put(tcp_packet(tcp, OPERATOR, 4999, SYN | ACK))
@@ -62,12 +64,21 @@ class Made:
         """An operator's line, and its answer 100 us later."""
         self.moment += 200_000
         self.segment(OPERATOR, self.tcp, line + "\n")
-        self.segment(self.tcp, OPERATOR, "".join(f"{one}\n" for one in self.said_to(line)), 100_000)
+        said = self.said_to(line)
+        if said[0].startswith("ok "):
+            words = " ".join(with_rate(line.split(" ")))
+            self.accepted.append(f"call {said[0][3:]} {self.moment // 10**6} 0 {self.name} {words}")
+        self.segment(self.tcp, OPERATOR, "".join(f"{one}\n" for one in said), 100_000)
 
     def said_to(self, line):
         """What the bridge answers."""
         if line == "show":
             return self.bridge.desk.shown(self.bridge.version)
+        if line.startswith("as "):
+            self.name = line.removeprefix("as ")
+            return [line]
+        if line == "calls":
+            return [*self.accepted, f"end {self.bridge.version}"]
         return self.bridge.log.history(MANY) if line == "history" else self.bridge.answer(f"desk 0 {line}")
 
     def sends(self, said, after=200_000):

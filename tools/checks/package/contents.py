@@ -9,9 +9,9 @@ from checks.package.commit import changelog
 from operators.shared import ROOT
 
 # The tools that operators use, and what they read or import beside their folder.
-TOOLS = ["demo", "explain", "keep", "keeper", "member", "restore", "watch"]
+TOOLS = ["calls", "demo", "explain", "keep", "keeper", "member", "restore", "watch"]
 BESIDE = ["examples/fleet/kept.py", "examples/fleet/printable.py", "examples/serve.toml"]
-UNITS = ["confbridge", "confbridge-desk", "confbridge-page"]
+UNITS = ["confbridge", "confbridge-calls", "confbridge-desk", "confbridge-page"]
 SHARE, DOC, MAN = "usr/share/confbridge", "usr/share/doc/confbridge", "usr/share/man/man1"
 IN_CLONE = re.compile(r"^# --- in a clone alone\n.*?^# --- anywhere\n", re.M | re.S)
 COMMAND = manual.COMMAND
@@ -98,6 +98,12 @@ def licence():
 OVERRIDES = """# Each program is, octet by octet, the one that was proved, built and run: nothing is stripped of it.
 confbridge: unstripped-binary-or-object [usr/lib/confbridge/confbridge]
 confbridge: unstripped-binary-or-object [usr/lib/confbridge/desk_page]
+# It isn't made for Debian's archive, where a first upload closes a report.
+confbridge: initial-upload-closes-no-bugs [*]
+# What keeps the desk and what follows the calls start with the bridge, and end with it.
+confbridge: systemd-service-file-refers-to-unusual-wantedby-target confbridge.service [*]
+# A unit that is removed is stopped, and no longer enabled.
+confbridge: maintainer-script-calls-systemctl [prerm:*]
 """
 
 

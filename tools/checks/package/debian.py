@@ -22,7 +22,9 @@ DESCRIPTION = """Description: conference bridge for RTP, whose changes can be un
 PRERM = """#!/bin/sh
 set -e
 if [ "$1" = remove ] && [ -d /run/systemd/system ]; then
-    systemctl disable --now confbridge-page.service confbridge-desk.service confbridge.service || true
+    for name in confbridge-page confbridge-calls confbridge-desk confbridge; do
+        systemctl disable --now "$name.service" || true
+    done
 fi
 """
 POSTINST = """#!/bin/sh

@@ -25,7 +25,7 @@ BEHIND = 60_000_000
 # takes one of these back, so that the search goes on behind a time that no order explains.
 TRIES, VAIN = 40, 200
 # Orders are tried for so many times the events of a capture, and so many events beside, as a short one may need.
-AGAIN, LEAST = 20, 20_000
+AGAIN, LEAST = 10, 8_000
 # So many of the last calls and ticks may move.
 MOVING = 100
 # What is told where no order is tried, although packets differ.

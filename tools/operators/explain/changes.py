@@ -58,16 +58,18 @@ class Desks:
         # Every row that was there at some time.
         self.members, self.sources, self.outs, self.first_at, self.rates = {}, {}, {}, {}, {}
         self.bridge, open_marks, before = MixBridge(), {}, {}
-        for done in run.done:
-            if not done.line.startswith("desk "):
-                continue
+        desks = [done for done in run.done if done.line.startswith("desk ")]
+        for done, following in zip(desks, [*desks[1:], None]):
             said = self.bridge.answer(done.line)[0]
             call = done.event.what if done.event and hasattr(done.event, "kind") else None
             # What made the desk again is no call, and stands where it was told.
             told = done.event if isinstance(done.event, Shown) else None
+            if told and following and following.event is told:
+                # Nor is what the desk was meanwhile: it may be made by all calls that there were.
+                continue
             moment = call.at if isinstance(call, Call) else told.until if told and told is not run.shown else begin
             call = call if isinstance(call, Call) else None
-            if said.startswith("ok"):
+            if told or said.startswith("ok"):
                 self.keep(moment, call is not None)
                 now = shown_by(self.bridge)
                 self.compare(moment, call, before, now)
@@ -115,7 +117,7 @@ def by_call(call):
     if call is None:
         return "the desk with which the capture begins"
     name = f"call {call.number}" if call.number else "a call"
-    return f"{name} of operator {call.seat}"
+    return f"{name} of {call.who()}"
 
 
 def grouped(changes):

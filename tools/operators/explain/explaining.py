@@ -4,7 +4,7 @@ import dataclasses
 
 from operators.explain.amending import UNTRIED, Search
 from operators.explain.comparing import Streams
-from operators.explain.desks import streams_of
+from operators.explain.desks import rows_of, streams_of
 from operators.explain.events import events_of, pauses_of, who_speaks
 from operators.explain.operators import calls_of
 from operators.explain.running import Run, running_sources, ticks_late
@@ -49,7 +49,7 @@ def beginning(wire, calls, told, given):
     versions = [version for _, version in told.versions] + [call.number - 1 for call in calls if call.number]
     if versions and min(versions) == 0:
         return None, wire.begin
-    for shown in told.shown:
+    for shown in (one for one in told.shown if rows_of(one) is not None):
         # An earlier answer may tell that there was this version already.
         return shown, min([shown.until, *(moment for moment, version in told.versions if version == shown.version)])
     return None, None
@@ -72,7 +72,7 @@ def explain_wire(wire, given=None):
     base, begin = beginning(wire, calls, told, given)
     texts = [call.text for call in calls]
     for one in [*told.shown, *([base] if base else [])]:
-        texts += [*one.rows, *(text for _, text in (*one.calls, *one.undone))]
+        texts += [*one.rows, *(text for _, text in (*one.calls, *one.undone, *one.log))]
     grid, places = grid_of(wire, streams_of(texts))
     streams = Streams(wire, places)
     if begin is None:

@@ -1,11 +1,11 @@
-"""The desk of a capture that begins in mid-call, as a file gives it: the lines of `show` or `history`, a file of
-`tools/bridge keep`, or a trace of the bridge."""
+"""The desk of a capture that begins in mid-call, as a file gives it: the lines of `show`, `history` or `calls`, a file
+of `tools/bridge keep`, or a trace of the bridge."""
 
 import dataclasses
 import re
 
 from operators.captures.notes import BadCapture
-from operators.explain.operators import Shown, history_of, is_good, version_in
+from operators.explain.operators import Shown, history_of, is_good, log_of, version_in
 from operators.models.desk import Log
 
 # A call in a trace, and a line with a moment.
@@ -22,13 +22,13 @@ class Given:
 
     def at(self, moment):
         """The desk at a moment, and later calls as (number, moment, operator, words)."""
-        for read in self.by_show, self.by_history, self.by_keep, self.by_trace:
+        for read in self.by_show, self.by_history, self.by_calls, self.by_keep, self.by_trace:
             found = read(moment)
             if found:
                 return found
         raise BadCapture(
-            "the desk's file has neither the lines of `show` or `history`, of which the last is `end VERSION`, nor those of "
-            "`tools/bridge keep`, nor of a trace"
+            "the desk's file has neither the lines of `show`, `history` or `calls`, whose last one is `end VERSION`, "
+            "nor those of `tools/bridge keep`, nor of a trace"
         )
 
     def up_to_end(self):
@@ -51,6 +51,12 @@ class Given:
         calls = history_of(ended[0]) if ended else None
         return (Shown(moment, moment, (), ended[1], *calls, by="a file"), ()) if calls else None
 
+    def by_calls(self, moment):
+        """All calls from the first one on, with moments."""
+        ended = self.up_to_end()
+        calls = log_of(*ended) if ended else ()
+        return made_until(moment, calls, "a file") if calls and calls[0][0] == 1 else None
+
     def by_keep(self, moment):
         groups = [line for line in self.lines if not line.startswith("#")]
         if not groups or not all(line.startswith("group ") and is_good(line) for line in groups):
@@ -72,12 +78,20 @@ class Given:
                 calls.append((len(calls) + 1, now, int(traced[1]), traced[2]))
         if not calls or not any(line.startswith("bridge ") for line in self.lines):
             return None
-        log = Log()
-        for _, at, seat, text in calls:
-            if at < moment:
-                log.call(text.split(" "), seat)
-        later = tuple(call for call in calls if call[1] >= moment)
-        return Shown(moment, moment, tuple(log.desk.shown(0)[:-1]), log.version, by="a trace"), later
+        return made_until(moment, calls, "a trace")
+
+
+def made_until(moment, calls, by):
+    """The desk that calls had made until a moment, and those that come later: each has its number, its moment, its
+    operator and its words."""
+    log = Log()
+    # They were accepted, whatever the bridge's own SSRC is.
+    log.desk.bridge = None
+    for _, at, seat, text in calls:
+        if at < moment:
+            log.call(text.split(" "), seat)
+    later = tuple(call for call in calls if call[1] >= moment)
+    return Shown(moment, moment, tuple(log.desk.shown(0)[:-1]), log.version, by=by), later
 
 
 def given_by(text):

@@ -4,6 +4,7 @@ import collections
 import dataclasses
 import re
 
+from operators.models.desk import Log
 from operators.models.lines import ALONE, fault_of_line
 
 SEATS = 16
@@ -33,7 +34,8 @@ def version_in(text, word):
 class Call:
     """A line of an operator: when it came, the connection and the seat, its words, the answer and when that left. A
     call that was accepted has its number. `at` is the moment at which it counts. In place of lines that are lost stands
-    one that `is_hole`; an accepted call whose line is lost has its number alone."""
+    one that `is_hole`; an accepted call whose line is lost has its number alone. `name` is what the operator said by
+    `as`, if anything."""
 
     moment: int
     client: str
@@ -44,6 +46,11 @@ class Call:
     number: int = 0
     at: int = 0
     is_hole: bool = False
+    name: str = ""
+
+    def who(self):
+        """Its operator in words."""
+        return f"operator {self.seat} ({self.name})" if self.name else f"operator {self.seat}"
 
     def is_lost(self):
         """Whether it is a call that was accepted, and nobody knows which one."""
@@ -55,14 +62,15 @@ class Call:
 
     def is_told_lines(self):
         """Whether its answer is some lines, of which the last is `end VERSION` or `end`."""
-        return self.text.split(" ")[0] in ("show", "history", "stats", "levels", "watch")
+        return self.text.split(" ")[0] in ("show", "history", "calls", "stats", "levels", "watch", "why", "help")
 
 
 @dataclasses.dataclass(frozen=True)
 class Shown:
     """A desk as it was told: its rows, its version (None where it isn't known), the moments of the question and of the
     last line; or, by a history, the calls that made it, those in force and those undone, each with its operator. So
-    many of the first calls aren't undone by any that follow. `by` is what told it."""
+    many of the first calls aren't undone by any that follow. Beside the rows, by `calls`, all calls from the first one
+    on, each with its operator. `by` is what told it."""
 
     moment: int
     until: int
@@ -72,10 +80,17 @@ class Shown:
     undone: tuple = ()
     floor: int = 0
     by: str = "a `show`"
+    log: tuple = ()
 
 
 # A call as a history tells it: its number, its operator, its words.
 TOLD = re.compile(r"([0-9]{1,20}) ([0-9]{1,2}) (.+)", re.ASCII)
+# A call as `calls` and `watch names` tell it: its number, its moment, its operator, the name, its words.
+NAMED = re.compile(r"([0-9]{1,20}) ([0-9]{3,20}) ([0-9]{1,2}) ([!-~]{1,64}) (.+)", re.ASCII)
+# What a bridge answers in place of some lines. A line of `why` that tells a fault has more words, and one number less.
+INSTEAD = re.compile(r"busy|fault [0-9]{1,10} [0-9]{1,2} \w+|no [0-9]{1,20} [0-9]{1,2} .*", re.ASCII)
+# `calls` of more calls or reverts tells no desk, and all together tell it by so many: to make it again takes long.
+MOST_CALLS, MOST_REVERTS, MOST_MADE = 5000, 20, 20_000
 
 
 def history_of(lines):
@@ -93,12 +108,49 @@ def history_of(lines):
     return tuple(map(tuple, parts))
 
 
+def log_of(lines, version):
+    """The calls that `calls` tells, up to that of a version, as (number, moment, operator, words): the moment in
+    nanoseconds, by the bridge's clock. A line of a `watch` may stand before them."""
+    found = []
+    for line in lines:
+        it = NAMED.fullmatch(line.removeprefix("call "))
+        if not it or int(it[3]) >= SEATS or not is_good(it[5]):
+            return ()
+        if found and int(it[1]) != found[-1][0] + 1:
+            found = []
+        found.append((int(it[1]), int(it[2]) * 10**6, int(it[3]), it[5]))
+    return tuple(found) if found and found[-1][0] == version else ()
+
+
+def names_of(lines):
+    """The names of the operators of the calls that `calls` tells, by the calls' numbers."""
+    found = (NAMED.fullmatch(line.removeprefix("call ")) for line in lines)
+    return {int(one[1]): one[4] for one in found if one}
+
+
+def is_whole_log(log):
+    """Whether calls are all from the first one on, and few enough to be made again."""
+    reverts = sum(text.startswith("revert ") for _, _, _, text in log)
+    return bool(log) and log[0][0] == 1 and len(log) <= MOST_CALLS and reverts <= MOST_REVERTS
+
+
+def rows_by(log):
+    """The rows of the desk that calls make, or None where one of them is refused."""
+    desk = Log()
+    # They were accepted, whatever the bridge's own SSRC is.
+    desk.desk.bridge = None
+    is_made = all(desk.call(text.split(" "), seat).startswith("ok ") for _, _, seat, text in log)
+    return tuple(desk.desk.shown(0)[:-1]) if is_made else None
+
+
 class Told:
-    """What answers tell of the desk: the desks of `show` and `history`, the calls of a `watch` by their numbers, which
-    version there was at a moment, and when calls were accepted whose lines are lost, by their numbers."""
+    """What answers tell of the desk: the desks of `show`, `history` and `calls`, the calls of a `watch` by their
+    numbers, those of `calls` with moments by the bridge's clock, the names of both, which version there was at a
+    moment, and when calls were accepted whose lines are lost, by their numbers; and how many calls were made again."""
 
     def __init__(self):
-        self.shown, self.calls, self.versions, self.lost = [], {}, [], {}
+        self.shown, self.calls, self.listed, self.names, self.versions = [], {}, {}, {}, []
+        self.lost, self.made = {}, 0
 
 
 class Answers:
@@ -122,7 +174,7 @@ class Answers:
             return
         while self.waiting and self.waiting[0].text in ("quit", "stop"):
             self.waiting.popleft()
-        if line.text.startswith("call "):
+        if line.text.startswith("call ") and not self.is_of_calls(line):
             # A line of a watch answers nothing.
             self.take_told(line)
             return
@@ -134,7 +186,7 @@ class Answers:
                 self.told.lost.setdefault(number, line.moment)
             self.unsure = self.unsure and line.moment
             return
-        if self.waiting[0].is_told_lines() and not line.text.startswith(("busy", "fault", "no ")):
+        if self.waiting[0].is_told_lines() and not INSTEAD.fullmatch(line.text):
             self.take_row(line)
             return
         call = self.waiting.popleft()
@@ -153,14 +205,22 @@ class Answers:
                 return
             self.unsure = self.waiting.popleft().moment
 
+    def is_of_calls(self, line):
+        """Whether a line is one that answers `calls`."""
+        is_asked = self.waiting and self.waiting[0].text.split(" ")[0] == "calls"
+        return is_asked and NAMED.fullmatch(line.text.removeprefix("call ")) is not None
+
     def take_told(self, line):
         """Takes a call that a watch tells."""
-        found = TOLD.fullmatch(line.text.removeprefix("call "))
-        if found and int(found[2]) < SEATS and is_good(found[3]):
-            self.told.calls.setdefault(int(found[1]), (line.moment, int(found[2]), found[3]))
+        text = line.text.removeprefix("call ")
+        found, plain = NAMED.fullmatch(text), TOLD.fullmatch(text)
+        number, seat, words = found.group(1, 3, 5) if found else plain.groups() if plain else (0, SEATS, "")
+        if int(seat) < SEATS and is_good(words):
+            self.told.calls.setdefault(int(number), (line.moment, int(seat), words))
+            self.told.names.update({int(number): found[4]} if found else {})
 
     def take_row(self, line):
-        """Takes a line that answers `show`, `history`, `stats`, `levels` or `watch`."""
+        """Takes a line of an answer of some lines."""
         is_last, version = line.text.split(" ")[0] == "end", version_in(line.text, "end")
         if self.rows is not None and not is_last:
             self.rows.append(line.text)
@@ -181,6 +241,15 @@ class Answers:
             calls = history_of(self.rows)
             if calls:
                 self.told.shown.append(Shown(call.moment, until, (), version, *calls, by="a `history`"))
+        if call.text.split(" ")[0] == "calls" and self.rows is not None:
+            log = log_of(self.rows, version)
+            self.told.listed.update({number: (until, *more) for number, *more in log})
+            self.told.names.update(names_of(self.rows))
+            self.told.made += len(log)
+            rows = rows_by(log) if is_whole_log(log) and self.told.made <= MOST_MADE else None
+            if rows is not None:
+                made = tuple((seat, text) for _, _, seat, text in log)
+                self.told.shown.append(Shown(call.moment, until, rows, version, by="`calls`", log=made))
 
 
 def take_seats(calls, ends, known):
@@ -196,6 +265,22 @@ def take_seats(calls, ends, known):
         call.seat = taken.get(call.client, 0)
 
 
+def named(word):
+    """A name, or none where a bridge tells `-`."""
+    return "" if word == "-" else word
+
+
+def take_names(calls, ends, known):
+    """Gives each line the name that its connection is known to have, or has by `as` from then on."""
+    names = dict(known)
+    for call in calls:
+        for client in [client for client in names if ends.get(client, call.moment) < call.moment]:
+            del names[client]
+        if call.text.startswith("as ") and call.answer == call.text:
+            names[call.client] = named(call.text.removeprefix("as "))
+        call.name = names.get(call.client, "")
+
+
 def give_moments(calls):
     """The moment at which each call counts: its answer's, but none counts later than one with a greater number."""
     latest = None
@@ -204,6 +289,20 @@ def give_moments(calls):
         call.at = latest
     for call in calls:
         call.at = call.at or call.until or call.moment
+
+
+def listed_in(wire, told, known):
+    """The calls that `calls` told and that were made while it was captured, as a watch tells them. `known` has when
+    others of them were accepted, by the capture: so much is the bridge's clock behind or ahead of it."""
+    ahead = sorted(known[number] - moment for number, (_, moment, _, _) in told.listed.items() if number in known)
+    if not ahead:
+        return {}
+    shift = ahead[len(ahead) // 2]
+    return {
+        number: (moment + shift, seat, text)
+        for number, (until, moment, seat, text) in told.listed.items()
+        if wire.begin <= moment + shift <= until
+    }
 
 
 def calls_of(wire, more=()):
@@ -220,14 +319,18 @@ def calls_of(wire, more=()):
             # A connection of which the capture has what the bridge says alone.
             answers[line.target] = Answers([], told)
         answers[line.target].take(line)
-    take_seats(sorted(calls, key=lambda call: call.moment), wire.ends, wire.seats)
-    told.calls = {number: (moment, seat, text) for number, moment, seat, text in more} | told.calls
+    in_order = sorted(calls, key=lambda call: call.moment)
+    take_seats(in_order, wire.ends, wire.seats)
+    take_names(in_order, wire.ends, wire.names)
     known = {call.number: call for call in calls if call.number}
+    listed = listed_in(wire, told, {number: call.until for number, call in known.items()})
+    told.calls = {number: (moment, seat, text) for number, moment, seat, text in more} | listed | told.calls
     for number, (moment, seat, text) in told.calls.items():
         if number in known:
-            known[number].seat = seat
+            known[number].seat, known[number].name = seat, named(told.names.get(number, "-")) or known[number].name
         else:
-            calls.append(Call(moment, "", text, seat, f"ok {number}", moment, number))
+            name = named(told.names.get(number, "-"))
+            calls.append(Call(moment, "", text, seat, f"ok {number}", moment, number, name=name))
     known = {call.number for call in calls}
     calls += [
         Call(moment, "", "", 0, f"ok {number}", moment, number)

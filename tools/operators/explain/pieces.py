@@ -2,7 +2,8 @@
 
 A piece begins with what came in the seconds before it: so what waits in buffers is known by then. Of these seconds
 nothing is told. The desk at their beginning is the one that the piece before came to, with the calls that made it, so
-that they can be undone. Where that isn't known, it takes a `show` or a `history`, as at the beginning of a capture.
+that they can be undone. Where that isn't known, it takes a `show`, a `history` or `calls`, as at the beginning of a
+capture.
 """
 
 import itertools
@@ -132,8 +133,9 @@ class Pieces:
 
     def __init__(self, source, seconds, udp=None, tcp=None, given=None):
         self.source, self.length, self.named, self.given = source, int(seconds * 10**9), (udp, tcp), given
-        # The bridge and others that there are, once a piece has them; when the capture begins; the seats of operators.
-        self.bridge, self.zero, self.seats = (None, None, ()), None, {}
+        # The bridge and others that there are, once a piece has them; when the capture begins; the seats and the names
+        # of operators.
+        self.bridge, self.zero, self.seats, self.names = (None, None, ()), None, {}, {}
 
     def all(self):
         """Each piece that has something of the bridge, explained, with its moments."""
@@ -160,10 +162,12 @@ class Pieces:
         wire = self.wire_between(begin - EARLIER, end + LATER)
         if not wire:
             return None
-        wire.zero, wire.seats = self.zero, self.seats
+        wire.zero, wire.seats, wire.names = self.zero, self.seats, self.names
         later = self.given.at(wire.begin)[1] if self.given else ()
         it = explain_wire(wire, self.given)
-        self.seats = {call.client: call.seat for call in it.calls if call.client not in wire.ends}
+        staying = [call for call in it.calls if call.client not in wire.ends]
+        self.seats = {call.client: call.seat for call in staying}
+        self.names = {call.client: call.name for call in staying}
         self.given = Desk(it, later)
         return it
 

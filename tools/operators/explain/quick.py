@@ -98,10 +98,11 @@ class QuickBridge(QuickGates, ReportBridge):
 
 
 def copied(value):
-    """A container that may change by itself, or a value."""
+    """A container that may change by itself, or a value. What a dictionary holds is of one kind: a jitter buffer has
+    thousands of samples, which needn't be looked at one by one."""
     if not isinstance(value, (dict, list, set)):
         return value
     again = copy.copy(value)
-    if isinstance(value, dict):
+    if isinstance(value, dict) and isinstance(next(iter(value.values()), None), list):
         again.update({key: list(one) for key, one in value.items() if isinstance(one, list)})
     return again

@@ -90,6 +90,9 @@ class Run:
 
     def make(self, shown):
         """Makes the desk that was told."""
+        if shown.log:
+            self.make_all(shown)
+            return
         if (shown.calls or shown.undone) and not has_reverts(shown):
             self.make_again(shown)
             return
@@ -100,6 +103,12 @@ class Run:
                     self.say(f"desk 0 {part}", shown)
         self.shift = None if shown.version is None else shown.version - self.bridge.version
         self.floor, self.made = len(self.bridge.log.done), self.bridge.version
+
+    def make_all(self, shown):
+        """Makes the desk by all calls that there were, so that undo and redo know them."""
+        for seat, text in shown.log:
+            self.say(f"desk {seat} {text}", shown)
+        self.shift, self.made = shown.version - self.bridge.version, self.bridge.version
 
     def make_again(self, shown):
         """Makes the desk by the calls of its history, so that undo and redo know them."""
@@ -123,14 +132,14 @@ class Run:
             text = f"the desk isn't what the calls made it: it is taken from {shown.by} ({', '.join(differ[:3])})"
             self.odd.append((text, shown.until))
         if differ:
-            self.make(dataclasses.replace(shown, rows=told, calls=(), undone=()))
+            self.make(dataclasses.replace(shown, rows=told, calls=(), undone=(), log=()))
         self.shift = shown.version - self.bridge.version
         if self.lost:
             self.forget(self.lost, shown.until)
 
     def lose(self, text, moment):
         """The desk isn't known from a moment on, until it is told."""
-        self.odd.append((f"{text}: the desk isn't known from then on, until a `show` or a `history`", moment))
+        self.odd.append((f"{text}: the desk isn't known from then on, until a `show`, a `history` or `calls`", moment))
         self.lost = moment
 
     def forget(self, since, moment):

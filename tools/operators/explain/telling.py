@@ -96,7 +96,7 @@ class Telling:
         for line in [*self.wire.notes.lines(self.wire.zero), *self.notes()]:
             yield f"  note: {line}"
         if not self.it.run:
-            yield "  note: the desk isn't known, until a `show` or a `history`"
+            yield "  note: the desk isn't known, until a `show`, a `history` or `calls`"
             return
         for one in self.found():
             yield f"  {one.text}"
@@ -224,7 +224,7 @@ class Telling:
                 continue
             name = f"call {call.number}" if call.number else "refused" if call.answer.startswith("no ") else "a call"
             answer = "" if call.number else f" > {call.answer or 'no answer in the capture'}"
-            yield f"  {self.seconds(call.moment):8.3f} s  operator {call.seat}, {name}: {call.text}{answer}"
+            yield f"  {self.seconds(call.moment):8.3f} s  {call.who()}, {name}: {call.text}{answer}"
             for member, out, is_there, ssrcs in grouped(changes):
                 verb = (
                     ("hears" if is_there else "no longer hears")

@@ -11,14 +11,18 @@ from operators.captures.links import UDP, Packets
 from operators.captures.notes import BadCapture, Notes
 from operators.explain.desks import streams_of
 from operators.explain.operators import is_good
+from operators.models.lines import ALONE
 
 USUAL_UDP = "5004"
 # A line that a bridge alone says.
 ANSWER = re.compile(
     r"ok [0-9]+|no [0-9]+ [0-9]+ \w+.*|end( [0-9]+)?|fault [0-9]+ [0-9] \w+|busy|call [0-9]+ [0-9]+ .*", re.ASCII
 )
-# The calls that are spelled as rows of a desk are.
-ROWS = "mute ", "pin "
+# A line of HTTP. What the page tells browsers are lines of a desk, too.
+HTTP = re.compile(r"[A-Z]{3,7} \S+ HTTP/1\.[01]|HTTP/1\.[01] [0-9]{3}\b.*", re.ASCII)
+# The calls that are spelled as rows of a desk are. Lines that are no calls stand in an answer of `help`, too, and the
+# answer to `as` is spelled as the line is: what says surely who is the bridge counts as so many of these.
+ROWS, SURE = ("mute ", "pin "), 100
 # The header of RTP, in octets.
 HEADER = 12
 # A capture may have packets out of order by so much, in nanoseconds.
@@ -45,8 +49,8 @@ class Wire:
         # The operators whose connections begin in the capture.
         self.begun = set()
         self.begin = self.end = 0
-        # The moment of which seconds are told, and the seats that are known of operators, by their addresses.
-        self.zero, self.seats = 0, {}
+        # The moment of which seconds are told, and the seats and names that are known of operators, by their addresses.
+        self.zero, self.seats, self.names = 0, {}, {}
         # How many datagrams were cut before what is needed of them.
         self.cut = 0
 
@@ -68,18 +72,25 @@ def bridge_end(lines, listens):
     lines that are no rows. None where nothing says it."""
     if listens:
         return listens
-    told = collections.Counter(line.source for line in lines if ANSWER.fullmatch(line.text))
-    told.update(line.target for line in lines if is_good(line.text) and not line.text.startswith(ROWS))
-    return max(told, key=told.get) if told else None
+    told = collections.Counter()
+    for line in lines:
+        if ANSWER.fullmatch(line.text):
+            told[line.source] += SURE
+        elif is_good(line.text) and not line.text.startswith(ROWS):
+            told[line.target] += 1 if line.text.split(" ")[0] in ALONE else SURE
+    (end, count), (_, other) = [*told.most_common(2), (None, 0), (None, 0)][:2]
+    return end if count > other else None
 
 
 def desks_in(lines, listening):
-    """The desks of a capture by their addresses, each with the lines of its connections. `listening` has the end that
-    listens, by the two ends of a connection."""
+    """The desks of a capture by their addresses, each with the lines of its connections, but for those of HTTP.
+    `listening` has the end that listens, by the two ends of a connection."""
     connections, desks, unsure = collections.defaultdict(list), collections.defaultdict(list), []
     for line in lines:
         connections[frozenset((line.source, line.target))].append(line)
     for ends, some in connections.items():
+        if any(HTTP.fullmatch(line.text) for line in some):
+            continue
         end = bridge_end(some, listening.get(ends))
         if end is None:
             unsure += [(one, some) for one in ends]

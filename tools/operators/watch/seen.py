@@ -144,7 +144,10 @@ class Seen:
             shown, calls, self.told.versions[:] = [*self.told.shown], {**self.told.calls}, []
             self.told.shown.clear()
             self.told.calls.clear()
+            self.told.listed.clear()
+            self.told.names.clear()
             self.told.lost.clear()
+            self.told.made = 0
             rows = rows_of(shown[-1]) if shown else None
             if rows is not None:
                 self.is_desk(rows, shown[-1].version)
