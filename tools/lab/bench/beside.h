@@ -37,13 +37,13 @@ static double measured(const char *what, const struct sockaddr_in *to, pid_t pid
                        double *of_lane) {
     double all, taken, all_after, taken_after;
     struct work before, after;
-    talk(to, 2, with_fan, !with_fan, 0);
+    talk(to, 2, with_fan, !with_fan);
     long front = lost_at(to, 1), behind = lost_behind();
     work_now(pid, &before);
     long had = fan_got + room_got;
     pictures_sent = sounds_sent = steps_left_out = 0;
     machine(&all, &taken);
-    talk(to, seconds, with_fan, !with_fan, 0);
+    talk(to, seconds, with_fan, !with_fan);
     machine(&all_after, &taken_after);
     work_now(pid, &after);
     double spent = after.all - before.all, count = with_fan ? fan_got + room_got - had : seconds * 50;
@@ -81,15 +81,13 @@ static void become(const char *const *program, int one)
     _exit(127);
 }
 
-/* What a floor takes: the one in C, or one in Python by its file. */
-static double measured_floor(const char *what, const char *file, double seconds, int with_fan)
+/* What the floor takes. */
+static double measured_floor(const char *what, double seconds, int with_fan)
 {
     struct sockaddr_in at;
     int one = udp_socket(&at), plain = 212992 / 2;
     setsockopt(one, SOL_SOCKET, SO_RCVBUF, &plain, sizeof plain); /* what the bridge's has, by the system's choice */
     server = fork();
-    if (server == 0 && *file)
-        become((const char *[]){"python3", file, 0}, one);
     if (server == 0)
         floor_of(one);
     close(one);
@@ -125,8 +123,8 @@ static double measured_janus(const char *module, double seconds)
     return each;
 }
 
-/* The bridge, then floors, and Janus where it is named. */
-static void beside_floors(const char *binary, double seconds, int with_fan, const char *file, const char *janus)
+/* The bridge, then the floor, and Janus where it is named. */
+static void beside_floor(const char *binary, double seconds, int with_fan, const char *janus)
 {
     members();
     tables();
@@ -134,21 +132,20 @@ static void beside_floors(const char *binary, double seconds, int with_fan, cons
     set_desk(with_fan, !with_fan);
     double bridge = measured("bridge", &udp, server, seconds, with_fan, 0);
     stop_bridge();
-    printf("bridge / floor: %.2f\n", bridge / measured_floor("floor", "", seconds, with_fan));
-    if (*file)
-        printf("bridge / floor in Python: %.2f\n", bridge / measured_floor("floor in Python", file, seconds, with_fan));
+    printf("bridge / floor: %.2f\n", bridge / measured_floor("floor", seconds, with_fan));
     if (*janus)
         printf("bridge / Janus: %.2f\n", bridge / measured_janus(janus, seconds));
 }
 
 static void fan_beside(const char *binary, const char *count, char **more)
 {
-    beside_floors(binary, atof(count), 1, more[0], more[1]);
+    beside_floor(binary, atof(count), 1, more[0]);
 }
 
 static void room_beside(const char *binary, const char *count, char **more)
 {
-    beside_floors(binary, atof(count), 0, more[0], "");
+    (void)more;
+    beside_floor(binary, atof(count), 0, "");
 }
 
 /* A room whose members send each at its own moment, beside the same in bursts: by the same bridge, and by the floor. */
@@ -164,9 +161,9 @@ static void beside_bursts(const char *binary, const char *count, char **more)
     is_spread = 1;
     took[1] = measured("each at its own moment", &udp, server, seconds, 0, 0);
     stop_bridge();
-    took[3] = measured_floor("floor, each at its own moment", "", seconds, 0);
+    took[3] = measured_floor("floor, each at its own moment", seconds, 0);
     is_spread = 0;
-    took[2] = measured_floor("floor, in bursts", "", seconds, 0);
+    took[2] = measured_floor("floor, in bursts", seconds, 0);
     printf("each at its own moment / in bursts: %.2f; of the floor: %.2f\n", took[1] / took[0], took[3] / took[2]);
     printf("bridge / floor: %.2f in bursts, %.2f each at its own moment\n", took[0] / took[2], took[1] / took[3]);
 }

@@ -86,10 +86,10 @@ static int connected(void)
     return one;
 }
 
-/* An operator's line, and the first line that it is answered. */
-static char *ask(const char *line)
+/* An operator's call, which has to be accepted. */
+static void accepted(const char *line)
 {
-    static char told[1 << 20];
+    char told[4096];
     size_t had = 0;
     dprintf(desk, "%s\n", line);
     do {
@@ -98,13 +98,7 @@ static char *ask(const char *line)
             die("the desk is closed");
         had += n;
         told[had] = 0;
-    } while (strcmp(line, "show") ? !strchr(told, '\n') : !(strstr(told, "end ") && told[had - 1] == '\n'));
-    return told;
-}
-
-static void accepted(const char *line)
-{
-    char *told = ask(line);
+    } while (!strchr(told, '\n'));
     if (strncmp(told, "ok ", 3)) {
         fprintf(stderr, "load: %s: %s", line, told);
         die("a line isn't accepted");
@@ -125,17 +119,6 @@ static void stop_bridge(void)
     server = 0;
     if (!WIFEXITED(status) || WEXITSTATUS(status))
         die("the bridge didn't end well");
-}
-
-/* xorshift64*, so that a run can be had again. */
-static uint64_t state = 88172645463325252ull;
-
-static uint32_t drawn(uint32_t below)
-{
-    state ^= state >> 12;
-    state ^= state << 25;
-    state ^= state >> 27;
-    return (uint32_t)((state * 2685821657736338717ull) >> 33) % below;
 }
 
 static void put16(uint8_t *at, unsigned v) { at[0] = v >> 8; at[1] = v; }
@@ -283,10 +266,10 @@ static void send_sounds(const struct sockaddr_in *to, long step, struct timespec
     }
 }
 
-/* Both kinds of sending for so many seconds, in steps of 4 ms; a line each minute where it is asked for. A step that is
- * more than 20 ms late is left out, so that no burst follows where this program stood still; timestamps and steps go on
- * by the clock from the first one on, so that a source never comes later than it began. */
-static void talk(const struct sockaddr_in *to, double seconds, int with_fan, int with_room, pid_t watched)
+/* Both kinds of sending for so many seconds, in steps of 4 ms. A step that is more than 20 ms late is left out, so that
+ * no burst follows where this program stood still; timestamps and steps go on by the clock from the first one on, so
+ * that a source never comes later than it began. */
+static void talk(const struct sockaddr_in *to, double seconds, int with_fan, int with_room)
 {
     static unsigned seq;
     static struct timespec next;
@@ -306,11 +289,6 @@ static void talk(const struct sockaddr_in *to, double seconds, int with_fan, int
             }
         if (with_room && !is_late)
             send_sounds(to, step, next);
-        if (watched && step % 15000 == 0) {
-            printf("minute %ld: VmRSS %ld kB, processor %.2f s, %ld pictures and %ld mixes came\n", step / 15000,
-                   resident(watched), processor(watched, 0), fan_got, room_got);
-            fflush(stdout);
-        }
         pass_step(&next);
         clock_nanosleep(CLOCK_MONOTONIC, TIMER_ABSTIME, &next, 0);
         drain(fan, RECEIVERS + 1, &fan_got);

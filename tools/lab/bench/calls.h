@@ -43,8 +43,8 @@ static void counted(const char *binary, const char *count, char **more)
             die("strace doesn't attach");
         usleep(10000);
     }
-    talk(&udp, atof(count), 0, 1, 0);
-    talk(&udp, 0.5, 0, 0, 0);
+    talk(&udp, atof(count), 0, 1);
+    talk(&udp, 0.5, 0, 0);
     kill(counter, SIGINT);
     waitpid(counter, 0, 0);
     stop_bridge();

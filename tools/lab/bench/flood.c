@@ -34,6 +34,30 @@ static struct sockaddr_in speaker_at, listener_at, floods_at[2], strangers_at[ST
 /* What the flood's own process tells, and is told. */
 static struct { volatile long datagrams, octets; volatile unsigned number; } *shared;
 
+static long resident(pid_t pid)
+{
+    char path[64], text[256];
+    long kb = -1;
+    snprintf(path, sizeof path, "/proc/%d/status", pid);
+    FILE *file = fopen(path, "r");
+    while (file && fgets(text, sizeof text, file))
+        sscanf(text, "VmRSS: %ld", &kb);
+    if (file)
+        fclose(file);
+    return kb;
+}
+
+/* xorshift64*, so that a run can be had again. */
+static uint64_t state = 88172645463325252ull;
+
+static uint32_t drawn(uint32_t below)
+{
+    state ^= state >> 12;
+    state ^= state << 25;
+    state ^= state >> 27;
+    return (uint32_t)((state * 2685821657736338717ull) >> 33) % below;
+}
+
 /* The floods. Each writes its next datagram, and says which socket it leaves from. */
 static size_t noise(uint8_t *at)
 {

@@ -1,4 +1,4 @@
-"""Janus beside the bridge in the load `fan`. load.c runs this as it runs floor.py, on the socket of the fan's source:
+"""Janus beside the bridge in the load `fan`. load.c runs this on the socket of the fan's source:
 
 python3 -m lab.bench.forwarding SOCKET PORT..
 

@@ -26,19 +26,6 @@ static double processor(pid_t pid, double *within)
     return (double)(user + sys) / sysconf(_SC_CLK_TCK);
 }
 
-static long resident(pid_t pid)
-{
-    char path[64], text[256];
-    long kb = -1;
-    snprintf(path, sizeof path, "/proc/%d/status", pid);
-    FILE *file = fopen(path, "r");
-    while (file && fgets(text, sizeof text, file))
-        sscanf(text, "VmRSS: %ld", &kb);
-    if (file)
-        fclose(file);
-    return kb;
-}
-
 enum { MOST_THREADS = 64 };
 
 /* The threads of a process, its first one before the others, and the seconds of processor time that each has had. */

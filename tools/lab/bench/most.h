@@ -33,15 +33,15 @@ static struct losses lost_with(const char *binary, int packets, double seconds)
     burst = packets;
     start_bridge(binary);
     set_desk(1, 0);
-    talk(&udp, 0.5, 1, 0, 0);
+    talk(&udp, 0.5, 1, 0);
     lost = (struct losses){.before = lost_at(&udp, 1), .behind = lost_behind(), .left_out = steps_left_out};
     long sent = pictures_sent, got = fan_got;
     double own = processor(getpid(), 0);
     work_now(server, &before);
-    talk(&udp, seconds, 1, 0, 0);
+    talk(&udp, seconds, 1, 0);
     work_now(server, &after);
     own = processor(getpid(), 0) - own;
-    talk(&udp, 0.5, 0, 0, 0);
+    talk(&udp, 0.5, 0, 0);
     sent = pictures_sent - sent;
     lost = (struct losses){sent * RECEIVERS - (fan_got - got), lost_at(&udp, 1) - lost.before,
                            lost_behind() - lost.behind, steps_left_out - lost.left_out};

@@ -7,18 +7,16 @@ A floor is a program that makes the same socket calls and no more. LOAD is one o
   gains  256 members with gains, of whom 16 speak, on one lane and then on four: what the busiest lane takes
   calls  a room as in `spread`, while `strace` counts system calls from its first datagram on: how many one takes
   link   a key frame of 100 packets to 30 receivers, over a link of 1 Gbit/s that this shapes, COUNT times
-  both   fan and room together, with the resident memory each minute
   most   the largest fan without loss: 250 frames a second, which grow by a quarter until packets are lacking in three
          runs; of packets of 1,100 octets, of which few fit into a receive buffer, and then of 100 octets. It names
          where packets were lost beyond that
-  storm  random datagrams and operators' lines, and then a call
 
-`fan` and `room` run the bridge, then a floor in C, then one in Python, COUNT seconds each; `fan` also Janus, where that
-is installed: its VideoRoom takes the source's packets by ICE without encryption, and forwards them to the receivers as
-plain RTP. Processor time is that of all threads, by /proc/PID/task/*/schedstat. The output also says where packets were
-lost: before the bridge (its own socket was full) or behind it (a member's was); and whether this tool or the machine
-stood still: steps of 4 ms that it left out, and the share of processor time that the host took away. The status is 0
-where the bridge answered to its end.
+`fan` and `room` run the bridge, then the floor, COUNT seconds each; `fan` also Janus, where that is installed: its
+VideoRoom takes the source's packets by ICE without encryption, and forwards them to the receivers as plain RTP.
+Processor time is that of all threads, by /proc/PID/task/*/schedstat. The output also says where packets were lost:
+before the bridge (its own socket was full) or behind it (a member's was); and whether this tool or the machine stood
+still: steps of 4 ms that it left out, and the share of processor time that the host took away. The status is 0 where
+the bridge answered to its end.
 """
 
 import os
@@ -39,10 +37,6 @@ NEEDS = (
 HERE = pathlib.Path(__file__).resolve().parent
 
 
-def floor_in_python(args):
-    return "" if args.no_python else HERE / "floor.py"
-
-
 def module_for_janus(args):
     """The module that starts Janus, or nothing where that isn't to be measured. It says where it isn't installed."""
     if not args.no_janus and not janus.is_there():
@@ -52,24 +46,20 @@ def module_for_janus(args):
 
 # By the names of the loads in C: what load.c is told behind the lanes.
 LOADS = {
-    "fan": lambda args, folder: [floor_in_python(args), module_for_janus(args)],
-    "room": lambda args, folder: [floor_in_python(args)],
+    "fan": lambda args, folder: [module_for_janus(args)],
+    "room": lambda args, folder: [],
     "spread": lambda args, folder: [],
     "gains": lambda args, folder: [],
     "calls": lambda args, folder: [f"{folder}/calls"],
-    "both": lambda args, folder: [],
     "most": lambda args, folder: [],
-    "storm": lambda args, folder: [args.lines],
 }
 
 
 def options(parser):
     parser.add_argument("load", choices=[*LOADS, "link"], metavar="LOAD")
-    what = "how many seconds; for `storm` how many datagrams, for `link` how many frames"
+    what = "how many seconds; for `link` how many frames"
     parser.add_argument("count", metavar="COUNT", help=what)
     parser.add_argument("--lanes", default="1", help="how many lanes the bridge has, but for `gains` (%(default)s)")
-    parser.add_argument("--lines", default="10000", help="how many operators' lines `storm` sends (%(default)s)")
-    parser.add_argument("--no-python", action="store_true", help="leave the floor in Python out")
     parser.add_argument("--no-janus", action="store_true", help="leave Janus out")
     add_program(parser)
 
