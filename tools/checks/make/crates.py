@@ -1,13 +1,14 @@
 """Writes the table of crates of docs/ARCHITECTURE.md from the first sentence of each crate.
 
-That is the sentence with which its lib.rt or main.rt begins. Crates stand in the order of crates.txt, lowest first.
+That is the sentence with which its lib.rt or main.rt begins. The crates of the bridge stand in the order of crates.txt,
+lowest first. Those that are there to check aren't in the table.
 """
 
 import itertools
 import re
 
 from checks import made_parts
-from operators.shared import CRATES, ROOT, crates
+from operators.shared import CRATES, ROOT, bridge_crates
 
 NEEDS = "nothing"
 
@@ -34,7 +35,7 @@ def row_of(crate):
 
 def document():
     """The text of the document with its table of crates."""
-    table = "\n| Crate | What it is |\n|---|---|\n" + "".join(row_of(crate) for crate in crates()) + "\n"
+    table = "\n| Crate | What it is |\n|---|---|\n" + "".join(row_of(crate) for crate in bridge_crates()) + "\n"
     return made_parts.filled(DOCUMENT.read_text(), {"crates": table})
 
 
