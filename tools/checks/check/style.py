@@ -3,10 +3,10 @@
 Documents are README.md, CONTRIBUTING.md, docs/ and the pages of examples/. The status is 1 where one has a median
 sentence of over 16 words, a sentence of over 38, a line over 120 columns, or a link that leads nowhere. Code, tables,
 headings and lists of names are no sentences, and a piece of code within a sentence counts as one word. Tables and code
-may be wider. How many lines a document has doesn't matter; how many words it has by hand, and how many a tool made, is
-printed. The status is 1 as well where a measured figure of README stands in another document, too: one has it, and the
-other links there. It is 1 where the index of DECISIONS isn't what
-`make decisions` writes.
+may be wider. How many lines a document has doesn't matter. How many words it has by hand, and how many a tool made, is
+printed, as `wc` counts them, without comments: the bars of tables are words, too. The status is 1 as well where a
+measured figure of README stands in another document, too: one has it, and the other links there. It is 1 where the
+index of DECISIONS isn't what `make decisions` writes.
 
 Of sources the status is 1 where a function of crates/*/src has over 30 lines or over five parameters beside `self`,
 `rt` and `alloc`, or a file over 300 lines (of the page its web files count, not what is made of them), and where a name
@@ -153,7 +153,7 @@ def faults_of(path, text, found):
 
 def check_documents():
     """Prints a line for each document, and what is wrong with it. Whether nothing is."""
-    good, all_words = True, [0, 0]
+    good, own, all_words = True, [0, 0], [0, 0]
     print(f"{'document':28}{'sentences':>10}{'median':>8}{'longest':>9}{'by hand':>9}{'made':>8}")
     for path in documents():
         text = path.read_text() if path.exists() else ""
@@ -163,10 +163,11 @@ def check_documents():
         words = words_of_document(text)
         print(f"{str(path.relative_to(ROOT)):28}{numbers}{words[0]:>9}{words[1]:>8}")
         all_words = [sum(pair) for pair in zip(all_words, words)]
+        own = own if path.relative_to(ROOT).parts[0] == "examples" else all_words
         faults = faults_of(path, text, found) if path.exists() else ["is missing"]
         good = good and not faults
         print("".join(f"  {fault}\n" for fault in faults), end="")
-    print(f"{'words':55}{all_words[0]:>9}{all_words[1]:>8}")
+    print(f"{'words without examples/':55}{own[0]:>9}{own[1]:>8}\n{'words':55}{all_words[0]:>9}{all_words[1]:>8}")
     return good
 
 
