@@ -58,6 +58,13 @@ def options(parser):
     which.add_argument("--sources", action="store_true", help="sources alone")
 
 
+def tell(faults, what):
+    """Prints how many faults there are, and each. Whether there are none."""
+    print(f"{len(faults)} {what}")
+    print("".join(f"       {fault}\n" for fault in faults), end="")
+    return not faults
+
+
 # Documents
 
 
@@ -303,9 +310,7 @@ def check_lines():
         for number, line in enumerate(path.read_text().split("\n"), 1):
             if len(line) > MOST_COLUMNS and not ONE_TEXT.fullmatch(line):
                 found.append(f"{path.relative_to(ROOT)}:{number}: {len(line)} columns")
-    print(f"{len(found)} lines over {MOST_COLUMNS} columns")
-    print("".join(f"       {fault}\n" for fault in found), end="")
-    return not found
+    return tell(found, f"lines over {MOST_COLUMNS} columns")
 
 
 def homes_of(pairs, least):
@@ -381,17 +386,13 @@ def check_examples():
         if path.parts[-3] in bridge_crates() and "```rust" not in opening_of(path):
             faults.append(f"{path.relative_to(ROOT)}: no example")
         faults += missing_calls(path)
-    print(f"{len(faults)} faults of examples in lib.rt")
-    print("".join(f"       {fault}\n" for fault in faults), end="")
-    return not faults
+    return tell(faults, "faults of examples in lib.rt")
 
 
 def check_made():
     """Prints which sources aren't what the page's web files make. Whether there are none."""
-    found = stale()
-    print(f"{len(found)} sources of the page are stale")
-    print("".join(f"       {path.relative_to(ROOT)}: run `tools/bridge make page`\n" for path in found), end="")
-    return not found
+    found = [f"{path.relative_to(ROOT)}: run `tools/bridge make page`" for path in stale()]
+    return tell(found, "sources of the page are stale")
 
 
 def stands(file, old):
@@ -402,10 +403,7 @@ def stands(file, old):
 def check_edits():
     """Prints which edits and plants can't be made any more. Whether there are none."""
     plants = [f"plant {name}: {file}" for name, (file, old, _) in PLANTS.items() if not stands(file, old)]
-    found = edits.stale() + plants
-    print(f"{len(found)} edits can't be made")
-    print("".join(f"       {fault}\n" for fault in found), end="")
-    return not found
+    return tell(edits.stale() + plants, "edits can't be made")
 
 
 def imported(path):
@@ -424,18 +422,14 @@ def check_folders():
         folder = path.relative_to(TOOLS).parts[0]
         others = MAY_IMPORT.keys() - {folder, *MAY_IMPORT[folder]}
         found += [f"{path.relative_to(ROOT)}: {name}" for name in imported(path) if name.split(".")[0] in others]
-    print(f"{len(found)} imports of tools that their folder may not have")
-    print("".join(f"       {fault}\n" for fault in found), end="")
-    return not found
+    return tell(found, "imports of tools that their folder may not have")
 
 
 def check_order():
     """Prints which crates that are there to check sort before one of the product. Whether none does."""
     product = bridge_crates()
     found = [name for name in crates() if name not in product and name < max(product)]
-    print(f"{len(found)} crates that are there to check sort before the product's")
-    print("".join(f"       {name}\n" for name in found), end="")
-    return not found
+    return tell(found, "crates that are there to check sort before the product's")
 
 
 def run(args):
