@@ -4,9 +4,10 @@ A capture has the moments at which datagrams and lines came, not those at which 
 model sends differs from the wire, a tick or a call nearby may have been taken before or behind its neighbours.
 
 The search ends on any capture. Ticks keep their order, so each turn passes one more of them. What is gone through again
-for an order is counted, and no further order is tried once that is AGAIN times the events and LEAST more. A call that
-was held on a machine with six times the work that it can do took seven times its events for all orders. So what stays
-behind the bound is rarely a matter of order, and who reads it is told that none was tried.
+for an order is counted, and no further order is tried once that is AGAIN times the events and LEAST more. Ticks count
+there as often as other events at most, so that a time in which little came allows little. A call that was held on a
+machine with six times the work that it can do took seven times its events for all orders. So what stays behind the
+bound is rarely a matter of order, and who reads it is told that none was tried.
 """
 
 import dataclasses
@@ -26,6 +27,8 @@ BEHIND = 60_000_000
 TRIES, VAIN = 40, 200
 # Orders are tried for so many times the events of a capture, and so many events beside, as a short one may need.
 AGAIN, LEAST = 10, 8_000
+# To look at so many events, or to put them in order, takes as long as to go through one of them.
+LOOKED = 100
 # So many of the last calls and ticks may move.
 MOVING = 100
 # What is told where no order is tried, although packets differ.
@@ -41,7 +44,8 @@ class Search:
         self.run, self.events, self.vain, self.mended = run, events, 0, 0
         # How many events were gone through again, and how many may be; where no order was tried although packets
         # differ.
-        self.spent, self.most, self.untried = 0, AGAIN * len(events) + LEAST, []
+        came = sum(event.kind != TICK for event in events)
+        self.spent, self.most, self.untried = 0, AGAIN * min(len(events), 2 * came) + LEAST, []
         # The places behind the last ticks with the states of the run there, what the usual order wrote down since the
         # first of them, and the place that it has come to.
         self.states, self.usual, self.end = [], None, 0
@@ -125,8 +129,7 @@ class Search:
             if is_last:
                 break
         self.end = first + begun
-        # To put an order together takes as long as its events.
-        self.spent += self.end - first
+        self.spent += self.end - first + len(order) // LOOKED
         return len(self.run.cursor.found)
 
     # Orders
@@ -148,9 +151,11 @@ class Search:
             yield self.order_with(first, end, at, place)
 
     def moves(self, at, first):
-        """Places to which an event may move: how far it moves, its number, and the place."""
+        """Places to which an event may move: how far it moves, its number, and the place. There are no more on either
+        side than orders are tried: others are further away."""
         event = self.events[at]
         for step, stop in ((-1, first - 1), (1, len(self.events))):
+            left, to = TRIES, at
             for to in range(at + step, stop, step):
                 other = self.events[to]
                 if event.kind == other.kind and step < 0 or not self.may_pass(event, other) or other.kind == PAUSE:
@@ -158,6 +163,10 @@ class Search:
                 if event.kind != other.kind and counts(event, other):
                     far = abs(other.place - event.place)
                     yield far if far < NEAR else far + 2 * NEAR, at, other.place + step
+                    left -= 1
+                    if not left:
+                        break
+            self.spent += abs(to - at) // LOOKED
         if event.kind == TICK and event.latest - event.place > NEAR:
             # It was given late, behind all that came until its mixes left.
             yield NEAR + len(self.events) - at, at, event.latest - ANSWERED
