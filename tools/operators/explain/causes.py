@@ -13,6 +13,8 @@ SET_PCMU = (
 )
 # Packets hold less or more sound than their spacing where the two differ by such a share.
 UNLIKE = 0.2
+# No clock is by such a share slow or fast, but a sender that gets too little of a processor is.
+NO_CLOCK = 0.05
 # A source is the same one at another address where its numbers go on by so many at most, and so soon, in nanoseconds.
 GOES_ON, SOON = 1000, 2_000_000_000
 # Packets of all senders are missing at once where each lacks so many in a row.
@@ -63,9 +65,14 @@ def clock_text(source, rate):
     sound = sound_of(source.track) if source.pt in RATES else None
     if sound and (abs(sound.spacing / sound.holds - 1) > UNLIKE or abs(sound.step / sound.holds - 1) > UNLIKE):
         return None
-    ppm, name = abs(share) * 10**6, "slow" if share > 0 else "fast"
-    words = "comes later and later" if share > 0 else "comes sooner and sooner, and waits longer and longer"
-    return f"{source.ssrc}: its sender's clock is {ppm:,.0f} ppm {name}, by its timestamps: its sound {words}"
+    name, words = "slow", "later and later"
+    if share < 0:
+        name, words = "fast", "sooner and sooner, and waits longer and longer"
+    if abs(share) > NO_CLOCK:
+        text = f"{source.ssrc}: its sound is {100 * abs(share):.0f} % too {name}, by its timestamps: it comes {words}"
+        return f"{text}. Its sender's machine is busy, or its clock is another one"
+    clock = f"its sender's clock is {abs(share) * 10**6:,.0f} ppm {name}, by its timestamps"
+    return f"{source.ssrc}: {clock}: its sound comes {words}"
 
 
 def sound_text(source):

@@ -108,5 +108,5 @@ class Causes:
             return f"until {by_call(change.call)}: {change.call.text}"
         if self.end - span.end < longest:
             return "to the end"
-        near = [source for source in self.sources[span.ssrc] if source.last > span.end + SOON]
-        return "then nothing of it was passed on" if near else "then no packet of it came"
+        is_sending = any(source.last > span.end for source in self.sources[span.ssrc])
+        return "then nothing of it was passed on" if is_sending else "then no packet of it came"
