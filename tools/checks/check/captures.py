@@ -120,6 +120,9 @@ def check_call(packets):
         "call 11: group set-gain 10 202 128 / mute 101",
     ]:
         check(sentence in text, f"of a whole call it isn't told: {sentence}\n{text}")
+    nobody = "\n".join(telling(it, "it", "99", ALL))
+    is_told = "an SSRC 99, so nobody is told of. There are 10 at 127.0.0.1:6000" in nobody
+    check(is_told, f"of nobody it is told\n{nobody}")
     print(f"a call of {it.run.cursor.equal} media packets is explained without a difference")
 
 

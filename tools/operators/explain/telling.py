@@ -10,6 +10,8 @@ from operators.explain.senders import AUDIO, senders_of
 
 # So many differences are told one by one, and so many sources that are no member's own.
 MOST_TOLD, MOST_STRANGERS = 20, 256
+# So many members are named where another one is asked for.
+NAMED = 8
 REASONS = {
     "unsent": "a lane that was late followed a later call, or a full ring dropped its item",
     "uncaptured": "the capture lost it",
@@ -36,7 +38,7 @@ class Telling:
     """What is told of a capture, to whom it may concern."""
 
     def __init__(self, explained, wanted, between):
-        self.it, self.wire, self.between = explained, explained.wire, between
+        self.it, self.wire, self.between, self.wanted = explained, explained.wire, between, wanted
         self.senders = senders_of(explained, between)
         self.desks = Desks(explained.run, explained.begin) if explained.run else None
         self.outgoing = outgoing_of(explained.streams, self.is_mix, between)
@@ -52,6 +54,13 @@ class Telling:
         found = {number for number, member in self.desks.members.items() if wanted in (str(number), member["address"])}
         found |= {row["member"] for ssrc, row in self.desks.sources.items() if wanted == str(ssrc)}
         return found | {member for out, (_, member) in self.desks.outs.items() if wanted == str(out)}
+
+    def of_nobody(self):
+        """What is said where no member is the one that is asked for."""
+        some = [f"{number} at {member['address']}" for number, member in sorted(self.desks.members.items())]
+        more = f" and {len(some) - NAMED:,} more" if len(some) > NAMED else ""
+        there = f"There are {', '.join(some[:NAMED])}{more}" if some else "There is none"
+        return f"no member has the number, the address or an SSRC {self.wanted}, so nobody is told of. {there}"
 
     def concerns(self, *members):
         return self.members is None or bool(self.members & set(members))
@@ -115,6 +124,8 @@ class Telling:
 
     def notes(self):
         """What is to be known of the capture as a whole."""
+        if self.members is not None and not self.members:
+            yield self.of_nobody()
         into = [one for one in self.wire.into if self.is_within(one.moment)]
         unknown = sum(not self.it.is_known(one.moment) for one in into) if self.it.run else 0
         if unknown:
