@@ -10,8 +10,10 @@ Then it holds calls whose members have planted faults, such as PCMA, a slow cloc
 capture is made worse: begun at ten random places, with 2 percent of its packets lost, out of order by 5 ms, cut short
 by `-s 96`, with a clock that is set by an hour, and beside another bridge. Each planted fault that a capture shows has
 to be told, and nothing else may be. On a machine that is busy the check knows, by its own clock and by what the system
-counts for the bridge's threads, what may be so though nobody planted it. Where this process may not capture, all is
-skipped.
+counts for the bridge's threads, what may be so though nobody planted it. Before all that it does the same with calls of
+the model's, which no machine holds. Where this process may not capture, the rest is skipped.
+
+While all lanes stand still, and packets come until their rings are full, `stats` is answered within a second.
 """
 
 import concurrent.futures
@@ -27,18 +29,17 @@ import time
 from checks.bridges import check
 from checks.camera import asked_numbers
 from checks.captures.recorder import Recorder
-from checks.explain.holding import LATEST, Held
-from checks.explain.planted import FAULTS, SAID, Call as MadeCall
-from checks.explain.varied import Varied, variations, wrong
-from operators.captures.files import frames_of
+from checks.explain.holding import Held
+from checks.explain.judging import ALL, LATEST, STOOD, differences, made
+from checks.explain.planted import FAULTS, SAID
+from checks.explain.stalls import Stalls
+from checks.explain.stopped import check_stopped
 from operators.captures.live import may_capture
 from operators.captures.notes import BadCapture
-from operators.captures.notes import Notes
 from operators.demo import picture, tone
 from operators.explain import compared
 from operators.explain.explaining import explained
-from operators.explain.given import given_by
-from operators.explain.telling import Telling, telling
+from operators.explain.telling import telling
 from operators.packets import nack, number, pli, rtp, seq_of
 from operators.serving import Operator, come_to, port_of, settings, started, udp_socket
 from operators.shared import add_program, fail, release_program
@@ -46,6 +47,8 @@ from operators.shared import add_program, fail, release_program
 NEEDS = "the program, leave to capture on `lo`"
 
 EACH = 0.02
+# How long a bridge may take until it has ended, in seconds.
+PATIENCE = 600
 # What the operator says, by the second at which it does. A `V` is the number of the last call.
 CALLS = {
     1.5: "mute 202", 2: "undo V", 2.5: "group set-gain 10 202 128 / mute 101", 3: "undo V", 3.5: "remove-slot 501",
@@ -55,7 +58,6 @@ CALLS = {
 }  # fmt: skip
 # The capture is cut at the `show`, and explained from there on.
 MIDDLE = 4
-ALL = (0, float("inf"))
 
 
 def options(parser):
@@ -113,8 +115,8 @@ class Call:
     def __init__(self, port, operator, seed):
         self.one, self.other, self.stranger = (Member(("127.0.0.1", port), seed + n) for n in range(3))
         self.operator, self.version, self.tick, self.sent = operator, 0, 0, {}
-        # By how many seconds packets left too late.
-        self.late = 0
+        # By how many seconds packets left too late, and the bridge stood still.
+        self.late = self.stood = 0
 
     def setup(self):
         yield from ("add-room 1", f"add-member 10 1 {self.one.address()} pcmu 9001 0 0")
@@ -175,10 +177,12 @@ def captured(program, args, lanes, folder):
         call = Call(udp, Operator(connection), args.seed)
         for line in call.setup():
             call.say(line)
-        call.hold(args.seconds)
-        time.sleep(0.2)
+        with Stalls(bridge.pid) as stalls:
+            call.hold(args.seconds)
+            time.sleep(0.2)
+        call.stood = stalls.longest
         call.operator.tell("stop")
-        bridge.wait(20)
+        bridge.wait(PATIENCE)
     check(recorder.end(), "the capture lost packets")
     return recorder.path.read_bytes(), call
 
@@ -232,12 +236,15 @@ def check_parts(octets, it):
 
 
 def run(args):
-    if not may_capture():
-        print("skipped: this process may not capture on lo (it takes root or CAP_NET_RAW)")
-        return 0
-    program = release_program(args.binary)
     try:
         with concurrent.futures.ProcessPoolExecutor(initializer=os.nice, initargs=(NICE,)) as workers:
+            check_made(args, workers)
+            if not may_capture():
+                print("skipped: this process may not capture on lo (it takes root or CAP_NET_RAW)")
+                return 0
+            program = release_program(args.binary)
+            if not args.only:
+                check_stopped(program, max(args.lanes))
             for lanes in args.lanes:
                 if not args.only:
                     check_one(program, args, lanes)
@@ -252,41 +259,62 @@ def check_one(program, args, lanes):
     for _ in range(args.tries):
         with tempfile.TemporaryDirectory() as folder:
             octets, call = captured(program, args, lanes, folder)
-        it = check_whole(octets, call, program)
-        if it and call.late < LATEST:
+        it, is_busy = check_whole(octets, call, program), call.late > LATEST or call.stood > STOOD
+        if it and not is_busy:
             check_parts(octets, it)
             return
-    check(it, "media packets differ from the models'")
-    print(f"from its middle on it isn't judged: packets left {1000 * call.late:.0f} ms late, as the machine is busy")
+        check(it or is_busy, "media packets differ from the models'")
+    what = "from its middle on" if it else "a call"
+    why = f"packets left {1000 * call.late:.0f} ms late, and the bridge stood still for {1000 * call.stood:.0f} ms"
+    print(f"{what} isn't judged on {lanes} lanes: {why}, as the machine is busy", flush=True)
 
 
 # Planted faults
 
 # What explains captures has less of the processors than the calls that are held meanwhile.
 NICE = 15
-OTHERS = ("127.0.0.1:5104", "127.0.0.1:7100"), ("127.0.0.1:6100", "127.0.0.1:6102")
 
 
-def check_planted(program, args, lanes, workers):
-    """Calls with planted faults, whose captures are made worse. These are explained while other calls are held."""
-    names = [name for name in FAULTS | SAID if name != "a full receive buffer" and args.only in (None, name)]
-    due = []
-    for at in range(0, len(names), args.at_once):
-        record = held_in_time(program, args, lanes, names[at : at + args.at_once])
-        seed = f"{args.seed} {lanes} {record.names}"
-        due.append((record, workers.submit(differences, record, seed, args.cuts)))
-    count, busy = 0, 0
-    for record, job in due:
+def judge(args, workers, records):
+    """Explains each call's capture, and its worse ones, while further calls are held. How many there were of these, and
+    of how many calls it wasn't judged what a busy machine may do."""
+    due, count, busy = [], 0, 0
+    for where, record in records:
+        seed = f"{args.seed} {where} {record.names()}"
+        due.append((where, record, workers.submit(differences, record, seed, args.cuts)))
+    for where, record, job in due:
         tried, found = job.result()
         count, busy = count + tried, busy + bool(record.unsure())
         for how, octets, differ in found:
             if args.keep:
                 pathlib.Path(args.keep).write_bytes(octets)
             lines = "\n".join(f"  {line}" for line in differ)
-            fail(f"on {lanes} lanes a call with {', '.join(record.names)}, {how}:\n{lines}")
-    text = f"on {lanes} lanes {len(names)} planted faults are told, also in {count} worse captures, and nothing else"
-    left = f"; of {busy} of {len(due)} calls it isn't judged what a busy machine may do" if busy else ""
-    print(text + left, flush=True)
+            fail(f"{where} a call with {record.names()}, {how}:\n{lines}")
+    return count, f"; of {busy} of {len(due)} calls it isn't judged what a busy machine may do" if busy else ""
+
+
+def names_of(args):
+    """The faults that calls have."""
+    return [name for name in FAULTS | SAID if args.only in (None, name)]
+
+
+def check_made(args, workers):
+    """Calls with planted faults that nobody held, whose captures are made worse."""
+    names = names_of(args)
+    count, _ = judge(args, workers, (("by the model,", made(name)) for name in names))
+    text = f"{len(names)} planted faults are told in calls of the model's, also in {count} worse captures"
+    print(f"{text}, and nothing else", flush=True)
+
+
+def check_planted(program, args, lanes, workers):
+    """Calls with planted faults that are held, whose captures are made worse."""
+    names = [name for name in names_of(args) if name != "a full receive buffer"]
+    groups = [names[at : at + args.at_once] for at in range(0, len(names), args.at_once)]
+    where = f"on {lanes} lanes"
+    records = ((where, held_in_time(program, args, lanes, group)) for group in groups)
+    count, left = judge(args, workers, records)
+    text = f"{where} {len(names)} planted faults are told, also in {count} worse captures, and nothing else"
+    print(f"{text}{left}", flush=True)
 
 
 def held_in_time(program, args, lanes, names):
@@ -299,26 +327,4 @@ def held_in_time(program, args, lanes, names):
             return held.record
         whole += [held.record] if held.is_whole else []
     check(whole, "the capture lost packets each time")
-    return min(whole, key=lambda record: record.late)
-
-
-def differences(record, seed, cuts):
-    """How many worse captures of a call were explained, and of which of them other things were told than what they
-    show: how they are worse, their octets, and the differences."""
-    packets = [(frame.moment, frame.octets) for frame in frames_of(io.BytesIO(record.octets), Notes())]
-    others = MadeCall(bridge=OTHERS[0], members=OTHERS[1]).packets
-    worse = variations(
-        random.Random(seed), packets, cuts, (given_by(record.rows), record.known), others, {"udp": record.udp}
-    )
-    found, count = [], -1
-    for one in (Varied("whole", record.octets, {}, packets[0][0]), *worse):
-        count += 1
-        it = explained(io.BytesIO(one.octets), **one.named)
-        told = Telling(it, None, ALL).found() if it.run else []
-        must, may = record.wanted(one.begin, one.broken)
-        unsure = {"busy", *record.unsure()}
-        must = {fault for fault in must if it.run and fault[0] not in unsure}
-        differ = wrong([one for one in told if one.kind not in unsure], may, must)
-        if differ:
-            found.append((one.how, one.octets, differ))
-    return count, found
+    return min(whole, key=lambda record: (len(record.unsure()), record.late))

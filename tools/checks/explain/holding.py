@@ -1,28 +1,28 @@
 """Holds a call over sockets in which some members have planted faults, and captures it."""
 
-import dataclasses
+import io
 import pathlib
 import socket
 import time
 
 from checks.bridges import accepted
 from checks.captures.recorder import Recorder
+from checks.explain.judging import SHOWN, Record
 from checks.explain.made import OTHER, STRANGER
-from checks.explain.planted import FAULTS, NEW, SAID, TICKS, wanted, whole
+from checks.explain.planted import FAULTS, NEW, SAID, TICKS, whole
 from checks.explain.stalls import Stalls
+from operators.captures.files import frames_of
+from operators.captures.links import Packets
+from operators.captures.notes import Notes
 from operators.demo import picture, tone
 from operators.packets import number, rtp
 from operators.serving import Operator, port_of, settings, started, udp_socket
 
 EACH = 0.02
-# `show` is asked for at each of so many ticks.
-SHOWN = 20
-# Where packets leave later than this, in seconds, or a thread of the bridge stands still for longer, the machine is
-# busy.
-LATEST, STOOD = 0.02, 0.03
-# The kinds of what is so then, and nobody planted it; such a fault that is planted may not show.
-BY_SENDERS = {"late", "early", "clock", "spacing", "still"}
-BY_BRIDGE = {"overrun", "still", "busy"}
+# So many items at most wait for a lane that isn't behind.
+FEW = 10
+# For how long lanes are let come to their ends, and how long it may take until a bridge has ended, in seconds.
+SETTLES, PATIENCE = 5, 600
 
 
 class Member:
@@ -55,33 +55,12 @@ def others_of(place):
     return {202: 202 + place, 777: 777 + place, 77: 3000 + place, 11: 11 + place}
 
 
-@dataclasses.dataclass(frozen=True)
-class Record:
-    """The capture of a call whose members have these faults; the rows of its desk before these, with their moment; the
-    bridge's address; and by how much packets left too late, and the bridge stood still, in seconds."""
-
-    names: tuple
-    octets: bytes
-    rows: str
-    known: int
-    udp: str
-    late: float
-    stood: float
-
-    def unsure(self):
-        """The kinds of what the machine itself may have made so."""
-        return (BY_SENDERS if self.late > LATEST else set()) | (BY_BRIDGE if self.stood > STOOD else set())
-
-    def wanted(self, begin, broken=None):
-        """What has to be told by a capture that begins at a moment, and what may be. At a moment its clock may be
-        set."""
-        begin, broken = (moment and (moment - self.known) / 1e9 for moment in (begin, broken))
-        found = set(), set()
-        for place, name in enumerate(self.names):
-            others = others_of(place)
-            for kinds, more in zip(found, wanted(name, begin, broken)):
-                kinds |= {(kind, others.get(about, about)) for kind, about in more}
-        return found
+def longest_pause(octets, udp, begin, end):
+    """For how many seconds longer than a tick a bridge sent nothing between two moments, though somebody was heard:
+    also where the system itself stood still, and counts no wait."""
+    packets = Packets(Notes()).of(frames_of(io.BytesIO(octets), Notes()))
+    moments = [packet.moment for packet in packets if packet.source == udp and begin < packet.moment < end]
+    return max((b - a for a, b in zip(moments, moments[1:])), default=0) / 1e9 - EACH
 
 
 class Held:
@@ -100,11 +79,23 @@ class Held:
             self.rows, self.known = "\n".join(self.operator.shown()), time.time_ns()
             with Stalls(bridge.pid) as stalls:
                 self.hold(("127.0.0.1", udp))
-                time.sleep(0.2)
+                ended = time.time_ns()
+                self.settle()
             self.operator.tell("stop")
-            bridge.wait(60)
+            bridge.wait(PATIENCE)
         self.is_whole, octets = recorder.end(), recorder.path.read_bytes()
-        self.record = Record(tuple(names), octets, self.rows, self.known, self.udp, self.late, stalls.longest)
+        faults = tuple((member.name, member.others) for member in self.members)
+        stood = max(stalls.longest, longest_pause(octets, self.udp, self.known, ended))
+        self.record = Record(faults, octets, self.rows, self.known, self.udp, self.late, stood)
+
+    def settle(self):
+        """Waits until lanes have come to what was sent last, as far as they do in time."""
+        end = time.monotonic() + SETTLES
+        while time.monotonic() < end:
+            time.sleep(0.2)
+            lanes = [line for line in self.operator.shown("stats") if line.startswith("lane ")]
+            if all(int(line.rpartition(" ")[2]) < FEW for line in lanes):
+                return
 
     def setup(self):
         yield from ("add-room 1", f"add-member 10 1 127.0.0.1:{port_of(self.one)} pcmu 9001 0 0")
