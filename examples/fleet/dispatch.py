@@ -1,10 +1,12 @@
 #!/usr/bin/env python3
-"""Where a phone's call goes: to the gateway of its room's bridge, which an agent of the fleet names.
+"""Where a phone's call goes: to the gateway of its room's bridge, which an agent of the fleet names. And back: a gateway
+ends and refreshes calls by requests to their phones.
 
 Kamailio runs this. As a program it prints the list of all gateways for Kamailio's dispatcher. FLEET_AGENT is the agent,
 and FLEET_SECRET the file of the fleet's secret.
 """
 
+import hmac
 import json
 import os
 import pathlib
@@ -25,6 +27,10 @@ SIP = re.compile(r"[0-9]{1,3}(?:[.][0-9]{1,3}){3}:[0-9]{1,5}")
 TESTS, URIS, HOPS = 17895, 7, 10
 # An address of the dispatcher's list is looked for by its host and its port: it is asked by UDP.
 ANY_PROTOCOL = 2
+# What a gateway asks phones, and the part of a Record-Route that says whence a phone's INVITE came. Only who has the
+# fleet's secret can write one: no stranger has Kamailio send anything to an address of his own.
+TO_PHONES = "BYE", "UPDATE"
+CAME_FROM = re.compile(r"(?:^|;)at=([0-9.]{7,15})-([0-9]{1,5})-([0-9a-f]{32})(?:;|$)")
 
 
 def ask(path, **words):
@@ -38,6 +44,11 @@ def ask(path, **words):
         return None, why.code, printable(why.read(1000).decode("ascii", "backslashreplace"))
     except (OSError, ValueError):
         return None, 503, "The fleet doesn't answer. Try again in a minute."
+
+
+def mark_of(call, ip, port):
+    """What only the fleet can say of a phone's address, and of one call alone."""
+    return hmac.new(secret_in("fleet.secret"), f"phone {ip}:{port} {call}".encode(), "sha256").hexdigest()[:32]
 
 
 def set_of(bridge):
@@ -99,15 +110,24 @@ class Script:
         return 1
 
     def within(self, KSR, method):
-        """A request within a call goes to the gateway that it names, if that is one."""
+        """A request within a call goes to the gateway that it names, if that is one. A gateway's goes to its phone."""
+        # Kamailio takes the first route away where it is its own.
+        route = (KSR.pv.get("$hdr(Route)") or "").partition(">")[0]
         is_own = KSR.rr.loose_route() > 0
-        gateway = f"{KSR.pv.get('$rd')}:{KSR.pv.get('$rp')}"
-        is_known = SIP.fullmatch(gateway) and KSR.dispatcher.ds_is_from_list_uri(-1, ANY_PROTOCOL, f"sip:{gateway}") > 0
-        if is_own and is_known and not KSR.pv.get("$du"):
-            KSR.pv.sets("$du", f"sip:{gateway}")
+        gateway, sender = (f"{KSR.pv.get(ip)}:{KSR.pv.get(port)}" for ip, port in (("$rd", "$rp"), ("$si", "$sp")))
+        is_one = lambda at: SIP.fullmatch(at) and KSR.dispatcher.ds_is_from_list_uri(-1, ANY_PROTOCOL, f"sip:{at}") > 0
+        phone = self.phone(KSR, route) if is_own and method in TO_PHONES and is_one(sender) else None
+        if phone or is_own and is_one(gateway) and not KSR.pv.get("$du"):
+            KSR.pv.sets("$du", f"sip:{phone or gateway}")
             KSR.tm.t_relay()
         elif method != "ACK":
             KSR.sl.send_reply(404, "No Call Of This Fleet")
+
+    def phone(self, KSR, route):
+        """Where the INVITE came from of the call that a request is within, None where its route doesn't say so."""
+        found = CAME_FROM.search(route)
+        is_own = found and hmac.compare_digest(mark_of(KSR.pv.get("$ci"), found[1], found[2]), found[3])
+        return f"{found[1]}:{found[2]}" if is_own else None
 
     def invite(self, KSR):
         said, status, words = ask("where", room=KSR.pv.get("$rU") or "")
@@ -116,7 +136,9 @@ class Script:
         elif KSR.dispatcher.ds_select_dst(set_of(said["bridge"]), 4) < 0:
             KSR.sl.send_reply(503, f"No gateway of bridge {said['bridge']} is known")
         else:
+            ip, port = KSR.pv.get("$si"), KSR.pv.get("$sp")
             KSR.rr.record_route()
+            KSR.rr.add_rr_param(f";at={ip}-{port}-{mark_of(KSR.pv.get('$ci'), ip, port)}")
             KSR.tm.t_relay()
 
 
