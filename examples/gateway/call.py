@@ -41,6 +41,8 @@ class Call:
         # A phone's: the gateway's tag, whether it is held, and how many packets had come when it was told where to
         # send: until more come, it gets none.
         self.tag, self.is_held, self.waits_at = None, False, None
+        # What Kamailio keeps of it, for one that is started anew (dialogs.py).
+        self.dialog = None
         # Its last offer; the IP address that it sends from; what had come of its sound when that was last heard, and
         # when that was; since when it is no member any more, by an operator; and when its port was last learnt anew.
         self.offer = self.ip = self.media = self.gone = None

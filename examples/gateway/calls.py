@@ -18,7 +18,7 @@ from keys import Pins
 from meeting import Meeting
 from mutes import Mutes
 from own_rooms import EMPTY, OwnRooms
-from phone_calls import KNOWN, MUX, PhoneCalls
+from phone_calls import KNOWN, MOST_OWED, MUX, PhoneCalls
 from pictures import Pictures
 from refused import Refused, words_of
 from rtpengine import Rtpengine, UnknownCall
@@ -47,8 +47,10 @@ class Calls(PhoneCalls, Meeting, Mutes):
         # The calls of pages by their ids, and why the last ones ended; those of phones by Call-ID and the phone's tag.
         # One change at a time is made to them and to the desk.
         self.pages, self.ended, self.phones, self.lock = {}, {}, {}, threading.RLock()
-        # The rooms that have names, and those that have a PIN; and set once Kamailio has heard which calls are over.
+        # The rooms that have names, and those that have a PIN; and set once Kamailio has heard which calls are over. By
+        # their tags, those of which it hasn't heard: what it keeps of each, and since when.
         self.names, self.pins, self.told_over = settings["names"], Pins(settings["pins"]), threading.Event()
+        self.owed = {}
         # By which invitations are signed, where pages need them; and the TURN servers of pages.
         self.key, self.turn = settings["invitations"]["key"], settings["turn"]
         # The desk as it was last read.
@@ -343,6 +345,8 @@ class Calls(PhoneCalls, Meeting, Mutes):
             call.why = why
             if call.side == "browser":
                 self.ended = dict([*self.ended.items(), (call.id, (why, 410))][-1000:])
+            elif call.dialog:
+                self.owed = dict([*self.owed.items(), (call.tag, (call.dialog, time.monotonic()))][-MOST_OWED:])
             if call.member is not None:
                 log(f"{call.side} {call.name!r} has left room {call.room}: {why}")
                 self.leaving.append((call.member, call.camera))

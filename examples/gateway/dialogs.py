@@ -2,6 +2,8 @@
 (RFC 3261 section 12.2.1). The agent says which calls are over, and a BYE goes to each of these phones.
 
 Session timers (RFC 4028) are kept here too: a phone that says that it refreshes its call, and doesn't, has gone.
+
+The agent is told all of that, and keeps it. A Kamailio that is started anew takes it back from there.
 """
 
 import json
@@ -10,9 +12,12 @@ import time
 import KSR
 
 TABLE = "calls"
-# How many of them the agent is asked for at once, and after how many seconds a call is dropped that no ACK has
-# confirmed. No BYE goes there: who doesn't get the answer doesn't know its tag, and has perhaps never called.
-MOST, UNCONFIRMED = 500, 10
+# How many of them the agent is asked for at once, and the longest one that it is told, as JSON. And after how many
+# seconds a call is dropped that no ACK has confirmed. No BYE goes there: who doesn't get the answer doesn't know its
+# tag, and has perhaps never called.
+MOST, LONGEST, UNCONFIRMED = 40, 2000, 10
+# By how much the numbers of requests (CSeq) go on that a Kamailio before this one may have sent.
+SKIPPED = 10
 # What a refresh that Kamailio sends is called, and the part of an interval after which it is due.
 REFRESH, HALF = "UPDATE", 2
 
@@ -85,18 +90,25 @@ class Dialogs:
     def __init__(self, ask, away):
         # `away`: after how many seconds without the agent all calls are over.
         self.ask, self.away, self.answered, self.sending = ask, away, time.time(), None
+        # Whether the calls of a Kamailio before this one are here; what the agent was told of each, and what it wants.
+        self.has_all, self.told, self.wanted = False, {}, set()
 
     def look(self):
+        if not self.has_all:
+            self.take_back()
         now, found = time.time(), all_of_them()
         if not found:
             self.answered = now
             return
-        over = self.over([*found])
+        over = self.over(found)
         for tag, one in found.items():
             is_late = one["until"] and now > one["until"]
             if is_late and tag not in over:
                 self.ask("hang-up", **{"call": one["call"], "from": one["tag"], "to": tag})
             if is_late or tag in over:
+                if get(tag) is None:
+                    # Its phone has hung up meanwhile.
+                    continue
                 if one["is_confirmed"]:
                     drop(tag)
                     self.send("BYE", tag, one)
@@ -106,16 +118,30 @@ class Dialogs:
                 put(tag, one | {"count": one["count"] + 1, "refresh": now + one["session"] / HALF})
                 self.send(REFRESH, tag, one)
 
-    def over(self, tags):
-        """Those of these calls that are over."""
-        found = set()
+    def take_back(self):
+        """Takes the calls of a Kamailio before this one, as the agent has kept them."""
+        said, _, _ = self.ask("dialogs")
+        for tag, one in (said or {"dialogs": {}})["dialogs"].items():
+            if get(tag) is None:
+                put(tag, one | {"count": one["count"] + SKIPPED})
+        self.has_all = said is not None
+
+    def over(self, found):
+        """Those of these calls that are over. The agent is told what is new of them."""
+        tags, over, wanted = [*found], set(), set()
+        texts = {tag: json.dumps(one) for tag, one in found.items()}
+        new = {tag for tag, text in texts.items() if self.told.get(tag) != text} | self.wanted
         for at in range(0, len(tags), MOST):
-            said, _, _ = self.ask("over", tags=tags[at : at + MOST])
+            some = tags[at : at + MOST]
+            news = {tag: found[tag] for tag in some if tag in new and len(texts[tag]) <= LONGEST}
+            said, _, _ = self.ask("over", tags=some, dialogs=news)
             if said is None:
-                return set(tags) if time.time() - self.answered > self.away else found
-            found |= set(said["over"])
-        self.answered = time.time()
-        return found
+                self.told = {}
+                return set(tags) if time.time() - self.answered > self.away else over
+            over |= set(said["over"])
+            wanted |= set(said["wants"])
+        self.answered, self.told, self.wanted = time.time(), texts, wanted
+        return over
 
     def send(self, method, tag, one):
         """Sends a request within a call, to where the phone's last one came from."""

@@ -20,6 +20,8 @@ MUX, KNOWN = ["offer", "require"], ["asymmetric", "strict-source"]
 # port when a phone offers again.
 LEARNT = ["SIP-source-address", "strict-source", "port-latching"]
 NEAREST, LAST = "endpoint-learning-heuristic", "endpoint-learning-delayed"
+# For how many seconds a call that has ended is kept for a Kamailio that hasn't heard of it, and how many are.
+OWED, MOST_OWED = 600, 1000
 # For how many seconds rtpengine learns an address, and nothing may come from a phone before its new port is learnt.
 LEARNING = 3
 
@@ -137,15 +139,35 @@ class PhoneCalls:
             raise Refused("This call is another account's.", 403)
         return call
 
-    def over(self, tags):
-        """Which of these tags of the gateway are of no call: Kamailio sends those phones a BYE."""
+    def over(self, tags, dialogs):
+        """Which of these tags of the gateway are of no call: Kamailio sends those phones a BYE. What it keeps of calls
+        is kept here too, and it is told of which that is missing."""
+        known = self.by_tag()
+        if not known:
+            self.told_over.set()
+        for tag in dialogs.keys() & known.keys():
+            known[tag].dialog = dialogs[tag]
+        for tag in tags:
+            self.owed.pop(tag, None)
+        wants = [tag for tag in tags if tag in known and known[tag].dialog is None]
+        return {"over": [tag for tag in tags if tag not in known], "wants": wants}
+
+    def dialogs(self):
+        """What a Kamailio that is started anew takes back: all calls, and those that have ended meanwhile."""
+        found, now = {tag: call.dialog for tag, call in self.by_tag().items() if call.dialog}, time.monotonic()
+        return {"dialogs": {tag: one for tag, (one, ended) in list(self.owed.items()) if now - ended < OWED} | found}
+
+    def by_tag(self):
+        """The calls of phones by the gateway's tags."""
         if self.seen.version < 0:
             # The calls of an agent before this one aren't taken up yet.
             raise Refused(GONE)
-        known = {call.tag for call in list(self.phones.values())}
-        if not known:
-            self.told_over.set()
-        return {"over": [tag for tag in tags if tag not in known]}
+        return {call.tag: call for call in list(self.phones.values())}
+
+    def hang_up(self, call):
+        """A phone has hung up. It gets no BYE."""
+        call.dialog = None
+        self.end(call, "It has hung up.")
 
     # Keys
 

@@ -145,10 +145,10 @@ class Script:
         if KSR.pv.get("$rb") and KSR.siputils.has_totag() > 0:
             self.invite()
         elif KSR.tm.t_newtran() >= 0:
-            # A Kamailio that was started anew doesn't have the calls of the one before it, and the agent has.
+            # A Kamailio that was started anew may not have the calls of the one before it yet, and the agent has.
             tag, one = dialogs.of_request()
             said = one or ask("over", tags=[tag or ""])[0]
-            is_there = one or said == {"over": []}
+            is_there = one or said and not said["over"]
             self.reply(*(200, "OK") if is_there else (481, "Call Does Not Exist"))
 
     def reply(self, status, text, said=None):

@@ -164,6 +164,10 @@ class ForBrowsers(Handler):
 
 # Tags of the gateway.
 TAGS = "texts", lambda one: isinstance(one, list) and all(map(is_text, one))
+# What Kamailio keeps of calls, by these tags.
+KEPT = "objects by their tags", lambda one: (
+    isinstance(one, dict) and all(is_text(tag) and isinstance(each, dict) for tag, each in one.items())
+)
 # What a dialog is (RFC 3261 section 12): its Call-ID, the phone's tag and the gateway's.
 DIALOG = {"call": ID, "from": ID, "to": ID}
 
@@ -175,16 +179,19 @@ class ForKamailio(Handler):
         "phone": [DIALOG | {"room": ROOM, "name": NAME, "source": NAME, "sdp": SDP}, {"account": NAME}],
         "again": [DIALOG | {"source": NAME, "sdp": SDP}, {"account": NAME}],
         "hang-up": [DIALOG],
-        "over": [{"tags": TAGS}],
+        "over": [{"tags": TAGS}, {"dialogs": KEPT}],
+        "dialogs": [{}],
     }
 
     def carried_out(self, path, words):
         if path == "phone":
             return self.calls.phone(room_of(words, self.calls.names), words)
         if path == "over":
-            return self.calls.over(words["tags"])
+            return self.calls.over(words["tags"], words.get("dialogs", {}))
+        if path == "dialogs":
+            return self.calls.dialogs()
         call = self.calls.of_phone(words)
-        return self.calls.offers_again(call, words) if path == "again" else self.calls.end(call, "It has hung up.")
+        return self.calls.offers_again(call, words) if path == "again" else self.calls.hang_up(call)
 
 
 def room_of(words, names):

@@ -83,8 +83,8 @@ PARTS = {
     "stage": (["try_rule", "try_eight", "try_by_hand", "try_sixteen", "try_older"], "", []),
     "sip": (
         [
-            *("try_goodbyes", "try_gone_for_good", "try_acks", "try_requires", "try_transfers", "try_trunk"),
-            *("try_ways", "try_room_names", "try_taken"),
+            *("try_goodbyes", "try_kamailio_again", "try_gone_for_good", "try_acks", "try_requires", "try_transfers"),
+            *("try_trunk", "try_ways", "try_room_names", "try_taken", "try_fleet_proxy"),
         ],
         "",
         [],

@@ -8,13 +8,13 @@ import time
 from lab.gateway_call.again import LATE
 from lab.gateway_call.callers import RATE, PhoneCaller
 from lab.gateway_call.following import Following
+from lab.gateway_call.fronted import Fronted
 from lab.gateway_call.inviting import Inviting
 from lab.gateway_call.lossy import Lossy
 from lab.gateway_call.moving import Moving
 from lab.gateway_call.naming import Naming
 from lab.gateway_call.others import Others
 from lab.gateway_call.parts import ACCOUNTS, AWAY, Parts, until
-from lab.gateway_call.phoning import Phoning
 from lab.gateway_call.recipes import Recipes
 from lab.gateway_call.refusals import Refusals
 from lab.gateway_call.sharing import Sharing
@@ -34,7 +34,7 @@ class Apart(Moving, Sharing, Naming, Inviting, Turning):
     """The steps of what is tried apart."""
 
 
-class Call(Refusals, Strangers, Others, Apart, Staging, Following, Phoning, Trunks, Recipes):
+class Call(Refusals, Strangers, Others, Apart, Staging, Following, Fronted, Trunks, Recipes):
     """The call of browsers and phones."""
 
     def gather(self, names):

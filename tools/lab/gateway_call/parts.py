@@ -2,6 +2,7 @@
 
 import contextlib
 import json
+import os
 import signal
 import socket
 import subprocess
@@ -136,7 +137,9 @@ class Parts:
     def start(self, part):
         log = (self.folder / f"{part}{self.page_port}.log").open("a")
         words = [sys.executable, "-B", GATEWAY, part, self.path]
-        self.running[part] = subprocess.Popen(words, stdin=subprocess.DEVNULL, stdout=log, stderr=log)
+        more = {"stdin": subprocess.DEVNULL, "stdout": log, "stderr": log}
+        # Kamailio is several processes, of which a kill has to end all.
+        self.running[part] = subprocess.Popen(words, start_new_session=part == "kamailio", **more)
         is_up = {"agent": self.serves, "rtpengine": self.pings, "kamailio": self.takes_calls}[part]
         with within(MOST, f"{part} to answer"):
             if until(is_up, MOST) is None:
@@ -144,7 +147,10 @@ class Parts:
 
     def stop(self, part, by=signal.SIGTERM):
         one = self.running.pop(part)
-        one.send_signal(by)
+        if part == "kamailio" and by == signal.SIGKILL:
+            os.killpg(one.pid, by)
+        else:
+            one.send_signal(by)
         ended(one, 30)
 
     def close(self):

@@ -79,6 +79,33 @@ class Phoning(Trial):
         self.check(one.counts("BYE ") == 0, "none is counted", one.said())
         sound.close()
 
+    def try_kamailio_again(self):
+        """Kamailio is killed in mid-call, and started anew: it sends a BYE to phones whose calls are over, also where
+        they ended meanwhile."""
+        self.gets_bye("Kamailio is killed, and an operator removes a phone later", 4008, self.kamailio_anew)
+        self.gets_bye("an operator removes a phone while Kamailio is gone", 4009, lambda: self.kamailio_anew(True), 40)
+        sound = self.sound(4012)
+        one = self.ringing(self.sipp(sound).waits(6).asks("BYE").waits(8), sound)
+        self.is_in(4012)
+        self.comes(lambda: one.counts("SIP/2.0 200", "BYE"), "a phone hangs up", one.said, 20)
+        self.parts.stop("kamailio", signal.SIGKILL)
+        self.parts.start("kamailio")
+        self.ends(one, "Kamailio is killed after a phone has hung up")
+        self.check(one.counts("BYE ") == 0, "it gets no BYE", one.said())
+        sound.close()
+
+    def kamailio_anew(self, is_gone_first=False):
+        """Kamailio is killed and started anew, and an operator removes who joined last: before that, or after it."""
+        # The agent is told of a call within a second or two.
+        time.sleep(3)
+        self.parts.stop("kamailio", signal.SIGKILL)
+        if not is_gone_first:
+            self.parts.start("kamailio")
+        self.do(f"remove-member {self.last_member()}")
+        if is_gone_first:
+            self.comes(lambda: self.parts.calls() == 0, "its call is over", self.parts.calls, REMOVED + 10)
+            self.parts.start("kamailio")
+
     def engine_anew(self):
         self.parts.stop("rtpengine", signal.SIGKILL)
         self.parts.start("rtpengine")

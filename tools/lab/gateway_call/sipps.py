@@ -12,8 +12,8 @@ from operators.serving import free_port
 
 NEWLINE, HEAD = "\n", re.compile(r"^-{20,} .*\n\w+ message (sent|received) .*\n\n", re.MULTILINE)
 # The lines that all of its requests have. `{branch}` is what tells transactions apart.
-LINES = """{method} sip:{room}@[remote_ip]:[remote_port] SIP/2.0
-Via: SIP/2.0/[transport] [local_ip]:[local_port];branch=[branch]
+LINES = """{method} {goal} SIP/2.0
+Via: SIP/2.0/[transport] [local_ip]:[local_port];branch=[{branch}]
 From: <sip:{user}@127.0.0.1>;tag=[pid]from[call_number]
 To: <sip:{room}@[remote_ip]:[remote_port]>{tag}
 Call-ID: [call_id]
@@ -32,17 +32,23 @@ def sdp(port, types="0", more=()):
 class Sipp:
     """A scenario, step by step, which `run` carries out."""
 
-    def __init__(self, parts, folder, room="1", user="test", transport="u1", address=None, caller=None):
+    def __init__(self, parts, folder, room="1", user="test", transport="u1", address=None, caller=None, by_proxy=False):
         self.parts, self.room, self.user, self.transport = parts, room, user, transport
+        # Whether a proxy stands before the gateway, by which each request within the call goes.
+        self.by_proxy = by_proxy
         # Who calls by an exchange's account.
         self.caller = caller or user
         self.address, self.password, self.process = address or parts.sip, ACCOUNTS.get(user), None
         self.name, self.count, self.steps, self.is_within = f"{user}{time.monotonic_ns()}", 0, [], False
         self.folder, self.log = folder, folder / f"sipp{self.name}.log"
 
-    def send(self, method, body="", more=(), is_answer=False):
+    def send(self, method, body="", more=(), branch="branch"):
         self.count += method != "ACK"
         words = {"method": method, "room": self.room, "user": self.caller, "count": self.count}
+        words["branch"] = branch
+        is_routed = self.by_proxy and self.is_within
+        words["goal"] = "[next_url]" if is_routed else f"sip:{self.room}@[remote_ip]:[remote_port]"
+        more = [*more, "[routes]"] if is_routed else more
         head = LINES.format(tag="[peer_tag_param]" if self.is_within else "", **words)
         head += "".join(f"{line}\n" for line in more)
         head += ("Content-Type: application/sdp\n" if body else "") + "Content-Length: [len]\n\n"
@@ -53,6 +59,7 @@ class Sipp:
         """An answer that has to come. Others before it are provisional."""
         words = "".join(f" {key}={quoteattr(value)}" for key, value in more.items())
         self.steps.append('<recv response="100" optional="true"/>' * (self.steps[-1].find("INVITE ") > 0))
+        words += ' rrs="true"' * (self.by_proxy and status == 200)
         self.steps.append(f'<recv response="{status}"{words} rtd="true"/>')
         return self
 
@@ -60,7 +67,8 @@ class Sipp:
         """A request with the account's password, and its answer."""
         if method == "INVITE" and self.password:
             self.send(method, body, more).takes(407, auth="true")
-            self.send("ACK")
+            # It has the branch of the INVITE (RFC 3261 section 17.1.1.3), which is three steps before.
+            self.send("ACK", branch="branch-3")
         self.send(method, body, [*more, "[authentication]"] if self.password and method == "INVITE" else more)
         self.takes(status)
         self.is_within = self.is_within or (method == "INVITE" and status == 200)

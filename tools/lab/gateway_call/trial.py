@@ -10,7 +10,7 @@ from lab.gateway_call.parts import Parts, until
 from lab.sip import kamailio_lacks
 from lab.waits import within
 from operators.serving import settings, started
-from operators.shared import ROOT, release_program
+from operators.shared import ROOT, fail, release_program
 
 # The callers that are browsers.
 BROWSERS = "ABCF"
