@@ -157,8 +157,8 @@ async function look() {
   parts.push(isIn ? lookAtScreen(mine, me, state.muted) : "");
   if (mine.isMending) parts.push("Your connection is broken. Coming back ..");
   if (view && view.weak) parts.push("Your connection loses packets: you get fewer pictures.");
-  parts.push(Date.now() - (mine.noted || 0) < NOTES ? mine.note : "", state.trouble);
-  say(parts.filter(Boolean).join(" "), !isIn || mine.isMending || state.trouble !== "");
+  parts.push(Date.now() - (mine.noted || 0) < NOTES ? mine.note : "", state.trouble, state.overloaded);
+  say(parts.filter(Boolean).join(" "), !isIn || mine.isMending || Boolean(state.trouble || state.overloaded));
   showPeople(mine);
   showView(mine);
   // The others see who has muted himself. An operator may have unmuted him: his microphone is off still.

@@ -7,6 +7,7 @@ import traceback
 from call import log
 from desk import groups_of
 from links import Links
+from overload import Overload
 from refused import FAILED, Refused, words_of
 from speaking import Speaking
 from stage import Stage
@@ -24,6 +25,8 @@ class Pictures(threading.Thread):
     def __init__(self, calls):
         super().__init__(daemon=True)
         self.calls, self.stage, self.speaking, self.links = calls, Stage(), Speaking(), Links()
+        # Whether the bridge is overloaded, in words.
+        self.load, self.overloaded = Overload(), ""
         # The SSRCs of those who speak, None where the bridge doesn't say. And whether it is one that does, as far as it
         # is known.
         self.speaks, self.follows = None, True
@@ -43,7 +46,7 @@ class Pictures(threading.Thread):
                 if begun >= self.pause:
                     self.look(begun)
             except Exception as why:
-                self.speaks, self.pause, trouble = None, begun + AGAIN, words_of(why)
+                self.speaks, self.overloaded, self.pause, trouble = None, "", begun + AGAIN, words_of(why)
                 if trouble == FAILED != before:
                     traceback.print_exc()
             time.sleep(max(0, begun + QUARTER - time.monotonic()))
@@ -67,7 +70,10 @@ class Pictures(threading.Thread):
             self.turn_pages(now)
             if now - self.reported >= SECOND and self.stage.slots:
                 self.reported = now
-                self.stage.left = self.links.look(self.calls.desk.stats(), self.stage.rows, now)
+                lines, before = self.calls.desk.stats(), self.overloaded
+                self.stage.left, self.overloaded = self.links.look(lines, self.stage.rows, now), self.load.look(lines, now)
+                if self.overloaded and not before:
+                    log(self.overloaded)
             if self.change(now):
                 self.see(now)
 

@@ -197,5 +197,6 @@ class Watch:
             "speech": speaks is not None,
             "view": self.calls.pictures.told(call),
             "trouble": self.trouble,
+            "overloaded": self.calls.pictures.overloaded,
             "cut": bool(self.calls.fleet and self.calls.fleet.cut),
         } | self.calls.way_back(call)

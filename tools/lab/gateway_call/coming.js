@@ -137,7 +137,7 @@ const person = (member, name, speaks, muted, screen = null) =>
   ({ member, name, voice: member, camera: null, screen, speaks, muted });
 const state = (mix, more) => ({
   names: {}, room: 5, muted: [1], people: [person(1000, "x", false, "operator")], speech: true, view: null, trouble: "",
-  cut: false, ...told(mix), ice: ["a new name"], ...more,
+  overloaded: "", cut: false, ...told(mix), ice: ["a new name"], ...more,
 });
 const takes = (base, mix, more) => (url, body) => {
   const path = url.startsWith(base) ? url.slice(base.length) : "";
@@ -188,8 +188,11 @@ async function tryRoom() {
   await check("a page shows the first part of the others", isFirst);
   at("speakers").onclick();
   await check("and who speaks again", () => turned === 0 && at("seen").textContent === "You see who spoke last.");
+  said = takes("", 7, { overloaded: "The bridge is overloaded." });
+  const isRed = () => at("state").classList.contains("wrong");
+  await check("a bridge that is overloaded is told", () => shows(`${MUTED} The bridge is overloaded.`) && isRed());
   said = takes("", 7);
-  await check("an operator's mute is told", () => shows(MUTED));
+  await check("an operator's mute is told", () => shows(MUTED) && !shows("overloaded") && !isRed());
 }
 
 // A page takes another microphone, in its call.

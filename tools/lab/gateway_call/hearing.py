@@ -1,4 +1,4 @@
-"""Who speaks, and whose way is weak: the rules by numbers that a bridge tells."""
+"""Who speaks, whose way is weak, and whether a bridge is overloaded: the rules by numbers that it tells."""
 
 import sys
 import types
@@ -9,6 +9,7 @@ sys.path.insert(0, str(ROOT / "examples/gateway"))
 
 from desk import Rows  # noqa: E402
 from links import NONE, Links  # noqa: E402
+from overload import STANDS, WORDS, Overload  # noqa: E402
 from speaking import Speaking  # noqa: E402
 
 STEP = 0.25
@@ -82,3 +83,19 @@ def try_links(check):
     ):
         said = reports(fraction, seconds, way)
         check(said == wanted, f"a way that loses packets: {text}", said)
+
+
+# A lane at `stats`.
+LANE = "lane {} items 5012 dropped {} packets 4010 octets 520112 waited 0 not-ready 0 denied 0 refused 7"
+
+
+def try_overload(check):
+    """A bridge is overloaded for a while after a lane has dropped items."""
+    one, said = Overload(), []
+    for now, dropped in (0, (5, 0)), (1, (5, 0)), (2, (5, 3)), (3, (5, 3)), (1 + STANDS, (5, 3)), (2 + STANDS, (5, 3)):
+        lines = [LANE.format(lane, count) for lane, count in enumerate(dropped)]
+        said.append(one.look(["datagrams 3 octets 51 dropped rtp 3 Csrc", *lines, "seats 1 of 4"], now))
+    good = said == ["", "", WORDS, WORDS, WORDS, ""]
+    check(good, "a bridge whose lanes drop items is overloaded, and not by those of before", said)
+    said = [one.look([LANE.format(0, count)], 40 + count) for count in (0, 1)]
+    check(said == ["", WORDS], "nor is one that counts from 0 again, until it drops some", said)

@@ -129,6 +129,7 @@ class Staging(Trial):
         """The rules by themselves."""
         hearing.try_speech(self.check)
         hearing.try_links(self.check)
+        hearing.try_overload(self.check)
         rule.try_all(self.check)
 
     def at_model(self, first_member, is_older=False, count=PAGES, pictures=3):
@@ -180,6 +181,7 @@ class Staging(Trial):
         self.turns(front, parts, pages)
         self.screens(front, parts, pages)
         self.loses(front, pages)
+        self.drops(front, parts, pages)
         self.go(front, parts, pages)
 
     def is_told(self, pages, at):
@@ -295,6 +297,16 @@ class Staging(Trial):
         good = all(len(seen) == 3 for who, seen in shown(front.rows()).items() if who != member)
         self.check(good, "the others see as many as ever", shown(front.rows()))
         self.comes(lambda: left() > 0, "when none is lost, they come back", left, 40)
+
+    def drops(self, front, parts, pages):
+        """A lane of the bridge drops items: pages are told that it is overloaded, as long as it is."""
+        begun, says = time.monotonic(), lambda: [one.state()[1]["overloaded"] for one in pages[:2]]
+        counts = lambda: int((time.monotonic() - begun) * 10)
+        front.answers["stats"] = lambda: [hearing.LANE.format(0, counts()), "end"]
+        self.comes(lambda: all("overloaded" in one for one in says()), "the bridge drops items: pages say so", says, 5)
+        self.check(hearing.WORDS in parts.log("agent"), "and the agent's log", parts.log("agent")[-500:])
+        front.answers["stats"] = lambda: ["end"]
+        self.comes(lambda: says() == ["", ""], "it drops no more: they don't", says, hearing.STANDS + 5)
 
     def try_sixteen(self):
         """Sixteen pages with fifteen pictures each: all see all, from the join of the last one on."""
