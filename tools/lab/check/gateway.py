@@ -17,7 +17,7 @@ It starts a bridge, rtpengine, Kamailio and the agent. Then come its parts, each
     phones     two baresips in the room: one is muted, and one hangs up
     sip        SIPp: a BYE for each call that is over, exchanges, sessions, TCP and TLS, rooms by name
     sound      SIPp: hold, a NAT that gives another port, PCMA, G.722 and Opus, keys
-    recipes    a room is recorded, and music plays to who is alone in it
+    recipes    a room is recorded, also with a picture, which GStreamer's rtpbin shows; music plays to who is alone in it
     browsers   three Chromiums: mutes, pins, the floor, removals and undos show in all; 2 percent of packets are lost
     speakers   the three speak one after another, and their pictures follow who speaks; two lose packets
     firefox    Firefox joins them
@@ -27,8 +27,8 @@ It starts a bridge, rtpengine, Kamailio and the agent. Then come its parts, each
 Where all parts run, all five callers are in one room. Each sends a tone, and each browser a colour, so that what is
 heard and seen is told apart. The check measures how long a new picture takes after an operator's line. What isn't
 installed is named, and its part is skipped. On Debian the packages are rtpengine-daemon, kamailio,
-kamailio-python3-modules, kamailio-tls-modules, sip-tester, chromium, baresip-core, ffmpeg, firefox-esr, pulseaudio,
-linphone-cli, coturn, openssl and iptables.
+kamailio-python3-modules, kamailio-tls-modules, sip-tester, chromium, baresip-core, ffmpeg, gstreamer1.0-tools,
+gstreamer1.0-plugins-good, firefox-esr, pulseaudio, linphone-cli, coturn, openssl and iptables.
 
 Each check prints a line, `ok` or `FAILED`. Each wait is bounded: where a step is late, its line says what it waited for
 and how long, and the next part begins with a bridge of its own. With --model a model without media stands in for the
@@ -90,7 +90,7 @@ PARTS = {
         [],
     ),
     "sound": (["try_music_on_hold", "try_rebinding", "try_codecs", "try_keys"], "", []),
-    "recipes": (["try_recording", "try_music_alone"], "", []),
+    "recipes": (["try_recording", "try_picture", "try_music_alone"], "", []),
     "phones": (["try_bad_phones", "try_holds"], "ADE", ["step_phones"]),
     "browsers": (
         [],
