@@ -84,6 +84,7 @@ class Phoning(Trial):
         they ended meanwhile."""
         self.gets_bye("Kamailio is killed, and an operator removes a phone later", 4008, self.kamailio_anew)
         self.gets_bye("an operator removes a phone while Kamailio is gone", 4009, lambda: self.kamailio_anew(True), 40)
+        self.gets_bye("so is the agent before it", 4011, lambda: self.kamailio_anew(by_agent=True), 40)
         sound = self.sound(4012)
         one = self.ringing(self.sipp(sound).waits(6).asks("BYE").waits(8), sound)
         self.is_in(4012)
@@ -94,8 +95,11 @@ class Phoning(Trial):
         self.check(one.counts("BYE ") == 0, "it gets no BYE", one.said())
         sound.close()
 
-    def kamailio_anew(self, is_gone_first=False):
+    def kamailio_anew(self, is_gone_first=False, by_agent=False):
         """Kamailio is killed and started anew, and an operator removes who joined last: before that, or after it."""
+        if by_agent:
+            self.parts.stop("agent", signal.SIGKILL)
+            self.parts.start("agent")
         # The agent is told of a call within a second or two.
         time.sleep(3)
         self.parts.stop("kamailio", signal.SIGKILL)

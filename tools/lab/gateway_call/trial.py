@@ -40,6 +40,8 @@ class Trial:
         """Starts the bridge, at the same ports if it had some."""
         with within(60, "the bridge to say where it listens"):
             path = settings(self.folder, self.udp, self.tcp, operators=4)
+            # As bridge.toml of examples/gateway has it.
+            path.write_text(path.read_text() + "report_ms = 1000\n")
             self.bridge, self.udp, self.tcp = started(self.program, path, self.under)
             self.operator = self.seated()
             # Its first line takes the seat: a bridge closes a connection that says nothing for half a minute.
