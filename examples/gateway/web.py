@@ -59,7 +59,8 @@ class Handler(http.server.BaseHTTPRequestHandler):
             # The fault is for the log alone.
             traceback.print_exc()
             told = 500, "text/plain", FAILED
-        self.close_connection = told[0] != 200
+        # Who asks may want it closed (RFC 9112 section 9.6).
+        self.close_connection = self.close_connection or told[0] != 200
         self.reply(*told)
 
     def answered(self, octets):
@@ -83,6 +84,8 @@ class Handler(http.server.BaseHTTPRequestHandler):
         self.send_response(status)
         self.send_header("Content-Type", f"{kind}; charset=utf-8")
         self.send_header("Content-Length", str(len(text.encode())))
+        if self.close_connection:
+            self.send_header("Connection", "close")
         self.send_header("Cache-Control", "no-store")
         self.send_header("Content-Security-Policy", POLICY.format(" ".join(filter(None, self.sites))))
         if self.headers.get("Origin") in [one for one in self.sites if one]:

@@ -289,11 +289,27 @@ class Strangers(Trial):
         one.close()
         return status
 
+    def closes(self):
+        """A client that wants its connection closed is answered, and finds it so."""
+        body = json.dumps({"room": 1, "name": "closes"})
+        lines = ["POST /offer HTTP/1.1", f"Host: 127.0.0.1:{self.parts.page_port}", f"Origin: {self.parts.page}"]
+        lines += ["Connection: close", f"Content-Length: {len(body)}", "", body]
+        begun, said = time.monotonic(), b""
+        with socket.create_connection(("127.0.0.1", self.parts.page_port), 10) as one:
+            one.sendall("\r\n".join(lines).encode())
+            while octets := one.recv(65536):
+                said += octets
+        took, (head, _, text) = time.monotonic() - begun, said.partition(b"\r\n\r\n")
+        good = head.startswith(b"HTTP/1.1 200 ") and b"\r\nConnection: close" in head and took < 5
+        self.check(good, f"who wants its connection closed is answered, and it is, after {took:.2f} s", head)
+        self.parts.ask("leave", id=json.loads(text or "{}").get("id", ""))
+
     def try_http(self):
         """Names that the page doesn't have, and requests that never end."""
         own = f"127.0.0.1:{self.parts.page_port}"
         said = {host: self.asked_as(host) for host in (own, "evil.example", f"evil.example:{self.parts.page_port}", "")}
         self.check(list(said.values()) == [200, 403, 403, 403], "the page is given by its own name alone", said)
+        self.closes()
         halves, most = [], 0
         tasks = pathlib.Path(f"/proc/{self.parts.running['agent'].pid}/task")
         threads = lambda: len(list(tasks.iterdir()))
