@@ -180,12 +180,13 @@ function draw() {
   for (const { mid, receiver } of call.peer.getTransceivers()) {
     // Who was last heard over a second ago isn't heard now.
     const from = receiver.getContributingSources().filter(one => now - one.timestamp < 1000).map(one => one.source);
-    const names = from.map(source => (call.names || {})[source] || `source ${source}`).join(", ");
+    // The agent says who they are a moment later.
+    const names = call.names ? from.map(source => call.names[source] || `source ${source}`).join(", ") : "";
     if (mid === "0") { at("heard").textContent = names && !call.speech ? `You hear ${names}.` : ""; continue; }
     const figure = mid === "1" ? at("stage") : at("slot" + (mid - 1));
     // The screen has a section of its own, by which nothing comes.
     if (!figure) continue;
-    figure.hidden = !names;
+    figure.hidden = !from.length;
     figure.querySelector("figcaption").textContent = names;
     figures.set(figure, from);
   }
