@@ -18,7 +18,7 @@ NEEDS = "nothing"
 
 TOKEN = re.compile(r'<meta name="desk-token" content="([0-9a-f]{32})">')
 # The fields that a request and a response keep.
-KEPT = "x-desk-token", "content-type"
+KEPT = "x-desk-token", "x-desk-person", "content-type"
 
 
 def address(text):
@@ -62,10 +62,24 @@ def relays_to(page, one):
                 return self.tell(502, f"Gone: no desk_page is there: {error}\n")
             return self.tell(status, told.decode(), kind.partition(";")[0])
 
+        def stream(self):
+            """Hands the events of a desk_page on, as they come."""
+            connection = http.client.HTTPConnection(*page, timeout=20)
+            try:
+                connection.request("GET", "/events")
+                response = connection.getresponse()
+                self.send_response(response.status)
+                self.send_header("Content-Type", response.getheader("content-type", "text/plain"))
+                self.end_headers()
+                while octets := response.read1(65536):
+                    self.wfile.write(octets)
+            finally:
+                connection.close()
+
         def do_GET(self):
             if one.file(self.path):
                 return self.tell(200, *one.file(self.path))
-            return self.relay()
+            return self.stream() if self.path == "/events" else self.relay()
 
         def do_POST(self):
             return self.relay(self.rfile.read(int(self.headers["Content-Length"])))
