@@ -134,11 +134,7 @@ class Agent(Keeping):
                     self.loses(bridge)
                 raise
             self.announce(bridge)
-            # Rooms that may be nowhere come first.
-            may_come = lambda one: one["to"] == bridge.name != one["on"] and (one["on"] is None or one["ready"])
-            coming = {room: one for room, one in self.records(bridge).items() if may_come(one[0])}
-            if coming:
-                self.bring(bridge, dict(list(coming.items())[:AT_ONCE]))
+            self.bring_all(bridge)
             here = {room: one for room, one in self.records(bridge).items() if one[0]["on"] == bridge.name}
             self.keep(bridge, here)
             for room, (record, revision) in here.items():
@@ -146,6 +142,14 @@ class Agent(Keeping):
             bridge.is_anew = False
             self.give_up(bridge)
             self.end_drain(bridge)
+
+    def bring_all(self, bridge):
+        """Brings the rooms that are to come to a bridge, at once. Whoever has the bridge's lock does so first, since they
+        may be nowhere."""
+        may_come = lambda one: one["to"] == bridge.name != one["on"] and (one["on"] is None or one["ready"])
+        coming = {room: one for room, one in self.records(bridge).items() if may_come(one[0])}
+        if coming:
+            self.bring(bridge, dict(list(coming.items())[:AT_ONCE]))
 
     def records(self, bridge):
         """The records of the rooms that are on a bridge or go there, with their revisions."""

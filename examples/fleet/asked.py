@@ -143,10 +143,9 @@ class Asked:
     def stands(self, bridge, room):
         """A room's record, once it is on a bridge whose lock is held, and stays there."""
         bridge.see()
+        # All that are to come, and not this one alone: an etcd that is slow would make each of them a wait for the others.
+        self.agent.bring_all(bridge)
         record, revision = self.copy.known.rooms.get(room, (None, 0))
-        if record and record["on"] is None and record["to"] == bridge.name:
-            self.agent.bring(bridge, {room: (record, revision)})
-            record, revision = self.copy.known.rooms.get(room, (None, 0))
         if not record or record["on"] != bridge.name or record["to"] or room not in bridge.rooms:
             raise Refused((record or NEW)["why"] or f"Room {room} moves. Try again in a second.", MOVING)
         return record, revision
