@@ -175,7 +175,7 @@ class Bridge:
         """Carries the calls of operators out, on rooms that have just been made: the oldest one first, each by itself.
         Those of a room have to make the rows that it had."""
         calls = sorted((number, room, call) for room, one in rooms.items() for number, call in one.calls)
-        said = self.desk.ask("\n".join(call for _, _, call in calls), count=len(calls)) if calls else []
+        said = self.desk.ask_again([call for _, _, call in calls])
         made = {room: [] for _, room, _ in calls}
         for (_, room, call), answer in zip(calls, said):
             if answer.startswith("ok "):

@@ -12,8 +12,9 @@ from refused import Refused
 # How many octets are taken at once. How many calls are remembered: others', those that wait to be looked at, and the
 # numbers of the agent's own.
 OCTETS, CALLS, FRESH, OWN = 65536, 64, 1024, 16384
-# The name of its connections.
-NAME = "agent-fleet"
+# The name of its connections. And the one that operators' calls have where an agent makes them again: the page takes
+# them for a person's, so that its Undo takes them back.
+NAME, ELSEWHERE = "agent-fleet", "elsewhere"
 
 
 class Seat(Desk):
@@ -43,6 +44,11 @@ class Seat(Desk):
             if len(self.own) > OWN:
                 self.own = {*sorted(self.own)[OWN // 2 :]}
             return said
+
+    def ask_again(self, calls):
+        """What the bridge answers to calls that operators made elsewhere."""
+        lines = [f"as {ELSEWHERE}", *calls, f"as {NAME}"]
+        return self.ask("\n".join(lines), count=len(lines))[1:-1] if calls else []
 
     def connect(self):
         self.stream, self.octets = socket.create_connection(self.address, 10), b""

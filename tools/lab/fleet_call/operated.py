@@ -47,8 +47,13 @@ class Operated:
         first = next((at for at, (_, call) in enumerate(past) if call in calls), len(past))
         made = max(at for at, (_, call) in enumerate(past) if call.startswith("group add-room "))
         good = [call for _, call in past if call in calls] == calls and (made < first or not calls)
-        text = f"{text}: {len(calls)} calls of its operators come after what an agent did, each by itself"
-        self.check(good, text, past)
+        words = f"{text}: {len(calls)} calls of its operators come after what an agent did, each by itself"
+        self.check(good, words, past)
+        told = [line.split(" ", 5) for line in self.bridge_of(room).operator.shown(f"calls {HISTORY}")[:-1]]
+        since = past[first][0] if calls else 0
+        names = {name for _, number, _, _, name, call in told if call in calls and int(number) >= since}
+        good = names == ({"elsewhere"} if calls else set())
+        self.check(good, f"{text}: to the page they are a person's, and what agents did is a program's", (names, told))
         return {call: number for number, call in past}
 
     def step_past(self):
