@@ -14,8 +14,10 @@ from lab.fleet_call.parts import FLEET, begun, ended, secret_file, until
 from lab.sip import asked, kamailio_lacks
 from operators.serving import Answering, free_port, port_of, udp_socket
 
-# Who sends a flood, and of how many requests.
-FLOODER, FLOOD = "127.0.0.77", 600
+# Who sends a flood, and of how many requests; and how many requests an address may send within how many seconds.
+FLOODER, FLOOD, DENSE, UNIT = "127.0.0.77", 600, 64, 2
+# How many seconds an answer may take, on a machine that has no time for it.
+PATIENCE = 30
 
 
 class Sink(Answering):
@@ -54,14 +56,14 @@ class Kamailio:
         words += [word for name, value in given.items() for word in ("-A", f"{name}={value}")]
         self.process = begun([*words, "-w", folder, "-Y", folder], folder / "kamailio.log", environment)
 
-    def invite(self, room, id):
+    def invite(self, room, id, seconds=PATIENCE):
         """The first line of the final answer to an INVITE."""
-        return asked("INVITE", room, f"127.0.0.1:{self.port}", id)
+        return asked("INVITE", room, f"127.0.0.1:{self.port}", id, seconds=seconds)
 
     def close(self):
         ended(self.process, signal.SIGTERM)
 
-    def said(self, first, *more, seconds=2, tag="", hops=70):
+    def said(self, first, *more, seconds=PATIENCE, tag="", hops=70):
         """What a stranger is answered to a request with this first line and these further ones. Each is another one, as
         if the address was forged."""
         method = first.split(" ")[0]
@@ -83,7 +85,7 @@ class Kamailio:
     def talks(self, room):
         """Calls a room, and hangs up. The answer to the call."""
         with udp_socket() as one:
-            one.settimeout(5)
+            one.settimeout(PATIENCE)
             via, here = f"Via: SIP/2.0/UDP 127.0.0.1:{port_of(one)};branch=z9hG4bK", time.time_ns()
             asks = lambda first, n, to, *more: one.sendto("\r\n".join([
                 f"{first} SIP/2.0", f"{via}{here}{n[0]}", "From: <sip:p@x>;tag=1", to, f"Call-ID: t{here}",
@@ -101,7 +103,8 @@ class Kamailio:
         return lines[0]
 
     def flooded(self):
-        """How many of many requests from one address are answered."""
+        """How many of many requests from one address are answered, and in how many seconds they were sent."""
+        begun = time.monotonic()
         with socket.socket(socket.AF_INET, socket.SOCK_DGRAM) as one:
             one.bind((FLOODER, 0))
             for at in range(FLOOD):
@@ -111,12 +114,12 @@ class Kamailio:
                 lines += ["Max-Forwards: 70", "Content-Length: 0", "", ""]
                 one.sendto("\r\n".join(lines).encode(), ("127.0.0.1", self.port))
                 time.sleep(0.001)
-            count, _ = 0, one.settimeout(1)
+            count, took, _ = 0, time.monotonic() - begun, one.settimeout(UNIT)
             try:
                 while one.recv(65536):
                     count += 1
             except OSError:
-                return count
+                return count, took
 
 
 class Dispatched:
@@ -157,8 +160,11 @@ class Dispatched:
         goes = lambda: within() == {"ACK", "BYE"}
         self.comes(goes, f"a call is taken and ended: {said}", 10)
         self.check(not victim.got, "and nothing to anybody else", victim.got)
-        count = kamailio.flooded()
-        self.check(0 < count < FLOOD / 2, f"of {FLOOD} requests at once from one address {count} are answered", count)
+        count, took = kamailio.flooded()
+        # A machine that sends them slowly has more of them answered.
+        most = DENSE * (took / UNIT + 2)
+        words = f"of {FLOOD} requests in {took:.1f} s from one address {count} are answered, and {most:.0f} may be"
+        self.check(0 < count <= most, words, count)
         said = kamailio.said(f"OPTIONS sip:x@127.0.0.1:{kamailio.port}")
         self.check(said is not None and " 200 " in said, "and others meanwhile", said)
 
@@ -167,7 +173,7 @@ class Dispatched:
             print(f"skipped: Kamailio's dispatcher (there is no {kamailio_lacks()})")
             return
         kamailio = self.begun(Kamailio(self.folder, self.agents["b"].port))
-        if until(lambda: kamailio.invite("x", f"first{len(self.parts)}"), 40) is None:
+        if until(lambda: kamailio.invite("x", f"first{len(self.parts)}", 2), 40) is None:
             self.check(False, "Kamailio answers", (self.folder / "kamailio.log").read_text()[-1500:])
             return
         before = self.desks(), self.records()
