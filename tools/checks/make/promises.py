@@ -2,8 +2,11 @@
 
 Each function, type and clause that promises.txt names has to be in the sources, and each public law of the crates has
 to be named there. What one has to read for a clause are the definitions of specs/ that it names, those that these name,
-and so on: what a reader has to believe. With `--reading N` it prints those of the Nth of the ten promises by their
-files. With `--unnamed` it prints the public functions that have clauses and that promises.txt doesn't name.
+and so on: what a reader has to believe. Lines `given N` of promises.txt name definitions that need not be read: a
+public function that does something promises them of each of its calls, so whoever calls it has them, whatever they say.
+A promise may have them as conditions alone; what it promises may not rest on them. With `--reading N` it prints what
+one reads for the Nth of the ten promises by files, with how many lines. With `--unnamed` it prints the public functions
+that have clauses and that promises.txt doesn't name.
 """
 
 import collections
@@ -61,6 +64,14 @@ def options(parser):
     parser.add_argument("--unnamed", action="store_true", help="public functions that no promise names")
 
 
+@dataclasses.dataclass(frozen=True)
+class Given:
+    """Definitions that a function promises of each of its calls."""
+
+    names: tuple
+    by: Carrier
+
+
 # The list
 
 
@@ -92,6 +103,19 @@ def ten():
     for number, rest in re.findall(r"^ten (\d+): (.*)$", LIST.read_text(), re.M):
         found[int(number)].append(carrier_of("  " + rest))
     return found
+
+
+def given():
+    """What the ten promises are given, by their numbers."""
+    found = collections.defaultdict(list)
+    for number, names, rest in re.findall(r"^given (\d+): ([\w ]+) by (.*)$", LIST.read_text(), re.M):
+        found[int(number)].append(Given(tuple(names.split()), carrier_of("  " + rest)))
+    return found
+
+
+def names_given(number):
+    """The names of the definitions that one of the ten is given."""
+    return {name for one in given()[number] for name in one.names}
 
 
 # What the sources have
@@ -163,8 +187,43 @@ def left_out():
     return unnamed("ensures", lambda one: one.ensures and (one.file, one.owner) not in types)
 
 
+def given_faults():
+    """What is wrong with what the ten promises are given."""
+    for number, gifts in given().items():
+        for one in gifts:
+            yield from gift_faults(f"promises.txt: given {number}: {one.by.file} {one.by.name}", one)
+        for carrier in ten()[number]:
+            promised = [clause.text for clause in clauses_of(carrier)]
+            rests_on = {one.name for one in reading.believed(carrier.file, map(reading.conclusion, promised))}
+            for name in sorted(rests_on & names_given(number)):
+                yield f"promises.txt: given {number}: what {carrier.name} promises rests on {name}"
+
+
+def gift_faults(place, gift):
+    """What is wrong with definitions that a function is to promise of its calls."""
+    if fault := fault_of(gift.by, "ensures"):
+        yield f"{place}: {fault}"
+        return
+    function = reading.function_named(gift.by.file, gift.by.name)
+    if not function or not contracts.is_exported(function) or is_law(function):
+        yield f"{place}: it is no public function that does something"
+        return
+    words = set(re.findall(r"\w+", " ".join(clause.text for clause in clauses_of(gift.by))))
+    for name in gift.names:
+        if name not in words:
+            yield f"{place}: its clauses don't name {name}"
+
+
+def clauses_of(carrier):
+    """The clauses that a carrier names, of a function."""
+    names = [] if "-" in carrier.clauses else carrier.clauses
+    function = reading.function_named(carrier.file, carrier.name)
+    return [clause for clause in function.ensures if not names or clause.name in names]
+
+
 def faults():
     """What the list says and the sources don't have, and which laws and conditions it doesn't name."""
+    yield from given_faults()
     for kind in ("ensures", "requires"):
         for one in [*named_under(kind), *(itertools.chain(*ten().values()) if kind == "ensures" else ())]:
             if fault := fault_of(one, kind):
@@ -246,15 +305,31 @@ def amount(definitions):
     return f"{count} definitions, {lines:,} lines, in {where}"
 
 
-def read_for(carriers):
+def read_for(number):
     """What one has to read for one of the ten."""
-    return set().union(*map(read_by, carriers))
+    gifts = names_given(number)
+    return reading.together(
+        reading.believed(carrier.file, [clause.text for clause in clauses_of(carrier)], gifts)
+        for carrier in ten()[number]
+    )
 
 
-def read_by(carrier):
-    """What one has to read for the clauses of a function."""
-    names = [] if "-" in carrier.clauses else carrier.clauses
-    return reading.believed(reading.function_named(carrier.file, carrier.name), names)
+def given_said(number):
+    """A sentence on what one of the ten is given, if it is given anything."""
+    if not given()[number]:
+        return ""
+    names = [f"`{name}`" for name in sorted(names_given(number))]
+    by = []
+    for one in given()[number]:
+        clauses = ", ".join(f"`{name}`" for name in one.by.clauses)
+        by.append(f"[`{one.by.name}`](../crates/{one.by.file}) ({clauses})")
+    return f" You are given {in_a_row(names)} by {in_a_row(by)}."
+
+
+def in_a_row(words):
+    """Words with commas between them, and `and` before the last one."""
+    *front, last = words
+    return f"{', '.join(front)} and {last}" if front else last
 
 
 def without_clauses():
@@ -281,9 +356,10 @@ def said_names(owners):
 
 def counted():
     """The parts of the page of ten promises that say how much one has to read."""
-    each = {number: read_for(carriers) for number, carriers in ten().items()}
-    made = {f"reading-{number}": f"\nTo believe it you read {amount(found)}.\n\n" for number, found in each.items()}
-    return {**made, "reading-all": f"\nTo believe all ten you read {amount(set().union(*each.values()))}.\n\n"}
+    each = {number: read_for(number) for number in ten()}
+    said = {number: f"To believe it you read {amount(found)}.{given_said(number)}" for number, found in each.items()}
+    said["all"] = f"To believe all ten you read {amount(reading.together(each.values()))}."
+    return {f"reading-{number}": f"\n{made_parts.wrapped(text)}\n\n" for number, text in said.items()}
 
 
 def ten_document():
@@ -293,7 +369,7 @@ def ten_document():
 
 def print_reading(number):
     """Prints what one has to read for a promise."""
-    found = reading.by_file(read_for(ten()[number]))
+    found = reading.by_file(read_for(number))
     for file, names in found.items():
         print(f"{file}: {', '.join(names)}")
 
