@@ -1,0 +1,4 @@
+mod RunAlong
+mod Versions
+mod Owners
+mod SentBefore

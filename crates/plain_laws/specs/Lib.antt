@@ -1,0 +1,3 @@
+pub mod CoreRuns
+pub mod SentLists
+pub mod SentAgain
