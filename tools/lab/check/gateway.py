@@ -48,7 +48,7 @@ from lab.sip import kamailio_lacks
 from lab.waits import carried_out, within
 from operators.shared import add_program, fail
 
-NEEDS = "the program, rtpengine, and what it names where it skips; ten minutes, twenty on a loaded machine"
+NEEDS = "the program, rtpengine, and what it names where it skips; a quarter of an hour, half on a loaded machine"
 
 # Of each part: its steps before a call, the callers that it needs where it runs alone, and its steps in the call.
 PARTS = {
@@ -120,7 +120,7 @@ def options(parser):
     parser.add_argument("--pictures", type=pathlib.Path, metavar="FOLDER", help="where pictures of the page go")
     text = f"this part alone, or several times these: {', '.join(PARTS)}"
     parser.add_argument("--only", action="append", choices=PARTS, metavar="PART", help=text)
-    parser.add_argument("--seconds", type=int, default=2400, help="how long all may take (%(default)s)")
+    parser.add_argument("--seconds", type=int, default=3600, help="how long all may take (%(default)s)")
 
 
 def callers_of(part, args):

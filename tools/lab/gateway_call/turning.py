@@ -13,6 +13,7 @@ CURVE = "-newkey", "ec", "-pkeyopt", "ec_paramgen_curve:prime256v1"
 # A page that may use relays alone.
 RELAYED = """RTCPeerConnection = class extends RTCPeerConnection {
   constructor(how) { super({ ...how, iceTransportPolicy: "relay" }); }
+  setConfiguration(how) { super.setConfiguration({ ...how, iceTransportPolicy: "relay" }); }
 }; true"""
 # By what the connection's media go.
 PAIR = """call.peer.getStats().then(all => {
@@ -60,11 +61,26 @@ class Turning(Trial):
         came = parts.engine.received(one.run("call.id"), "browser").packets
         more = lambda: parts.engine.received(one.run("call.id"), "browser").packets > came + 20
         self.comes(more, "its media come by that", one.says)
+        self.coturn_ends(port, parts, one)
         if not self.args.model:
             self.browser("B", parts.page).join()
             self.everyone_hears("A joins by TURN")
         self.close_callers()
         parts.stop("agent")
+
+    def coturn_ends(self, port, parts, one):
+        """The TURN server is killed in mid-call, and started anew: the page restarts ICE by it."""
+        id, server = one.run("call.id"), self.others[-2]
+        server.kill()
+        server.wait()
+        self.comes(lambda: "Coming back" in one.says(), "coturn is killed: the page says so", one.says, 30)
+        self.coturn(port)
+        came = parts.engine.received(one.run("call.id"), "browser").packets
+        more = lambda: parts.engine.received(one.run("call.id"), "browser").packets > came + 20
+        took = self.comes(more, "it is started anew: the page's media come by it again", one.says, 40)
+        print(f"      after {took or 0:.1f} s")
+        good = one.run("call.id") == id and one.run(PAIR) == ["relay", "tls"]
+        self.check(good, "in the same call", (id, one.run(PAIR), one.says()))
 
     def relayed(self, first_member, secret):
         """A gateway with this secret, and a page of it that may use relays alone."""
