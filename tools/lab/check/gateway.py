@@ -17,7 +17,7 @@ It starts a bridge, rtpengine, Kamailio and the agent. Then come its parts, each
     phones     two baresips in the room: one is muted, and one hangs up
     sip        SIPp: a BYE for each call that is over, exchanges, sessions, TCP and TLS, rooms by name
     sound      SIPp: hold, a NAT that gives another port, PCMA, G.722 and Opus, keys
-    recipes    a room is recorded, also with a picture, which GStreamer's rtpbin shows; music plays to who is alone in it
+    recipes    a room is recorded, also with a picture, which GStreamer's rtpbin shows; music plays to who is alone
     browsers   three Chromiums: mutes, pins, the floor, removals and undos show in all; 2 percent of packets are lost
     speakers   the three speak one after another, and their pictures follow who speaks; two lose packets
     firefox    Firefox joins them

@@ -67,7 +67,7 @@ class Recipes(Trial):
         file = self.folder / "room.wav"
         recorder = Recipe(self, "record.py", "1", file)
         self.others.append(recorder)
-        self.comes(lambda: self.members() == 3, "who records is a member", self.rows)
+        self.comes(lambda: self.members() == 3, "who records is a member", self.rows, 30)
         begun = time.monotonic()
         time.sleep(4)
         one.sends = two.sends = False
