@@ -170,6 +170,8 @@ class Calls(PhoneCalls, Meeting, Mutes):
         ways |= {"transport_protocol": "RTP/AVPF", "flags": [*KNOWN, "port-latching"]}
         tags = {"call_id": call.id, "from_tag": "browser", "to_tag": "bridge"}
         try:
+            # An offer would make a call that rtpengine has lost anew, without its other side.
+            self.engine.ask("query", call_id=call.id)
             self.engine.ask("offer", **tags, sdp=own, **ways)
             own = sdp.plain(self.bridge, "RTP/AVPF")
             said = self.engine.ask("answer", **tags, sdp=own, ICE="force", flags=KNOWN)
