@@ -13,7 +13,7 @@ use Rattle.desk_edit.specs.declared.refusal.GroupRefusal.TheVariants.{Empty, Too
 use Rattle.desk_edit.specs.Commands.{desk_after}
 use Rattle.desk_edit.specs.Reasons.{group_limit}
 use Rattle.desk_edit.specs.Groups.{desk_after_all, part_or_later, part_refused, size_refused, group_refused}
-use Rattle.desk_groups.specs.Making.{AcceptsGroups, desk_after_groups, in_a_row, are_sized, AreGroupsOf}
+use Rattle.desk_groups.specs.Making.{made_limit, AcceptsGroups, desk_after_groups, in_a_row, are_sized, AreGroupsOf}
 use Rattle.desk_groups.specs.Making.{command_for, united, lists_of, IsFew}
 use Rattle.desk_groups.specs.inner.Ranked.{in_making_order, AcceptsAll}
 use Rattle.desk_groups.specs.inner.Cutting.{SoFar}
@@ -34,13 +34,13 @@ no_part d part (c ∷ cs) h =
     ap (λ why. part_or_later part why (part_refused (part + 1) (desk_after d c) cs)) h.0
     ∙ no_part (desk_after d c) (part + 1) cs h.1
 
-good_size : (n : ℕ) → nat_lt 0 n ≡ true → nat_le n group_limit ≡ true → size_refused n ≡ None
+good_size : (n : ℕ) → nat_lt 0 n ≡ true → nat_le n made_limit ≡ true → size_refused n ≡ None
 good_size n some few =
     let first : nat_eq n 0 ≡ false =
     false_from_ne_true (nat_eq n 0) (λ e. omega (arith, eqb-true n 0 e, below 0 n some)) in
     let second : nat_lt group_limit n ≡ false =
     false_from_ne_true (nat_lt group_limit n)
-    (λ e. omega (arith, below group_limit n e, at_most n group_limit few)) in
+    (λ e. omega (arith, below group_limit n e, at_most n made_limit few)) in
     ap (λ b. cond b (Some Empty) (cond (nat_lt group_limit n) (Some TooLong) None)) first
     ∙ ap (λ b. cond b (Some TooLong) None) second
 
@@ -65,8 +65,8 @@ pub all_accepted : (d : Desk) (groups : List (List Command)) → are_sized group
 all_accepted d [] sized h = tt
 all_accepted d (g ∷ gs) sized h =
     let both =
-    and_parts (nat_lt 0 (length g) && nat_le (length g) group_limit) (are_sized gs) sized in
-    let size = and_parts (nat_lt 0 (length g)) (nat_le (length g) group_limit) both.0 in (
+    and_parts (nat_lt 0 (length g) && nat_le (length g) made_limit) (are_sized gs) sized in
+    let size = and_parts (nat_lt 0 (length g)) (nat_le (length g) made_limit) both.0 in (
       ap (λ why. option_or why (part_refused 0 d g)) (good_size (length g) size.0 size.1)
           ∙ no_part d 0 g (first_part d g (in_a_row gs) h),
       all_accepted (desk_after_all d g) gs both.1 (second_part d g (in_a_row gs) h),
@@ -88,7 +88,7 @@ in_a_row_more (x ∷ xs) group =
 -- a group of what is left is cut off, of as many commands as may be
 pub one_more : (commands : List Command) (groups : List (List Command)) (left group later : List Command)
     → SoFar commands groups left → left ≡ group ++ later → 0 < length left → 0 < length group
-    → length group ≤ group_limit → (0 < length later → length group ≡ group_limit)
+    → length group ≤ made_limit → (0 < length later → length group ≡ made_limit)
     → SoFar commands (groups ++ group ∷ []) later
 one_more commands groups left group later was is some own few rest =
     let row = in_a_row_more groups group in
@@ -102,10 +102,10 @@ one_more commands groups left group later was is some own few rest =
           ∙ ap (λ (cs : List Command). in_a_row groups ++ cs) (sym is)
           ∙ was.all;
       sized =
-          list_all-append (λ (g : List Command). nat_lt 0 (length g) && nat_le (length g) group_limit) groups
+          list_all-append (λ (g : List Command). nat_lt 0 (length g) && nat_le (length g) made_limit) groups
           (group ∷ [])
           ∙ and_from _ _ was.sized
-          (and_from _ _ (and_from _ _ (lt-ltb 0 (length group) own) (most (length group) group_limit few)) refl);
+          (and_from _ _ (and_from _ _ (lt-ltb 0 (length group) own) (most (length group) made_limit few)) refl);
       full = λ more. omega (arith, long, count, was.full some, rest more);
       few = omega (arith, long, count, was.full some, own);
     }
@@ -127,6 +127,7 @@ lists_more (g ∷ gs) v = ap (λ (rest : List (List Command)). g.items ∷ rest)
 pub record MadeBeside (more : Desk) (groups : List (List Command)) : Type 0 where
   pub accepted : (d : Desk) → good d ≡ true → good (united d more) ≡ true → AcceptsGroups d groups
   pub beside : (d : Desk) → good d ≡ true → good (united d more) ≡ true → desk_after_groups d groups ≡ united d more
+  pub sized : are_sized groups ≡ true
   pub few : IsFew (length (rows_of more)) groups
 
 pub made_beside : KeepsGood → (more : Desk) → are_plain more.others ≡ true → (commands : List Command)
@@ -145,6 +146,7 @@ made_beside keeps more plain commands is groups cut =
           all_accepted d groups cut.sized
           (subst (λ (cs : List Command). AcceptsAll d cs) (sym row) (made d g u).accepted);
       beside = λ d g u. all_lead d groups ∙ ap (desk_after_all d) row ∙ (made d g u).leads;
+      sized = cut.sized;
       few = subst (λ (n : ℕ). IsFew n groups) count cut.few;
     }
 

@@ -6,11 +6,14 @@ use Rattle.std.specs.declared.vec.Vec.{Vec}
 use Rattle.desk_rows.specs.declared.row.Row.{Row}
 use Rattle.desk_rows.specs.declared.row.Row.TheVariants as rows
 use Rattle.desk_rows.specs.Order.{with_rows}
-use Rattle.desk_rows.specs.Desk.{Desk}
+use Rattle.desk_rows.specs.Desk.{Desk, blank, rows_of}
 use Rattle.desk_edit.specs.declared.command.Command.{Command}
 use Rattle.desk_edit.specs.declared.command.Command.TheVariants as commands
 use Rattle.desk_edit.specs.Groups.{desk_after_all, group_refused}
-use Rattle.desk_edit.specs.Reasons.{group_limit}
+
+-- the most commands of a group that is made: with so many the longest ones fit on a line of 4,096 octets
+abbrev pub made_limit : ℕ
+made_limit = 45
 
 -- the command that puts a row
 abbrev pub command_for : Row → Command
@@ -48,14 +51,22 @@ in_a_row (group ∷ groups) = group ++ in_a_row groups
 
 -- a group has a command at least, and no more than the limit
 abbrev pub are_sized : List (List Command) → Bool
-are_sized groups = list_all (λ group. nat_lt 0 (length group) && nat_le (length group) group_limit) groups
+are_sized groups = list_all (λ group. nat_lt 0 (length group) && nat_le (length group) made_limit) groups
 
 -- so many commands are in as few groups as they take
 abbrev pub IsFew : ℕ → List (List Command) → Type 0
-IsFew count groups = (length (in_a_row groups) ≡ count) × (group_limit * length groups < count + group_limit)
+IsFew count groups = (length (in_a_row groups) ≡ count) × (made_limit * length groups < count + made_limit)
 
 -- these commands in their order, in as few groups as they take
 pub record AreGroupsOf (commands : List Command) (groups : List (List Command)) : Type 0 where
   pub all : in_a_row groups ≡ commands
   pub sized : are_sized groups ≡ true
   pub few : IsFew (length commands) groups
+
+-- A desk without rows accepts these groups, one after another, and is this desk then, its members in their order. There
+-- is a command for each row, and there are as few groups as fit on lines.
+pub record MakeAgain (d : Desk) (groups : List (List Command)) : Type 0 where
+  pub accepted : AcceptsGroups (blank d.bridge_ssrc) groups
+  pub again : desk_after_groups (blank d.bridge_ssrc) groups ≡ d
+  pub sized : are_sized groups ≡ true
+  pub few : IsFew (length (rows_of d)) groups

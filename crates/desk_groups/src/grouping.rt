@@ -1,26 +1,29 @@
 //! Groups of commands that make the rows of a desk again.
 
 ghost use Rattle.std.specs.Prelude.{◌≡◌, ◌<◌, ◌≤◌, ◌++◌, ◌∷◌, [], true, IfOk, OnOk, length, map};
-ghost use Rattle.desk_edit.specs.Reasons.{group_limit};
 ghost use Rattle.desk_rows.specs.Desk.{Desk, blank, good, rows_of};
 ghost use Rattle.desk_groups.specs.Rooms.{room_rows};
 ghost use Rattle.desk_groups.specs.inner.Ranked.{in_making_order};
 ghost use Rattle.desk_groups.specs.Making.{command_for, united, lists_of, AcceptsGroups, desk_after_groups};
-ghost use Rattle.desk_groups.specs.Making.{AreGroupsOf, IsFew};
+ghost use Rattle.desk_groups.specs.Making.{made_limit, are_sized, AreGroupsOf, IsFew};
 
 use crate::making::commands_of;
 use crate::rooms::{members_of, others_of};
-use desk_edit::{Command, MAX_GROUP, good_desks_stay_good};
+use desk_edit::{Command, good_desks_stay_good};
 use desk_rows::Rows;
 use std::alloc::{AllocError, Allocator};
+
+/// The most commands of a group that is made. A group may have more, but the longest ones wouldn't fit on a line of an
+/// operator then, which has 4,096 octets.
+const MADE_LIMIT: usize = 45;
 
 /// How many of so many commands the next group takes.
 fn group_size(left: usize) -> usize
     ensures some { 0 < left → 0 < result }
-    ensures few { (result ≤ left) × (result ≤ group_limit) }
-    ensures full { result < left → result ≡ group_limit }
+    ensures few { (result ≤ left) × (result ≤ made_limit) }
+    ensures full { result < left → result ≡ made_limit }
 {
-    if left < MAX_GROUP { left } else { MAX_GROUP }
+    if left < MADE_LIMIT { left } else { MADE_LIMIT }
 }
 
 /// Appends a group of these commands.
@@ -93,6 +96,7 @@ pub fn groups_of<A: Allocator + Copy>(
         → AcceptsGroups d (lists_of groups.items)) }
     ensures beside { IfOk result (λ groups. (d : Desk) → good d ≡ true → good (united d rows.now) ≡ true
         → desk_after_groups d (lists_of groups.items) ≡ united d rows.now) }
+    ensures sized { IfOk result (λ groups. are_sized (lists_of groups.items) ≡ true) }
     ensures few { IfOk result (λ groups. IsFew (length (rows_of rows.now)) (lists_of groups.items)) }
 {
     // Rows are good, which is known where the members are read.
@@ -116,6 +120,7 @@ pub fn groups_of_room<A: Allocator + Copy>(
     ensures beside { IfOk result (λ groups. (d : Desk) → good d ≡ true
         → good (united d (room_rows rows.now room)) ≡ true
         → desk_after_groups d (lists_of groups.items) ≡ united d (room_rows rows.now room)) }
+    ensures sized { IfOk result (λ groups. are_sized (lists_of groups.items) ≡ true) }
     ensures few { IfOk result
         (λ groups. IsFew (length (rows_of (room_rows rows.now room))) (lists_of groups.items)) }
 {

@@ -87,7 +87,7 @@ fn made_of_room(alloc: Global, desk: &Desk, room: u32) -> Option<(usize, usize)>
 fn rows_are_made_again(rt: HostRuntime) -> Result<(), Fail> {
     let alloc = rt.alloc();
     let desk = filled(alloc).ok_or("a call is refused")?;
-    // 80 rows are a group of 64 commands and one of 16.
+    // 80 rows are a group of 45 commands and one of 35.
     assert!(rt; groups_that_make(alloc, &desk) == Some(2));
     assert!(rt; made_of_room(alloc, &desk, 7) == Some((1, 1)));
     assert!(rt; made_of_room(alloc, &desk, 1_000) == Some((0, 0)));

@@ -1,8 +1,7 @@
 use Rattle.std.specs.Prelude.{◌≡◌, ◌<◌, ◌≤◌, length, List}
 use Rattle.std.proofs.Common.{sym, ap, ◌∙◌, subst, arith}
 use Rattle.desk_edit.specs.declared.command.Command.{Command}
-use Rattle.desk_edit.specs.Reasons.{group_limit}
-use Rattle.desk_groups.specs.Making.{lists_of}
+use Rattle.desk_groups.specs.Making.{made_limit, lists_of}
 use Rattle.desk_groups.specs.inner.Cutting.{SoFar}
 use Rattle.desk_groups.proofs.Groups.{one_more}
 use Rattle.desk_groups.proofs.grouping.grouped.Goals as goal
@@ -16,8 +15,8 @@ loop-rest-preserved g c =
     let sized = c.group_size.ensures in
     let long : length these ≡ c.group_size.result = c.split_at.ensures.front_len in
     let own : 0 < length these = (let s = sized.some some in omega (arith, long, s)) in
-    let few : length these ≤ group_limit = (let s = sized.few.1 in omega (arith, long, s)) in
-    let full : 0 < length later → length these ≡ group_limit = λ more.
+    let few : length these ≤ made_limit = (let s = sized.few.1 in omega (arith, long, s)) in
+    let full : 0 < length later → length these ≡ made_limit = λ more.
     long ∙ sized.full (let back = c.split_at.ensures.back_len in omega (arith, more, back)) in
     subst (λ (gs : List (List Command)). SoFar c.args.commands.now gs later) (sym c.in_ok-append_group.ensures)
     (one_more c.args.commands.now (lists_of c.loop-rest.groups.items) left these later c.loop-rest.invariant

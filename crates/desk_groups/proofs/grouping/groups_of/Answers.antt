@@ -33,3 +33,9 @@ returns-clause-few g c =
     IfOk-weaker c.grouped.result _ _ (λ groups cut.
     (made_again c.good_desks_stay_good.ensures c.args.rows.now c.members-members.ensures.good _
     (c.deref.ensures.value ∙ c.in_ok-commands.ensures) (lists_of groups.items) cut).behind.few) c.grouped.ensures
+
+pub returns-clause-sized : goal.returns-clause-sized
+returns-clause-sized g c =
+    IfOk-weaker c.grouped.result _ _ (λ groups cut.
+    (made_again c.good_desks_stay_good.ensures c.args.rows.now c.members-members.ensures.good _
+    (c.deref.ensures.value ∙ c.in_ok-commands.ensures) (lists_of groups.items) cut).behind.sized) c.grouped.ensures

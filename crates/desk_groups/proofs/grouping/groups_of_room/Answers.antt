@@ -26,3 +26,10 @@ returns-clause-few g c =
     (made_beside c.good_desks_stay_good.ensures (room_rows c.args.rows.now c.args.room)
     (plain_room c.args.rows.now c.args.room c.members-members.ensures.good) _
     (c.deref.ensures.value ∙ c.in_ok-commands.ensures) (lists_of groups.items) cut).few) c.grouped.ensures
+
+pub returns-clause-sized : goal.returns-clause-sized
+returns-clause-sized g c =
+    IfOk-weaker c.grouped.result _ _ (λ groups cut.
+    (made_beside c.good_desks_stay_good.ensures (room_rows c.args.rows.now c.args.room)
+    (plain_room c.args.rows.now c.args.room c.members-members.ensures.good) _
+    (c.deref.ensures.value ∙ c.in_ok-commands.ensures) (lists_of groups.items) cut).sized) c.grouped.ensures
