@@ -2,6 +2,7 @@
 use Rattle.std.proofs.Common.{◌≡◌, ℕ, List, [], ◌∷◌, ◌++◌, map, refl, sym, ap, ◌∙◌, append_assoc, codes}
 use Rattle.std.specs.List.{flat_map, join_with_byte}
 use Rattle.std.proofs.lemmas.List.{append-nil}
+use Rattle.std.specs.declared.vec.Vec.{Vec}
 use Rattle.desk_rows.specs.declared.values.RowValue.{RowValue}
 use Rattle.desk_edit.specs.declared.command.Command.{Command}
 use Rattle.desk_edit.specs.Asked.CallOf.{Group}
@@ -9,9 +10,11 @@ use Rattle.desk_text.specs.Values.{value_text, of_row}
 use Rattle.desk_text.specs.Calls.{name_text, fields_of, command_words, group_words, call_line}
 use Rattle.call_history.specs.AcceptedCall.{AcceptedOf}
 use Rattle.call_history.specs.Stamp.{StampedOf}
+use Rattle.desk_text.specs.GroupsText.{lists_in, group_line}
 use Rattle.desk_text.specs.HistoryText.{made_line}
 use Rattle.desk_text.specs.StampedText.{stamped_line}
 use Rattle.desk_text.specs.inner.Pieces.{next_value, command_line, other_part, parts_behind, head_of, number_rest}
+use Rattle.desk_text.specs.inner.Pieces.{line_of_group}
 
 -- words, each with a space before it
 abbrev behind : List (List ℕ) → List ℕ
@@ -68,3 +71,14 @@ made_joined m = simp append_assoc refl
 -- the two pieces of the line of an accepted call with its stamp
 pub stamped_joined : (s : StampedOf) → codes "call " ++ number_rest s ≡ stamped_line s
 stamped_joined s = simp append_assoc refl
+
+-- the lines of groups, as the code holds them, are those of their commands
+pub groups_listed : {A : Type 0} (groups : List (Vec Command A))
+    → flat_map line_of_group groups ≡ flat_map group_line (lists_in groups)
+groups_listed {A} [] = refl
+groups_listed {A} (group ∷ groups) = ap (λ (t : List ℕ). line_of_group group ++ t) (groups_listed groups)
+
+-- the line of these commands is that of a group that has them
+pub same_group : {A : Type 0} (commands : List Command) (v w : Vec Command A) → commands ≡ v.items → v ≡ w
+    → group_line commands ≡ line_of_group w
+same_group {A} commands v w items is = ap group_line (items ∙ ap (λ (x : Vec Command A). x.items) is)

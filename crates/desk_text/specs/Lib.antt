@@ -10,6 +10,7 @@ pub mod StampedText
 pub mod RowLines
 pub mod HistoryText
 pub mod NewsText
+pub mod GroupsText
 pub mod Judged
 pub mod Lines
 pub mod inner

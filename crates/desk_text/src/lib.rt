@@ -3,7 +3,7 @@
 //! Begin with [`parse_desk`], which reads one call, and with [`print_reply`] and [`print_rows`], which append lines.
 //! [`print_history`] appends the lines of the calls that are in force, and of those that can be redone; [`print_told`]
 //! those that tell of calls as they are accepted, with their moments and names or without; [`print_calls`] those of a
-//! log; [`print_called`] one that a script has.
+//! log; [`print_called`] one that a script has; [`print_groups`] those of groups of commands.
 //!
 //! Whoever has other lines reads them by the same words: [`next_word`] and [`end_of_words`] go from word to word,
 //! [`read_values`] reads the values of fields, and [`read_call`] a call behind other words. [`print_line`] appends a
@@ -23,6 +23,7 @@ mod appending;
 mod building;
 mod calling;
 mod fault;
+mod groups;
 mod history;
 mod laws;
 mod name;
@@ -43,6 +44,7 @@ mod words;
 pub use self::appending::Word;
 pub use self::calling::{parse_desk, read_call};
 pub use self::fault::{Fault, ParseFault};
+pub use self::groups::print_groups;
 pub use self::history::print_history;
 pub use self::laws::{
     address_words, call_lines, ext_words, number_words, pieces_join, refusal_words,

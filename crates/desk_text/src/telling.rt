@@ -102,7 +102,10 @@ fn append_parts<A: Allocator>(commands: &[Command], out: &mut Vec<u8, A>) -> Res
 }
 
 /// Appends the words of a group.
-fn append_group<A: Allocator>(commands: &[Command], out: &mut Vec<u8, A>) -> Result<(), AllocError>
+pub(crate) fn append_group<A: Allocator>(
+    commands: &[Command],
+    out: &mut Vec<u8, A>,
+) -> Result<(), AllocError>
     ensures { Grows (buffer_of out.old) (buffer_of out.new) (call_line (Group commands.now)) result }
 {
     append_parts(commands, out)

@@ -1,12 +1,14 @@
 -- The pieces in which lines are appended.
 use Rattle.std.specs.Prelude.{ℕ, List, [], ◌∷◌, ◌++◌, codes, decimal}
 use Rattle.std.specs.List.{flat_map, join_with_byte}
+use Rattle.std.specs.declared.vec.Vec.{Vec}
 use Rattle.desk_rows.specs.declared.values.RowValue.{RowValue}
 use Rattle.desk_edit.specs.declared.command.Command.{Command}
 use Rattle.desk_text.specs.Values.{value_text, of_row}
 use Rattle.desk_text.specs.Calls.{command_words, call_line}
 use Rattle.call_history.specs.AcceptedCall.{AcceptedOf}
 use Rattle.call_history.specs.Stamp.{StampedOf}
+use Rattle.desk_text.specs.GroupsText.{group_line}
 use Rattle.desk_text.specs.HistoryText.{made_line, undone_text}
 
 -- a value of a row, with a space (32) before it
@@ -53,3 +55,7 @@ moment_rest s = (decimal s.stamp.moment ++ codes " ") ++ op_rest s
 -- the same, from the number on
 abbrev pub number_rest : StampedOf → List ℕ
 number_rest s = (decimal s.made.number ++ codes " ") ++ moment_rest s
+
+-- the line of a group, as the code holds it
+abbrev pub line_of_group : {A : Type 0} → Vec Command A → List ℕ
+line_of_group group = group_line group.items
