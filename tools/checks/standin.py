@@ -13,7 +13,9 @@ from checks.make.page import PARTS, TOKEN, WEB
 from operators.models.desk import Log
 from operators.models.lines import COMMANDS, TURNS
 
-RESERVED = ("show", "history", "calls", "stats", "levels", "watch", "as", "why", "help", "quit", "stop", "names")
+RESERVED = (
+    "show", "groups", "history", "calls", "stats", "levels", "watch", "as", "why", "help", "quit", "stop", "names",
+)  # fmt: skip
 MOST_CALLS, MOST_PAST = 256, 512
 LONGEST_NAME, LONGEST_CHANGE = 800, 262_144
 

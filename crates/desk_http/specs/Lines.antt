@@ -47,11 +47,11 @@ longest_change = 262144
 abbrev pub is_change : List ℕ → Bool
 is_change body = nat_le (length body) longest_change && is_names_line body
 
--- the word asks about the log, the connection or its lines
+-- the word asks about the log, the desk's groups, the connection or its lines
 abbrev pub is_asking : List ℕ → Bool
 is_asking word =
-    bytes_eq word (codes "calls") || bytes_eq word (codes "as") || bytes_eq word (codes "why")
-    || bytes_eq word (codes "help")
+    bytes_eq word (codes "calls") || bytes_eq word (codes "groups") || bytes_eq word (codes "as")
+    || bytes_eq word (codes "why") || bytes_eq word (codes "help")
 
 -- the first word asks for more than one line, for lines from then on, for the end of the connection or of the bridge,
 -- for something of the connection's own, or for names

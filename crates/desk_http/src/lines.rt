@@ -93,11 +93,12 @@ pub(crate) fn is_reserved(line: &[u8]) -> bool
         || is_names_line(line)
 }
 
-/// Whether a word begins a line about the log, the connection or its lines.
+/// Whether a word begins a line about the log, the desk's groups, the connection or its lines.
 fn is_asking(word: &[u8]) -> bool
     ensures { result ≡ is_asking word.now }
 {
     word == b"calls".as_slice()
+        || word == b"groups".as_slice()
         || word == b"as".as_slice()
         || word == b"why".as_slice()
         || word == b"help".as_slice()

@@ -63,6 +63,7 @@ form_of (topics.Head heads.Redo) = codes "redo LAST"
 form_of (topics.Head heads.Revert) = codes "revert N"
 form_of (topics.Head heads.Group) = codes "group COMMAND / COMMAND .."
 form_of (topics.Own owns.Show) = codes "show"
+form_of (topics.Own owns.Groups) = codes "groups"
 form_of (topics.Own owns.History) = codes "history [N]"
 form_of (topics.Own owns.Calls) = codes "calls [N]"
 form_of (topics.Own owns.Stats) = codes "stats"
@@ -113,6 +114,7 @@ places_of (topics.Head heads.Redo) = places.Last ∷ []
 places_of (topics.Head heads.Revert) = places.Call ∷ []
 places_of (topics.Head heads.Group) = places.Commands ∷ []
 places_of (topics.Own owns.Show) = []
+places_of (topics.Own owns.Groups) = []
 places_of (topics.Own owns.History) = places.Most ∷ []
 places_of (topics.Own owns.Calls) = places.Most ∷ []
 places_of (topics.Own owns.Stats) = []
@@ -259,6 +261,7 @@ example_of (topics.Head heads.Redo) = codes "redo 8"
 example_of (topics.Head heads.Revert) = codes "revert 5"
 example_of (topics.Head heads.Group) = codes "group mute 201 / mute 202"
 example_of (topics.Own owns.Show) = codes "show"
+example_of (topics.Own owns.Groups) = codes "groups"
 example_of (topics.Own owns.History) = codes "history 20"
 example_of (topics.Own owns.Calls) = codes "calls 20"
 example_of (topics.Own owns.Stats) = codes "stats"
@@ -296,6 +299,7 @@ all_topics =
     ∷ (topics.Head heads.Revert)
     ∷ (topics.Head heads.Group)
     ∷ (topics.Own owns.Show)
+    ∷ (topics.Own owns.Groups)
     ∷ (topics.Own owns.History)
     ∷ (topics.Own owns.Calls)
     ∷ (topics.Own owns.Stats)

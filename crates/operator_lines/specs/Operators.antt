@@ -21,7 +21,7 @@ use Rattle.operator_lines.specs.declared.asking.LineAsk.TheVariants as variants
 use Rattle.operator_lines.specs.declared.asking.Verb.{Verb}
 use Rattle.operator_lines.specs.declared.asking.Verb.TheVariants.{Show, Calls, Watch, Help, Quit, Stop}
 use Rattle.operator_lines.specs.declared.line_desk.View.{View}
-use Rattle.operator_lines.specs.declared.line_desk.View.TheVariants.{Rows, History, Stats, Levels, Why}
+use Rattle.operator_lines.specs.declared.line_desk.View.TheVariants.{Rows, Groups, History, Stats, Levels, Why}
 use Rattle.operator_lines.specs.declared.own.Own.{Own}
 use Rattle.operator_lines.specs.declared.own.Own.TheVariants as owns
 use Rattle.operator_lines.specs.declared.topic.Topic.{Topic}
@@ -102,6 +102,7 @@ alone_in verb words = do
 -- what a line asks that begins so, with these words behind its first
 unfoldable pub asked_own : Own → List (List ℕ) → Result AskOf (ℕ × Fault)
 asked_own owns.Show words = alone_in (Show Rows) words
+asked_own owns.Groups words = alone_in (Show Groups) words
 asked_own owns.History words = do
   most ← most_in words
   Ok (alone (Show (History most)))

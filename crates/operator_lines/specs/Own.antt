@@ -8,6 +8,7 @@ use Rattle.operator_lines.specs.declared.own.Own.TheVariants as owns
 -- how each is written
 abbrev pub own_text : Own → List ℕ
 own_text owns.Show = codes "show"
+own_text owns.Groups = codes "groups"
 own_text owns.History = codes "history"
 own_text owns.Calls = codes "calls"
 own_text owns.Stats = codes "stats"
@@ -25,7 +26,8 @@ more_own = owns.As ∷ owns.Why ∷ owns.Help ∷ owns.Quit ∷ owns.Stop ∷ []
 
 -- all of them
 abbrev pub all_own : List Own
-all_own = owns.Show ∷ owns.History ∷ owns.Calls ∷ owns.Stats ∷ owns.Levels ∷ owns.Watch ∷ more_own
+all_own =
+    owns.Show ∷ owns.Groups ∷ owns.History ∷ owns.Calls ∷ owns.Stats ∷ owns.Levels ∷ owns.Watch ∷ more_own
 
 -- the one that a word is
 abbrev pub own_of : List ℕ → Option Own

@@ -167,6 +167,7 @@ fn asked_own<'l, A: Allocator + Copy>(
 {
     match own {
         Own::Show => alone(Verb::Show(View::Rows), words),
+        Own::Groups => alone(Verb::Show(View::Groups), words),
         Own::History => {
             let most = most(words)?;
             Ok(LineAsk::Verb(Verb::Show(View::History { most })))

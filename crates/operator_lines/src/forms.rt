@@ -34,6 +34,7 @@ const ALL: &[Topic] = &[
     Topic::Head(Head::Revert),
     Topic::Head(Head::Group),
     Topic::Own(Own::Show),
+    Topic::Own(Own::Groups),
     Topic::Own(Own::History),
     Topic::Own(Own::Calls),
     Topic::Own(Own::Stats),
@@ -110,6 +111,7 @@ fn own_form(own: Own) -> &'static [u8]
 {
     match own {
         Own::Show => b"show",
+        Own::Groups => b"groups",
         Own::History => b"history [N]",
         Own::Calls => b"calls [N]",
         Own::Stats => b"stats",
@@ -167,6 +169,7 @@ fn own_places(own: Own) -> &'static [FormWord]
 {
     match own {
         Own::Show => &[],
+        Own::Groups => &[],
         Own::History => &[FormWord::Most],
         Own::Calls => &[FormWord::Most],
         Own::Stats => &[],
@@ -224,6 +227,7 @@ fn own_example(own: Own) -> &'static [u8]
 {
     match own {
         Own::Show => b"show",
+        Own::Groups => b"groups",
         Own::History => b"history 20",
         Own::Calls => b"calls 20",
         Own::Stats => b"stats",

@@ -1,9 +1,12 @@
 //! Laws of the definitions, as functions that do nothing when they run.
 
-ghost use Rattle.std.specs.Prelude.{◌≡◌, ℕ, true, List, ◌∷◌, ◌++◌, map, Some};
+ghost use Rattle.std.specs.Prelude.{◌≡◌, ◌≤◌, ℕ, true, List, ◌∷◌, ◌++◌, length, map, Some};
 ghost use Rattle.std.specs.List.{AllByRecursion, Contains};
-ghost use Rattle.operator_lines.specs.Cut.{cut, lines_of, is_too_long};
-ghost use Rattle.desk_text.specs.Calls.{shape_of};
+ghost use Rattle.operator_lines.specs.Cut.{cut, line_limit, lines_of, is_too_long};
+ghost use Rattle.desk_edit.specs.declared.command.Command.{Command as Said};
+ghost use Rattle.desk_edit.specs.Asked.CallOf.{Group};
+ghost use Rattle.desk_groups.specs.Making.{are_sized};
+ghost use Rattle.desk_text.specs.Calls.{shape_of, call_line, AreCommands};
 ghost use Rattle.desk_text.specs.declared.name.Name.{Name};
 ghost use Rattle.operator_lines.specs.Forms.{places_of, form_of, all_topics};
 ghost use Rattle.operator_lines.specs.Topics.{topic_of};
@@ -25,6 +28,13 @@ pub fn cuts_are_whole()
     ensures whole { (stream : List ℕ) → joined (cut stream) ≡ stream }
     ensures ended { (stream : List ℕ) → AllByRecursion HasNoLf (cut stream).ended }
     ensures rest { (stream : List ℕ) → HasNoLf (cut stream).rest }
+{}
+
+/// Each group that `groups` tells fits on a line, so an operator can give it: its numbers are in range, and it has few
+/// enough commands.
+pub fn groups_fit_on_lines()
+    ensures { (groups : List (List Said)) → are_sized groups ≡ true → AllByRecursion AreCommands groups
+        → AllByRecursion (λ commands. length (call_line (Group commands)) ≤ line_limit) groups }
 {}
 
 /// The words that `help` tells of a command are those that it is read by, field by field.

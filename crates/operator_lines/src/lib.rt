@@ -47,7 +47,10 @@ pub use explaining::print_why;
 pub use feeding::{Fed, Lines};
 pub use greeting::{Beginning, Opening, greet, greet_octets};
 pub use incoming::Incoming;
-pub use laws::{cuts_are_whole, help_tells_each_line, help_tells_what_is_read, too_long_for_good};
+pub use laws::{
+    cuts_are_whole, groups_fit_on_lines, help_tells_each_line, help_tells_what_is_read,
+    too_long_for_good,
+};
 pub use line_desk::{LineDesk, View};
 pub use outgoing::Outgoing;
 pub use trouble::{Trouble, Wrong};

@@ -15,6 +15,8 @@ use std::alloc::{AllocError, Global};
 pub enum View {
     /// Its rows.
     Rows,
+    /// Groups of commands that make its rows again.
+    Groups,
     /// The last calls that are in force, and the last of those that can be redone.
     History {
         /// How many of each at most.
@@ -106,9 +108,9 @@ pub trait LineDesk {
     ) -> Result<(), AllocError>
         ensures { OnOk result (replies moment self.old self.new (faults line.now word fault) []) };
 
-    /// Appends the rows or calls of one version, a line for each, and the version; or the lines that tell what the
-    /// bridge counts, or how loud the sources of sound are; or what was wrong with the last line that was faulty or
-    /// refused. An `Err` appends nothing.
+    /// Appends the rows or calls of one version, a line for each, and the version; or the groups that make these rows
+    /// again; or the lines that tell what the bridge counts, or how loud the sources of sound are; or what was wrong
+    /// with the last line that was faulty or refused. An `Err` appends nothing.
     fn show(&self, alloc: Global, view: View, out: &mut Vec<u8>) -> Result<(), AllocError>
         ensures ok { OnOk result (AppendsShown shows self.now view out.old.items out.new.items) }
         ensures err { OnErr result (out.new.items ≡ out.old.items) };

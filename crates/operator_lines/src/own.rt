@@ -7,6 +7,7 @@ ghost use Rattle.operator_lines.specs.Own.{own_of, more_of};
 #[derive(Clone, Copy)]
 pub(crate) enum Own {
     Show,
+    Groups,
     History,
     Calls,
     Stats,
@@ -25,6 +26,8 @@ pub(crate) fn parse_own(word: &[u8]) -> Option<Own>
 {
     if word == b"show".as_slice() {
         Some(Own::Show)
+    } else if word == b"groups".as_slice() {
+        Some(Own::Groups)
     } else if word == b"history".as_slice() {
         Some(Own::History)
     } else if word == b"calls".as_slice() {

@@ -4,11 +4,14 @@ use mathlib.Core.List.{IsPrefix}
 use Rattle.logbook.specs.Pages.{Book}
 use Rattle.desk_rows.specs.Desk.{Desk}
 use Rattle.desk_edit.specs.Asked.{CallOf}
+use Rattle.desk_edit.specs.declared.command.Command.{Command}
+use Rattle.desk_groups.specs.Making.{MakeAgain}
 use Rattle.call_history.specs.Stamp.{StampOf}
 use Rattle.desk_calls.specs.declared.reply.Reply.TheVariants as replies
+use Rattle.desk_text.specs.GroupsText.{groups_text}
 use Rattle.desk_text.specs.HistoryText.{history_text}
 use Rattle.operator_lines.specs.declared.line_desk.View.{View}
-use Rattle.operator_lines.specs.declared.line_desk.View.TheVariants.{Rows, History, Stats, Levels, Why}
+use Rattle.operator_lines.specs.declared.line_desk.View.TheVariants.{Rows, Groups, History, Stats, Levels, Why}
 use Rattle.operator_lines.specs.declared.trouble.Wrong.{Wrong}
 use Rattle.operator_lines.specs.declared.trouble.Wrong.TheVariants as wrongs
 use Rattle.operator_lines.specs.Why.{TroubleOf, why_text}
@@ -69,6 +72,16 @@ ShowsAt start version text = (rows : Desk) × IsCopy start version rows × (text
 abbrev pub SeatShows : Desk → ℕ → List ℕ → Type 0
 SeatShows start least text = (version : ℕ) × (least ≤ version) × ShowsAt start version text
 
+-- groups are told that make these rows again, and last the version
+abbrev pub TellsMaking : (rows : Desk) → (version : ℕ) → List ℕ → Type 0
+TellsMaking rows version text =
+    (groups : List (List Command)) × MakeAgain rows groups × (text ≡ groups_text groups version)
+
+-- those are told that make the rows of a version again, which is this one or a later one
+abbrev pub TellsGroups : Desk → (least : ℕ) → List ℕ → Type 0
+TellsGroups start least text =
+    (version : ℕ) × (rows : Desk) × (least ≤ version) × IsCopy start version rows × TellsMaking rows version text
+
 -- the last calls of a legal log that are in force are told, and the last that can be redone: at most so many of each;
 -- and last how many calls the log has
 abbrev pub TellsPast : Desk → (most : ℕ) → PastOf → List ℕ → Type 0
@@ -92,6 +105,7 @@ abbrev pub SeatViews :
     Desk → (counts : ℕ → List ℕ → Type 0) → (levels : List ℕ → Type 0) → (least : ℕ) → SeatOf → Option TroubleOf → View
     → List ℕ → Type 0
 SeatViews start counts levels least seat trouble Rows text = SeatShows start least text
+SeatViews start counts levels least seat trouble Groups text = TellsGroups start least text
 SeatViews start counts levels least seat trouble (History most) text = SeatTellsPast start least most seat text
 SeatViews start counts levels least seat trouble Stats text =
     (used : ℕ) × (used ≤ most_operators) × counts used text

@@ -259,6 +259,7 @@ impl<'b, 'a, H: DeskBrand, R: Wait, F: Wake> LineDesk for AtDesk<'b, 'a, H, R, F
     fn show(&self, alloc: Global, view: View, out: &mut Vec<u8>) -> Result<(), AllocError> {
         match view {
             View::Rows => self.show_rows(alloc, self.asked(), out),
+            View::Groups => self.show_groups(alloc, self.asked(), out),
             View::History { most } => self.show_past(alloc, self.asked(), most, out),
             View::Stats => {
                 let used = self.operators.used(self.rt);

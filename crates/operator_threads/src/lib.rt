@@ -36,6 +36,7 @@ mod follower;
 mod latest;
 mod laws;
 mod lobby;
+mod making;
 mod noting;
 mod operators;
 mod printed;

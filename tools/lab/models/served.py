@@ -91,6 +91,8 @@ class Operator(socketserver.StreamRequestHandler):
             return False
         if words == ["show"]:
             lines = log.desk.shown(log.version)
+        elif words == ["groups"]:
+            lines = log.desk.groups(log.version)
         elif words[0] == "history":
             lines = log.history(int((words[1:] or [EVERY_CALL])[0]))
         elif words[0] == "as":

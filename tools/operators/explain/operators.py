@@ -62,7 +62,8 @@ class Call:
 
     def is_told_lines(self):
         """Whether its answer is some lines, of which the last is `end VERSION` or `end`."""
-        return self.text.split(" ")[0] in ("show", "history", "calls", "stats", "levels", "watch", "why", "help")
+        words = ("show", "groups", "history", "calls", "stats", "levels", "watch", "why", "help")
+        return self.text.split(" ")[0] in words
 
 
 @dataclasses.dataclass(frozen=True)

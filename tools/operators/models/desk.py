@@ -9,6 +9,12 @@ TABLES = ("rooms", "members", "sources", "slots", "subs", "mutes", "gains", "pin
 LIMITS = {"rooms": 64, "members": 1024, "sources": 2048, "slots": 4096, "gains": 65536, "room-audio": 64}
 # The clock rates of rooms, in Hz. A room for music has L16 alone.
 USUAL, MUSIC = 8000, 44100
+# The command that puts a row of each kind, and how many commands a group has that `groups` tells.
+PUTS = {
+    "room": "add-room", "member": "add-member", "source": "add-source", "slot": "add-slot", "sub": "subscribe",
+    "mute": "mute", "gain": "set-gain", "pin": "pin", "floor": "give-floor",
+}  # fmt: skip
+MADE = 45
 
 
 class Refused(Exception):
@@ -117,6 +123,18 @@ class Desk:
             *lines("floor", self.floors, "room member", "room"),
             f"end {version}",
         ]
+
+    def groups(self, version):
+        """The lines that answer `groups`."""
+        commands = []
+        for kind, *words in (row.split(" ") for row in self.shown(version)[:-1]):
+            if kind == "member":
+                words = words[1:]
+            elif kind == "room" and len(words) == 1:
+                words = [*words, str(USUAL)]
+            commands.append(" ".join([PUTS[kind], *words]))
+        parts = [commands[first : first + MADE] for first in range(0, len(commands), MADE)]
+        return [*(f"group {' / '.join(part)}" for part in parts), f"end {version}"]
 
     def carry_out(self, words):
         """Carries a command out, or raises its refusal. Only what removes a row leaves others without what they

@@ -62,7 +62,7 @@ ITEMS = {
 # How many octets a line of a script has at most, and one that begins with `item `.
 LINE_LIMIT, ITEM_LIMIT = 2**16, 2**23
 # The first words of operators' lines that are no calls.
-ALONE = ("show", "history", "calls", "stats", "levels", "watch", "as", "why", "help", "quit", "stop")
+ALONE = ("show", "groups", "history", "calls", "stats", "levels", "watch", "as", "why", "help", "quit", "stop")
 # The most octets of an operator's name.
 NAME_LIMIT = 64
 # How many of a command's last words may be left out.

@@ -10,7 +10,7 @@ use Rattle.operator_lines.specs.declared.topic.Topic.{Topic}
 use Rattle.operator_lines.specs.declared.topic.Topic.TheVariants as topics
 use Rattle.operator_lines.proofs.laws.help_tells_each_line.Goals as goal
 
-count : length all_topics ≡ 33
+count : length all_topics ≡ 34
 count = refl
 
 all : (topic : Topic) → Contains all_topics topic
@@ -37,16 +37,17 @@ all (topics.Head heads.Redo) = (19, omega (arith, count), refl)
 all (topics.Head heads.Revert) = (20, omega (arith, count), refl)
 all (topics.Head heads.Group) = (21, omega (arith, count), refl)
 all (topics.Own owns.Show) = (22, omega (arith, count), refl)
-all (topics.Own owns.History) = (23, omega (arith, count), refl)
-all (topics.Own owns.Calls) = (24, omega (arith, count), refl)
-all (topics.Own owns.Stats) = (25, omega (arith, count), refl)
-all (topics.Own owns.Levels) = (26, omega (arith, count), refl)
-all (topics.Own owns.Watch) = (27, omega (arith, count), refl)
-all (topics.Own owns.As) = (28, omega (arith, count), refl)
-all (topics.Own owns.Why) = (29, omega (arith, count), refl)
-all (topics.Own owns.Help) = (30, omega (arith, count), refl)
-all (topics.Own owns.Quit) = (31, omega (arith, count), refl)
-all (topics.Own owns.Stop) = (32, omega (arith, count), refl)
+all (topics.Own owns.Groups) = (23, omega (arith, count), refl)
+all (topics.Own owns.History) = (24, omega (arith, count), refl)
+all (topics.Own owns.Calls) = (25, omega (arith, count), refl)
+all (topics.Own owns.Stats) = (26, omega (arith, count), refl)
+all (topics.Own owns.Levels) = (27, omega (arith, count), refl)
+all (topics.Own owns.Watch) = (28, omega (arith, count), refl)
+all (topics.Own owns.As) = (29, omega (arith, count), refl)
+all (topics.Own owns.Why) = (30, omega (arith, count), refl)
+all (topics.Own owns.Help) = (31, omega (arith, count), refl)
+all (topics.Own owns.Quit) = (32, omega (arith, count), refl)
+all (topics.Own owns.Stop) = (33, omega (arith, count), refl)
 
 begins : (topic : Topic) → topic_of (word_behind 0 (form_of topic)) ≡ Some topic
 begins (topics.Command names.AddRoom) = refl
@@ -72,6 +73,7 @@ begins (topics.Head heads.Redo) = refl
 begins (topics.Head heads.Revert) = refl
 begins (topics.Head heads.Group) = refl
 begins (topics.Own owns.Show) = refl
+begins (topics.Own owns.Groups) = refl
 begins (topics.Own owns.History) = refl
 begins (topics.Own owns.Calls) = refl
 begins (topics.Own owns.Stats) = refl
