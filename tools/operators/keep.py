@@ -7,6 +7,9 @@ the same but for FIRST_SEQ: streams begin anew, and 1,000 is added to that numbe
 receivers don't take new packets for old ones. Each group is all or nothing, and one undo takes it back. The first and
 the last line say how many there are. It takes a seat for a moment. The status is 2 where the bridge is gone or busy,
 and nothing is printed then.
+
+The groups are those that the bridge tells by its line `groups`. An older bridge doesn't know that line. Then they are
+made of its rows, and a line on standard error says so.
 """
 
 import contextlib
@@ -18,7 +21,8 @@ from operators.shared import ROOT
 
 sys.path.insert(0, str(ROOT / "examples/fleet"))
 
-from kept import FURTHER, Unmade, commands_of, groups_of  # noqa: E402
+from kept import FURTHER, Unmade, commands_of, groups_of, makings  # noqa: E402
+from made import further  # noqa: E402
 from printable import printable  # noqa: E402
 
 NEEDS = "a bridge that runs"
@@ -26,6 +30,8 @@ NEEDS = "a bridge that runs"
 # How many seconds a bridge may take for an answer. How many octets a line of it has at most, and how many rows a desk:
 # more are no bridge's.
 PATIENCE, MOST_OCTETS, MOST_ROWS = 30, 4096, 200_000
+# What an older bridge says to a line that it doesn't know.
+UNKNOWN = "fault 1 3 UnknownWord"
 
 
 class Trouble(Exception):
@@ -43,6 +49,9 @@ def options(parser):
 class Seat(Operator):
     """An operator's connection to the bridge at an address. Where no answer comes it raises Trouble."""
 
+    # Whether the bridge is one that doesn't know `groups`.
+    is_older = False
+
     def __init__(self, address):
         self.address = address if ":" in address else f"127.0.0.1:{address}"
         host, _, port = self.address.rpartition(":")
@@ -58,7 +67,7 @@ class Seat(Operator):
 
     def line(self):
         """The next line: empty where the connection has ended."""
-        return self.lines.readline(MOST_OCTETS).strip("\n")
+        return self.lines.readline(MOST_OCTETS + 1).strip("\n")
 
     def answered(self, line):
         """The first line that answers a line."""
@@ -75,21 +84,48 @@ class Seat(Operator):
             raise Trouble(f"the bridge at {self.address} is gone: it closed the connection", 2)
         return said
 
+    def told(self, line, what):
+        """The lines that answer a line, and the version behind them. None where the bridge doesn't know it."""
+        lines, said = [], self.answered(line)
+        while not said.startswith("end "):
+            if said == UNKNOWN and not lines:
+                return None
+            lines.append(said)
+            try:
+                said = self.line()
+            except OSError:
+                said = ""
+            if not said or len(lines) > MOST_ROWS:
+                raise Trouble(f"the bridge at {self.address} is gone: its {what} end in the middle", 2)
+        version = said.removeprefix("end ")
+        if not version.isdigit():
+            raise Trouble(f"{self.address} is no bridge: it says {said[:80]!r}", 2)
+        return lines, int(version)
+
     def rows(self):
         """The rows of the desk, and its version."""
-        rows, line = [], self.answered("show")
-        while not line.startswith("end "):
-            rows.append(line)
-            try:
-                line = self.line()
-            except OSError:
-                line = ""
-            if not line or len(rows) > MOST_ROWS:
-                raise Trouble(f"the bridge at {self.address} is gone: its rows end in the middle", 2)
-        version = line.removeprefix("end ")
-        if not version.isdigit():
-            raise Trouble(f"{self.address} is no bridge: it says {line[:80]!r}", 2)
-        return rows, int(version)
+        told = self.told("show", "rows")
+        if not told:
+            raise Trouble(f"{self.address} is no bridge: it doesn't know `show`", 2)
+        return told
+
+    def version(self):
+        """The version of the desk."""
+        lines, version = self.told("history 0", "calls") or (["no history"], 0)
+        if lines:
+            raise Trouble(f"{self.address} is no bridge: asked for `history 0`, it says `{lines[0][:80]}`", 2)
+        return version
+
+    def groups(self):
+        """The groups that make the rows of the desk again, streams further on, and its version."""
+        # A line that a bridge doesn't know, as the first of a connection, would close that.
+        self.version()
+        told = self.told("groups", "groups")
+        self.is_older = told is None
+        if told:
+            return [further(group) for group in groups_told(told[0], self.address)], told[1]
+        rows, version = self.rows()
+        return groups_of(made_by(rows, self.address)), version
 
     def close(self):
         with contextlib.suppress(OSError):
@@ -104,6 +140,16 @@ def last_line(groups, commands):
     return f"# end: {groups} groups of {commands} commands"
 
 
+def groups_told(lines, address):
+    """The lines, where each is a group that makes rows and does nothing else."""
+    for line in lines:
+        try:
+            makings(line)
+        except Unmade:
+            raise Trouble(f"{address} is no bridge: `{line[:80]}` is no group of rows", 2) from None
+    return lines
+
+
 def made_by(rows, address):
     """The commands that make the rows of a bridge."""
     try:
@@ -113,25 +159,29 @@ def made_by(rows, address):
 
 
 MOVED = f"FIRST_SEQ of each stream is {FURTHER} further on, as streams begin anew"
+OLDER = "this bridge is an older one, without the line `groups`: its groups are made of its rows"
 
 
-def text_of(rows, version, address):
+def count_in(groups):
+    """How many commands groups have."""
+    return sum(len(makings(group)) for group in groups)
+
+
+def text_of(groups, version):
     """What makes the rows of a bridge again, as a file has it."""
-    commands = made_by(rows, address)
-    groups = groups_of(commands)
-    lines = [f"# the desk of version {version}: {MOVED}", *groups, last_line(len(groups), len(commands))]
+    lines = [f"# the desk of version {version}: {MOVED}", *groups, last_line(len(groups), count_in(groups))]
     return "".join(f"{line}\n" for line in lines)
 
 
 def run(args):
     try:
         with contextlib.closing(Seat(args.address)) as seat:
-            rows, version = seat.rows()
-        text = text_of(rows, version, args.address)
+            groups, version = seat.groups()
     except Trouble as why:
         print(f"tools/bridge keep: {why}", file=sys.stderr)
         return why.status
-    print(text, end="")
-    groups = text.count("\n") - 2
-    print(f"tools/bridge keep: {len(rows)} rows in {groups} groups; {MOVED}", file=sys.stderr)
+    print(text_of(groups, version), end="")
+    if seat.is_older:
+        print(f"tools/bridge keep: {OLDER}", file=sys.stderr)
+    print(f"tools/bridge keep: {count_in(groups)} rows in {len(groups)} groups; {MOVED}", file=sys.stderr)
     return 0

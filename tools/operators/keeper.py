@@ -98,13 +98,13 @@ class Keeper:
 
     def keep(self, seat):
         """Writes the desk, where it has changed."""
-        rows, version = seat.rows()
-        if version == self.version:
+        if seat.version() == self.version:
             return
+        groups, version = seat.groups()
         beside = self.path.with_name(f"{self.path.name}.new")
         try:
             with beside.open("w") as file:
-                file.write(text_of(rows, version, seat.address))
+                file.write(text_of(groups, version))
                 file.flush()
                 os.fsync(file.fileno())
             os.replace(beside, self.path)

@@ -5,7 +5,7 @@ import subprocess
 import sys
 
 from checks.filling import add_member, in_groups
-from lab.fleet_call.parts import BridgePart
+from lab.fleet_call.parts import BridgePart, commands_of
 from operators.shared import ROOT
 
 TOOL = [sys.executable, "-B", ROOT / "tools/bridge"]
@@ -64,6 +64,12 @@ class Keeping:
         self.check(self.restore(target, text)[1] == 0, "an empty bridge takes it")
         restored, version = two.operator.show()
         self.check(restored == [later(row) for row in rows], "it has the same rows but for FIRST_SEQ", restored)
+        told = two.operator.shown("groups")
+        good = told[:-1] == text.splitlines()[1:-1] and told[-1] == f"end {version}"
+        self.check(good, "and tells the same groups", (told, text))
+        commands = [part for group in text.splitlines()[1:-1] for part in group.removeprefix("group ").split(" / ")]
+        same = [part.removesuffix(" 8000") if part.startswith("add-room") else part for part in commands]
+        self.check(commands_of(rows) == same, "an agent makes the same commands of the rows", commands_of(rows))
         self.check(self.keep(target)[1:] == (said, 0), "its desk is kept as well")
         said = self.restore(target, text)
         good = said[1] == 1 and "isn't empty: it has 20 rows" in said[0]
@@ -114,18 +120,28 @@ class Keeping:
         for line in bad:
             said = self.restore(target, f"{line}\n# end: 1 groups of 1 commands\n")
             self.refused(said, 3, "line 1 of", f"a file with {line[:40]!r}")
-        for text, rows in ("an escape sequence", b"room 1 8000\x1b]0;x\x07"), ("no row", b"room"), ("C1", b"\x9b2J"):
-            said, status = self.kept_of(rows + b"\nend 1\n")
-            good = status == 2 and " is no row" in said and all(" " <= one <= "~" for one in said.strip())
-            self.check(good, f"a bridge that says {text} as a row: status 2, in printable octets", (status, said))
+        for text, group in [
+            ("an escape sequence", b"group add-room 1\x1b]0;x\x07"), ("no group", b"room 1"), ("C1", b"\x9b2J"),
+            ("a group that does more", b"group add-room 1 / remove-room 2"),
+        ]:  # fmt: skip
+            said, status = self.kept_of(b"end 1\n", group + b"\nend 1\n")
+            good = status == 2 and " is no group of rows" in said and all(" " <= one <= "~" for one in said.strip())
+            self.check(good, f"a bridge that says {text} as a group: status 2, in printable octets", (status, said))
+        said, status = self.kept_of(b"hello\nend 1\n")
+        self.check(status == 2 and "it says `hello`" in said, "what is no bridge: status 2", (status, said))
+        said, status = self.kept_of(b"end 2\n", b"fault 1 3 UnknownWord\n", b"room 7\nend 2\n")
+        good = status == 0 and "\ngroup add-room 7\n" in said and "this bridge is an older one" in said
+        self.check(good, "an older bridge without `groups` is kept by its rows, and that is said", (status, said))
 
-    def kept_of(self, octets):
-        """What `keep` says of a program that answers so in a bridge's place, and its status."""
+    def kept_of(self, *answers):
+        """What `keep` says of a program that answers its lines so in a bridge's place, and its status."""
         with socket.create_server(("127.0.0.1", 0)) as one:
             address = f"127.0.0.1:{one.getsockname()[1]}"
             with subprocess.Popen([*TOOL, "keep", address], stdout=-1, stderr=-1, encoding="latin-1") as keeping:
                 connection, _ = one.accept()
-                connection.sendall(octets)
+                for octets in answers:
+                    connection.recv(4096)
+                    connection.sendall(octets)
                 out, said = keeping.communicate()
                 connection.close()
         return out + said, keeping.returncode
@@ -144,7 +160,7 @@ class Keeping:
             one.do(group)
         text, _, status = self.keep(self.addresses()[0])
         sizes = [line.count(" / ") + 1 for line in text.splitlines()[1:-1]]
-        good = status == 0 and max(sizes) <= 64 and sum(sizes) == 16 + 2 * count
+        good = status == 0 and max(sizes) <= 45 and sum(sizes) == 16 + 2 * count
         self.check(good, f"a desk of {count} members is {len(sizes)} groups", sizes)
         self.check(max(map(len, text.splitlines())) <= 4096, "no line is longer than a bridge reads")
         self.check(self.restore(self.addresses()[1], text)[1] == 0, "an empty bridge takes them")
