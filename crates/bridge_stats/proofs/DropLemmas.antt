@@ -6,13 +6,13 @@ use Rattle.ingress.specs.declared.outcome.Outcome.{Outcome}
 use Rattle.ingress.specs.declared.outcome.Outcome.TheVariants.{TooLong, Neither, BadRtp, BadRtcp, Unknown}
 use Rattle.ingress.specs.declared.outcome.Outcome.TheVariants.{BadPayload, Spent, Probation, Accepted, Late}
 use Rattle.ingress.specs.declared.outcome.Outcome.TheVariants.{Duplicate, Jump, Restarted, Rtcp}
-use Rattle.bridge_stats.specs.declared.kind.OutcomeKind.TheVariants as kinds
-use Rattle.bridge_stats.specs.declared.sender.Whom.TheVariants.{Source}
+use Rattle.ingress.specs.declared.outcome_class.Whose.TheVariants.{Source}
+use Rattle.ingress.specs.declared.outcome_kind.OutcomeKind.TheVariants as kinds
+use Rattle.ingress.specs.Outcomes.{outcome_kind, whose, is_accepted}
 use Rattle.bridge_stats.specs.declared.taken.TakenIn.{TakenIn}
 use Rattle.bridge_stats.specs.Counts.{so_many, has_kind}
-use Rattle.bridge_stats.specs.Kinds.{outcome_kind, line_place}
-use Rattle.bridge_stats.specs.Senders.{whose}
-use Rattle.bridge_stats.specs.Sources.{is_accepted, numbers_of}
+use Rattle.bridge_stats.specs.Kinds.{line_place}
+use Rattle.bridge_stats.specs.Sources.{numbers_of}
 
 -- one where the outcome has the place
 abbrev at : Outcome → ℕ → ℕ

@@ -7,7 +7,8 @@ use Rattle.std.proofs.lemmas.List.Sums.{sum_by_push}
 use Rattle.std.proofs.lemmas.Bool.{cases_eq, eq-eqb, ne_eqb}
 use Rattle.std.proofs.Math.ListN.{set}
 use Rattle.bridge_stats.specs.declared.taken.TakenIn.{TakenIn}
-use Rattle.bridge_stats.specs.Kinds.{kinds, outcome_kind, line_place}
+use Rattle.ingress.specs.Outcomes.{outcome_kind}
+use Rattle.bridge_stats.specs.Kinds.{kinds, line_place}
 use Rattle.bridge_stats.specs.Counts.{so_many}
 use Rattle.bridge_stats.specs.inner.Tallies.{AreSums, sum_at}
 

@@ -14,9 +14,10 @@ use Rattle.std.proofs.lemmas.Bool.{eqb-true, eq-eqb}
 use Rattle.rtp_codec.specs.declared.writing.Header.{Header}
 use Rattle.bridge_stats.specs.declared.taken.TakenIn.{TakenIn}
 use Rattle.bridge_stats.specs.declared.sender.Sender.{Sender}
-use Rattle.bridge_stats.specs.declared.sender.Whom.{Whom}
-use Rattle.bridge_stats.specs.declared.sender.Whom.TheVariants.{Nobody, Source, Stranger}
-use Rattle.bridge_stats.specs.Senders.{same_sender, sender_of, whose}
+use Rattle.ingress.specs.declared.outcome_class.Whose.{Whose}
+use Rattle.ingress.specs.declared.outcome_class.Whose.TheVariants.{Nobody, Stranger, Source, Member}
+use Rattle.bridge_stats.specs.Senders.{same_sender, sender_of}
+use Rattle.ingress.specs.Outcomes.{whose}
 use Rattle.bridge_stats.specs.Tables.{TableOf, most_sources, or_none, with_kept, IsKept, IsSourceNoted}
 use Rattle.bridge_stats.specs.Stats.{StatsOf, HasNoted, IsNotedBy, IsNotedApart}
 use Rattle.bridge_stats.specs.Runs.{AreAllNoted, is_source, is_sent_by, is_of}
@@ -184,7 +185,7 @@ of_source t s old new its (inl kept) few none = record {
         ∙ ap (λ (b : Bool). or_none (lookup (same_sender q) old.sources.entries) ++ cond b (t ∷ []) [])
         (sym (its q ∙ other)))
 
-by_whom : (w : Whom) (t : TakenIn) (header : Header) (old new : StatsOf) → whose t.outcome ≡ w → t.header ≡ Some header
+by_whom : (w : Whose) (t : TakenIn) (header : Header) (old new : StatsOf) → whose t.outcome ≡ w → t.header ≡ Some header
     → IsNotedApart w (sender_of t.from header) header.pt t old new → length new.sources.entries < most_sources
     → new.sources.left_out ≡ 0
     → IsStep t old new
@@ -192,19 +193,25 @@ by_whom Nobody t header old new is has noted few none =
     unchanged t old new noted.0
     (λ q.
     ap (λ (h : Option Header). is_sent_by q h t) has
-    ∙ ap (λ (w : Whom). is_source w && same_sender q (sender_of t.from header)) is)
+    ∙ ap (λ (w : Whose). is_source w && same_sender q (sender_of t.from header)) is)
     few none
 by_whom Stranger t header old new is has noted few none =
     unchanged t old new noted.0
     (λ q.
     ap (λ (h : Option Header). is_sent_by q h t) has
-    ∙ ap (λ (w : Whom). is_source w && same_sender q (sender_of t.from header)) is)
+    ∙ ap (λ (w : Whose). is_source w && same_sender q (sender_of t.from header)) is)
+    few none
+by_whom Member t header old new is has noted few none =
+    unchanged t old new noted.0
+    (λ q.
+    ap (λ (h : Option Header). is_sent_by q h t) has
+    ∙ ap (λ (w : Whose). is_source w && same_sender q (sender_of t.from header)) is)
     few none
 by_whom Source t header old new is has noted few none =
     of_source t (sender_of t.from header) old new
     (λ q.
     ap (λ (h : Option Header). is_sent_by q h t) has
-    ∙ ap (λ (w : Whom). is_source w && same_sender q (sender_of t.from header)) is)
+    ∙ ap (λ (w : Whose). is_source w && same_sender q (sender_of t.from header)) is)
     noted.0 few none
 
 by_header : (h : Option Header) (t : TakenIn) (old new : StatsOf) → t.header ≡ h → IsNotedBy h t old new

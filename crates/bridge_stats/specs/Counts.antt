@@ -1,8 +1,9 @@
 -- How many datagrams had an outcome (own).
 use Rattle.std.specs.Prelude.{ℕ, ◌-◌, ◌^◌, min, nat_eq, Bool, if◌then◌else◌, List, count_by, sum_by}
 use Rattle.bridge_stats.specs.declared.taken.TakenIn.{TakenIn}
-use Rattle.bridge_stats.specs.declared.kind.OutcomeKind.{OutcomeKind}
-use Rattle.bridge_stats.specs.Kinds.{outcome_kind, line_place}
+use Rattle.ingress.specs.declared.outcome_kind.OutcomeKind.{OutcomeKind}
+use Rattle.ingress.specs.Outcomes.{outcome_kind}
+use Rattle.bridge_stats.specs.Kinds.{line_place}
 
 -- so many, as far as 64 bits count
 abbrev pub so_many : ℕ → ℕ

@@ -3,7 +3,7 @@ use Rattle.std.specs.Prelude.{ℕ, if◌then◌else◌, List, fold, Option, None
 use Rattle.rtp_codec.specs.declared.writing.Header.{Header}
 use Rattle.bridge_stats.specs.declared.taken.TakenIn.{TakenIn}
 use Rattle.bridge_stats.specs.declared.drops.DropNumbers.{DropNumbers}
-use Rattle.bridge_stats.specs.declared.kind.OutcomeKind.TheVariants.{BadPayload, Spent, Probation, Jump}
+use Rattle.ingress.specs.declared.outcome_kind.OutcomeKind.TheVariants.{BadPayload, Spent, Probation, Jump}
 use Rattle.bridge_stats.specs.Counts.{has_kind, datagrams_with}
 
 -- the payload type of a packet; what has no RTP header has none

@@ -15,9 +15,10 @@ use Rattle.rtcp_codec.specs.Packet.{Packet, Sender as SenderReport, Receiver, Sd
 use Rattle.rtcp_codec.specs.Compound.{IsCompound}
 use Rattle.receiver_feedback.specs.Times.{ntp_of}
 use Rattle.ingress.specs.declared.outcome.Outcome.{Outcome}
-use Rattle.ingress.specs.declared.outcome.Outcome.TheVariants.{TooLong, Neither, BadRtp, BadRtcp, Unknown}
-use Rattle.ingress.specs.declared.outcome.Outcome.TheVariants.{BadPayload, Spent, Probation, Accepted, Late}
-use Rattle.ingress.specs.declared.outcome.Outcome.TheVariants.{Duplicate, Jump, Restarted, Rtcp}
+use Rattle.ingress.specs.declared.outcome_class.Disposition.{Disposition}
+use Rattle.ingress.specs.declared.outcome_class.Disposition.TheVariants.{Dropped, Probation, OnTime, Late, Duplicate}
+use Rattle.ingress.specs.declared.outcome_class.Disposition.TheVariants.{Restarted, Compound}
+use Rattle.ingress.specs.Outcomes.{disposition_of}
 use Rattle.bridge_stats.specs.declared.sender.Sender.{Sender}
 use Rattle.bridge_stats.specs.declared.path.PathReport.{PathReport}
 use Rattle.bridge_stats.specs.Received.{video_rate}
@@ -129,22 +130,19 @@ abbrev pub HasReported : Desk → Address → ℕ → List ℕ → TableOf PathR
 HasReported desk from moment octets old new =
     (packets : List Packet) × IsCompound packets octets × FoldsTo (IsPacketNoted desk from moment) old packets new
 
+-- The blocks of a datagram with this disposition were noted, if it is a compound that was read.
+abbrev pub IsNotedIf : Disposition → Desk → Address → ℕ → List ℕ → TableOf PathReport → TableOf PathReport → Type 0
+IsNotedIf Dropped desk from moment octets old new = new ≡ old
+IsNotedIf Probation desk from moment octets old new = new ≡ old
+IsNotedIf (OnTime ext) desk from moment octets old new = new ≡ old
+IsNotedIf (Late ext) desk from moment octets old new = new ≡ old
+IsNotedIf (Duplicate ext) desk from moment octets old new = new ≡ old
+IsNotedIf (Restarted ext) desk from moment octets old new = new ≡ old
+IsNotedIf (Compound packets) desk from moment octets old new = HasReported desk from moment octets old new
+
 -- The blocks of a datagram with this outcome were noted, if it is a compound from a member.
 abbrev pub AreReported : Desk → Outcome → Address → ℕ → List ℕ → TableOf PathReport → TableOf PathReport → Type 0
-AreReported desk TooLong from moment octets old new = new ≡ old
-AreReported desk Neither from moment octets old new = new ≡ old
-AreReported desk (BadRtp fault) from moment octets old new = new ≡ old
-AreReported desk (BadRtcp fault) from moment octets old new = new ≡ old
-AreReported desk Unknown from moment octets old new = new ≡ old
-AreReported desk BadPayload from moment octets old new = new ≡ old
-AreReported desk Spent from moment octets old new = new ≡ old
-AreReported desk Probation from moment octets old new = new ≡ old
-AreReported desk (Accepted ext) from moment octets old new = new ≡ old
-AreReported desk (Late ext) from moment octets old new = new ≡ old
-AreReported desk (Duplicate ext) from moment octets old new = new ≡ old
-AreReported desk Jump from moment octets old new = new ≡ old
-AreReported desk (Restarted ext) from moment octets old new = new ≡ old
-AreReported desk (Rtcp packets) from moment octets old new = HasReported desk from moment octets old new
+AreReported desk outcome from moment octets old new = IsNotedIf (disposition_of outcome) desk from moment octets old new
 
 -- ---- the parts of a stream's line
 

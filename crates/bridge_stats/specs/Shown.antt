@@ -5,7 +5,7 @@ use Rattle.rtp_codec.specs.declared.address.Address.{Address}
 use Rattle.ingress.specs.inner.Holding.{IngressOf}
 use Rattle.bridge_stats.specs.declared.taken.TakenIn.{TakenIn}
 use Rattle.bridge_stats.specs.declared.sender.Sender.{Sender}
-use Rattle.bridge_stats.specs.declared.kind.OutcomeKind.{OutcomeKind}
+use Rattle.ingress.specs.declared.outcome_kind.OutcomeKind.{OutcomeKind}
 use Rattle.bridge_stats.specs.declared.stranger.StrangerNumbers.{StrangerNumbers}
 use Rattle.bridge_stats.specs.declared.path.PathReport.{PathReport}
 use Rattle.bridge_stats.specs.declared.rows.KindRow.{KindRow}
@@ -19,7 +19,8 @@ use Rattle.bridge_stats.specs.declared.others.Seats.{Seats}
 use Rattle.bridge_stats.specs.declared.others.SocketRow.{SocketRow}
 use Rattle.bridge_stats.specs.declared.others.OthersShown.{OthersShown}
 use Rattle.bridge_stats.specs.declared.shown.StatsShown.{StatsShown}
-use Rattle.bridge_stats.specs.Kinds.{kind_name, all_kinds}
+use Rattle.ingress.specs.OutcomeKinds.{kind_name}
+use Rattle.bridge_stats.specs.Kinds.{all_kinds}
 use Rattle.bridge_stats.specs.Counts.{datagrams_with, octets_with}
 use Rattle.bridge_stats.specs.Sources.{numbers_of}
 use Rattle.bridge_stats.specs.Stats.{StatsOf}

@@ -3,11 +3,12 @@ use Rattle.std.specs.Prelude.{◌≡◌, ℕ, ◌-◌, ◌/◌, List, [], ◌∷
 use Rattle.rtp_codec.specs.declared.writing.Header.{Header}
 use Rattle.bridge_stats.specs.declared.taken.TakenIn.{TakenIn}
 use Rattle.bridge_stats.specs.declared.sender.Sender.{Sender}
-use Rattle.bridge_stats.specs.declared.sender.Whom.{Whom}
-use Rattle.bridge_stats.specs.declared.sender.Whom.TheVariants.{Nobody, Source, Stranger}
+use Rattle.ingress.specs.declared.outcome_class.Whose.{Whose}
+use Rattle.ingress.specs.declared.outcome_class.Whose.TheVariants.{Nobody, Stranger, Source, Member}
 use Rattle.bridge_stats.specs.declared.stranger.StrangerNumbers.{StrangerNumbers}
 use Rattle.bridge_stats.specs.declared.path.PathReport.{PathReport}
-use Rattle.bridge_stats.specs.Senders.{sender_of, whose}
+use Rattle.bridge_stats.specs.Senders.{sender_of}
+use Rattle.ingress.specs.Outcomes.{whose}
 use Rattle.bridge_stats.specs.Tables.{TableOf, IsSourceNoted, IsMet}
 
 -- all that was taken in, oldest first; the datagrams of each source that is kept; senders that are no source; and what
@@ -27,13 +28,14 @@ no_stats = record {
   reports = record { entries = []; left_out = 0 };
 }
 
--- A packet is noted apart: of nobody, of a source, or of a sender that is no source.
-abbrev pub IsNotedApart : Whom → Sender → (pt : ℕ) → TakenIn → StatsOf → StatsOf → Type 0
+-- A packet is noted apart, if it is of a source, or of a sender that is no source.
+abbrev pub IsNotedApart : Whose → Sender → (pt : ℕ) → TakenIn → StatsOf → StatsOf → Type 0
 IsNotedApart Nobody sender pt taken old new = (new.sources ≡ old.sources) × (new.strangers ≡ old.strangers)
 IsNotedApart Source sender pt taken old new =
     IsSourceNoted sender taken old.sources new.sources × (new.strangers ≡ old.strangers)
 IsNotedApart Stranger sender pt taken old new =
     (new.sources ≡ old.sources) × IsMet sender pt old.strangers new.strangers
+IsNotedApart Member sender pt taken old new = (new.sources ≡ old.sources) × (new.strangers ≡ old.strangers)
 
 -- what has no RTP header is nobody's
 abbrev pub IsNotedBy : Option Header → TakenIn → StatsOf → StatsOf → Type 0

@@ -5,9 +5,10 @@ ghost use Rattle.bridge_stats.specs.declared.taken.TakenIn.{TakenIn as TakenOf};
 ghost use Rattle.bridge_stats.specs.Counts.{has_kind};
 ghost use Rattle.bridge_stats.specs.Drops.{type_of, drops_of};
 
-use crate::kind::OutcomeKind;
+use crate::kind::line_place;
 use crate::source_count::more_if;
 use crate::taken::TakenIn;
+use ingress::OutcomeKind;
 use rtp_codec::Header;
 
 /// Why packets of a source were dropped. Each count ends at 2^64 - 1.
@@ -29,7 +30,7 @@ pub struct DropNumbers {
 fn has_kind(taken: &TakenIn, kind: OutcomeKind) -> bool
     ensures { result ≡ has_kind kind taken.now }
 {
-    OutcomeKind::of(&taken.outcome).place() == kind.place()
+    line_place(taken.outcome.class().kind) == line_place(kind)
 }
 
 /// The payload type of a packet.

@@ -2,11 +2,12 @@
 
 ghost use Rattle.std.specs.Prelude.{◌≡◌, ◌<◌, ◌+◌, All, List, length, filter};
 ghost use Rattle.std.specs.Map.{lookup};
+ghost use Rattle.ingress.specs.declared.outcome_class.Whose.TheVariants.{Source};
+ghost use Rattle.ingress.specs.Outcomes.{whose};
 ghost use Rattle.bridge_stats.specs.declared.taken.TakenIn.{TakenIn};
 ghost use Rattle.bridge_stats.specs.declared.sender.Sender.{Sender};
-ghost use Rattle.bridge_stats.specs.declared.sender.Whom.TheVariants.{Source};
 ghost use Rattle.bridge_stats.specs.Counts.{so_many};
-ghost use Rattle.bridge_stats.specs.Senders.{same_sender, whose};
+ghost use Rattle.bridge_stats.specs.Senders.{same_sender};
 ghost use Rattle.bridge_stats.specs.Sources.{numbers_of};
 ghost use Rattle.bridge_stats.specs.Stats.{StatsOf, no_stats};
 ghost use Rattle.bridge_stats.specs.Tables.{most_sources, or_none};

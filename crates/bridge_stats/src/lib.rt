@@ -43,7 +43,6 @@ mod tally;
 mod why;
 
 pub use self::drops::DropNumbers;
-pub use self::kind::OutcomeKind;
 pub use self::laws::{all_are_counted, causes_add_up};
 pub use self::levels::print_levels;
 pub use self::numbers::SourceNumbers;

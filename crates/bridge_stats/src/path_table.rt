@@ -13,7 +13,7 @@ ghost use Rattle.bridge_stats.specs.Noted.{HasReports};
 use crate::path::{PathReport, stream_at};
 use crate::sender::Sender;
 use desk_rows::{Member, Rows};
-use ingress::{Outcome, Received};
+use ingress::{Disposition, Received};
 use lru::LruCache;
 use rtcp_codec::{ReportBlock, Rtcp};
 use rtp_codec::Address;
@@ -194,23 +194,16 @@ impl<A: Allocator + Copy> PathTable<A> {
             → AreReported rows.now received.now.outcome received.now.from received.now.moment octets
             self.old self.new }
     {
-        match received.outcome {
-            Outcome::Rtcp { .. } => {
+        match received.outcome.class().disposition {
+            Disposition::Compound { .. } => {
                 self.note_packets(rows, &received.from, received.moment, &received.packets);
             }
-            Outcome::TooLong
-            | Outcome::Neither
-            | Outcome::BadRtp(_)
-            | Outcome::BadRtcp(_)
-            | Outcome::Unknown
-            | Outcome::BadPayload
-            | Outcome::Spent
-            | Outcome::Probation
-            | Outcome::Accepted { .. }
-            | Outcome::Late { .. }
-            | Outcome::Duplicate { .. }
-            | Outcome::Jump
-            | Outcome::Restarted { .. } => {}
+            Disposition::Dropped
+            | Disposition::Probation
+            | Disposition::OnTime { .. }
+            | Disposition::Late { .. }
+            | Disposition::Duplicate { .. }
+            | Disposition::Restarted { .. } => {}
         }
     }
 }

@@ -5,14 +5,13 @@ ghost use Rattle.bridge_stats.specs.Shown.{sender_address, kind_line, source_lin
 ghost use Rattle.bridge_stats.specs.inner.Growing.{buffer_of, Grows};
 
 use crate::appending::{LineField, append_line, append_longest_line};
-use crate::kind::OutcomeKind;
 use crate::lines::StatLine;
 use crate::numbers::SourceNumbers;
 use crate::received::reception_fields;
 use crate::sender::Sender;
 use crate::stranger::StrangerNumbers;
 use crate::why::why_fields;
-use ingress::Reception;
+use ingress::{OutcomeKind, Reception};
 use rtp_codec::Address;
 use std::alloc::{AllocError, Allocator};
 

@@ -6,7 +6,7 @@ ghost use Rattle.bridge_stats.specs.Kinds.{all_kinds};
 ghost use Rattle.bridge_stats.specs.Shown.{kind_row, source_row, counts_in, TellsReception, stranger_row, IsShown};
 ghost use Rattle.bridge_stats.specs.Stats.{StatsOf};
 
-use crate::kind::OutcomeKind;
+use crate::kind::all_kinds;
 use crate::rows::{KindRow, SourceRow, StrangerRow, sender_address};
 use crate::sender::Sender;
 use crate::shown::StatsShown;
@@ -15,7 +15,7 @@ use crate::source_table::SourceCache;
 use crate::stats::BridgeStats;
 use crate::stranger::StrangerCache;
 use crate::tally::OutcomeTally;
-use ingress::Ingress;
+use ingress::{Ingress, OutcomeKind};
 use std::alloc::{AllocError, Allocator};
 
 /// How many nanoseconds a millisecond has.
@@ -56,7 +56,7 @@ fn show_kinds(tally: &OutcomeTally, out: &mut Vec<KindRow>) -> Result<(), AllocE
     ensures { OnOk result (out.new.items ≡ map (kind_row tally.now) all_kinds) }
 {
     out.clear();
-    let kinds = OutcomeKind::all();
+    let kinds = all_kinds();
     for kind in kinds {
         out.push(kind_row(tally, *kind))?;
     }

@@ -2,7 +2,7 @@
 
 ghost use Rattle.std.specs.Prelude.{◌≡◌, ◌+◌, ◌∷◌, ◌++◌, [], cond, not};
 ghost use Rattle.bridge_stats.specs.Counts.{so_many};
-ghost use Rattle.bridge_stats.specs.Sources.{is_accepted, is_late, is_duplicate, numbers_of};
+ghost use Rattle.bridge_stats.specs.Sources.{numbers_of};
 
 use crate::drops::DropNumbers;
 use crate::numbers::SourceNumbers;
@@ -10,74 +10,7 @@ use crate::silence::silent_after;
 use crate::stretch::Stretch;
 use crate::taken::TakenIn;
 use crate::taken_log::TakenLog;
-use ingress::Outcome;
 use std::marker::Model;
-
-/// Whether a packet with this outcome counts for its source.
-fn is_accepted(outcome: &Outcome) -> bool
-    ensures { result ≡ is_accepted outcome.now }
-{
-    match outcome {
-        Outcome::Accepted { .. }
-        | Outcome::Late { .. }
-        | Outcome::Duplicate { .. }
-        | Outcome::Restarted { .. } => true,
-        Outcome::TooLong
-        | Outcome::Neither
-        | Outcome::BadRtp(_)
-        | Outcome::BadRtcp(_)
-        | Outcome::Unknown
-        | Outcome::BadPayload
-        | Outcome::Spent
-        | Outcome::Probation
-        | Outcome::Jump
-        | Outcome::Rtcp { .. } => false,
-    }
-}
-
-/// Whether it came too late.
-fn is_late(outcome: &Outcome) -> bool
-    ensures { result ≡ is_late outcome.now }
-{
-    match outcome {
-        Outcome::Late { .. } => true,
-        Outcome::TooLong
-        | Outcome::Neither
-        | Outcome::BadRtp(_)
-        | Outcome::BadRtcp(_)
-        | Outcome::Unknown
-        | Outcome::BadPayload
-        | Outcome::Spent
-        | Outcome::Probation
-        | Outcome::Accepted { .. }
-        | Outcome::Duplicate { .. }
-        | Outcome::Jump
-        | Outcome::Restarted { .. }
-        | Outcome::Rtcp { .. } => false,
-    }
-}
-
-/// Whether its number had come.
-fn is_duplicate(outcome: &Outcome) -> bool
-    ensures { result ≡ is_duplicate outcome.now }
-{
-    match outcome {
-        Outcome::Duplicate { .. } => true,
-        Outcome::TooLong
-        | Outcome::Neither
-        | Outcome::BadRtp(_)
-        | Outcome::BadRtcp(_)
-        | Outcome::Unknown
-        | Outcome::BadPayload
-        | Outcome::Spent
-        | Outcome::Probation
-        | Outcome::Accepted { .. }
-        | Outcome::Late { .. }
-        | Outcome::Jump
-        | Outcome::Restarted { .. }
-        | Outcome::Rtcp { .. } => false,
-    }
-}
 
 /// As much more, if this is so.
 pub(crate) fn more_if(count: u64, is_so: bool, more: u64) -> u64
@@ -149,11 +82,11 @@ impl SourceCount {
     pub(crate) fn note(&mut self, taken: &TakenIn)
         ensures { self.new ≡ self.old ++ taken.now ∷ [] }
     {
-        let accepted = is_accepted(&taken.outcome);
+        let accepted = taken.outcome.is_accepted();
         self.packets = more_if(self.packets, accepted, 1);
         self.octets = more_if(self.octets, accepted, taken.octets);
-        self.late = more_if(self.late, is_late(&taken.outcome), 1);
-        self.duplicates = more_if(self.duplicates, is_duplicate(&taken.outcome), 1);
+        self.late = more_if(self.late, taken.outcome.is_late(), 1);
+        self.duplicates = more_if(self.duplicates, taken.outcome.is_duplicate(), 1);
         self.dropped = more_if(self.dropped, !accepted, 1);
         self.last = taken.moment;
         self.samples = self.samples.saturating_add(taken.sound.samples);

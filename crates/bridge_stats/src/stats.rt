@@ -10,13 +10,13 @@ ghost use Rattle.bridge_stats.specs.Noted.{taken_of, HasReports};
 
 use crate::path::PathReport;
 use crate::path_table::PathTable;
-use crate::sender::{Whom, sender_of, whose};
+use crate::sender::sender_of;
 use crate::source_table::SourceTable;
 use crate::stranger::Strangers;
 use crate::taken::TakenIn;
 use crate::tally::OutcomeTally;
 use desk_rows::Rows;
-use ingress::Received;
+use ingress::{Received, Whose};
 use rtp_codec::Address;
 use std::alloc::{AllocError, Allocator, Global};
 use std::marker::Model;
@@ -82,10 +82,10 @@ impl<A: Allocator + Copy> BridgeStats<A> {
             return;
         };
         let sender = sender_of(&taken.from, &header);
-        match whose(&taken.outcome) {
-            Whom::Nobody => {}
-            Whom::Source => self.sources.note(sender, &taken),
-            Whom::Stranger => self.strangers.note(sender, header.pt),
+        match taken.outcome.class().whose {
+            Whose::Nobody | Whose::Member => {}
+            Whose::Source => self.sources.note(sender, &taken),
+            Whose::Stranger => self.strangers.note(sender, header.pt),
         }
     }
 

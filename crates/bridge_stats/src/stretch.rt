@@ -5,7 +5,7 @@ ghost use Rattle.bridge_stats.specs.Counts.{so_many};
 ghost use Rattle.bridge_stats.specs.Sources.{expected_of, numbers_after};
 ghost use Rattle.bridge_stats.specs.inner.Kept.{IsStretch};
 
-use ingress::Outcome;
+use ingress::{Disposition, Outcome};
 
 /// What is kept of the extended numbers of a source since it was initialised.
 #[derive(Clone, Copy)]
@@ -48,21 +48,13 @@ impl Stretch {
     pub(crate) fn after(old: Option<Stretch>, outcome: &Outcome) -> Option<Stretch>
         ensures { (numbers : List ℤ) → IsStretch old numbers → IsStretch result (numbers_after numbers outcome.now) }
     {
-        match *outcome {
-            Outcome::Accepted { ext } => Some(Stretch::more(old, ext)),
-            Outcome::Late { ext } => Some(Stretch::more(old, ext)),
-            Outcome::Duplicate { ext } => Some(Stretch::more(old, ext)),
-            Outcome::Restarted { ext } => Some(Stretch::begun(ext)),
-            Outcome::Probation => None,
-            Outcome::TooLong
-            | Outcome::Neither
-            | Outcome::BadRtp(_)
-            | Outcome::BadRtcp(_)
-            | Outcome::Unknown
-            | Outcome::BadPayload
-            | Outcome::Spent
-            | Outcome::Jump
-            | Outcome::Rtcp { .. } => old,
+        match outcome.class().disposition {
+            Disposition::OnTime { ext } => Some(Stretch::more(old, ext)),
+            Disposition::Late { ext } => Some(Stretch::more(old, ext)),
+            Disposition::Duplicate { ext } => Some(Stretch::more(old, ext)),
+            Disposition::Restarted { ext } => Some(Stretch::begun(ext)),
+            Disposition::Probation => None,
+            Disposition::Dropped | Disposition::Compound { .. } => old,
         }
     }
 

@@ -3,9 +3,10 @@
 ghost use Rattle.std.specs.Prelude.{◌≡◌, [], ◌∷◌, ◌++◌};
 ghost use Rattle.bridge_stats.specs.Counts.{datagrams_with, octets_with};
 
-use crate::kind::{KINDS, OutcomeKind};
+use crate::kind::{KINDS, line_place};
 use crate::taken::TakenIn;
 use crate::taken_log::TakenLog;
+use ingress::OutcomeKind;
 use std::marker::Model;
 
 /// How many datagrams had each outcome, and how many octets these had. Each count ends at 2^64 - 1.
@@ -50,7 +51,7 @@ impl OutcomeTally {
     pub fn note(&mut self, taken: &TakenIn)
         ensures { self.new ≡ self.old ++ taken.now ∷ [] }
     {
-        let place = OutcomeKind::of(&taken.outcome).place();
+        let place = line_place(taken.outcome.class().kind);
         self.datagrams[place] = self.datagrams[place].saturating_add(1);
         self.octets[place] = self.octets[place].saturating_add(taken.octets);
         self.log.note(taken);
@@ -60,13 +61,13 @@ impl OutcomeTally {
     pub fn datagrams(&self, kind: OutcomeKind) -> u64
         ensures { result ≡ datagrams_with kind self.now }
     {
-        self.datagrams[kind.place()]
+        self.datagrams[line_place(kind)]
     }
 
     /// How many octets these had.
     pub fn octets(&self, kind: OutcomeKind) -> u64
         ensures { result ≡ octets_with kind self.now }
     {
-        self.octets[kind.place()]
+        self.octets[line_place(kind)]
     }
 }

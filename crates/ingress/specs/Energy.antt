@@ -11,9 +11,10 @@ use Rattle.desk_rows.specs.declared.row.Media.TheVariants.{Audio, Video}
 use Rattle.desk_rows.specs.declared.row.Source.{Source}
 use Rattle.topology.specs.Looking.{source_from}
 use Rattle.ingress.specs.declared.outcome.Outcome.{Outcome}
-use Rattle.ingress.specs.declared.outcome.Outcome.TheVariants.{TooLong, Neither, BadRtp, BadRtcp, Unknown}
-use Rattle.ingress.specs.declared.outcome.Outcome.TheVariants.{BadPayload, Spent, Probation, Accepted, Late}
-use Rattle.ingress.specs.declared.outcome.Outcome.TheVariants.{Duplicate, Jump, Restarted, Rtcp}
+use Rattle.ingress.specs.declared.outcome_class.Disposition.{Disposition}
+use Rattle.ingress.specs.declared.outcome_class.Disposition.TheVariants.{Dropped, Probation, OnTime, Late, Duplicate}
+use Rattle.ingress.specs.declared.outcome_class.Disposition.TheVariants.{Restarted, Compound}
+use Rattle.ingress.specs.Outcomes.{disposition_of}
 use Rattle.ingress.specs.declared.sound_count.SoundCount.{SoundCount}
 use Rattle.ingress.specs.Readings.{Reading, too_long, neither, no_packet, packet, no_compound, compound}
 use Rattle.ingress.specs.Media.{audio_format, samples_of_packet}
@@ -35,22 +36,19 @@ count_of_samples samples = record { samples = length samples; energy = energy_of
 abbrev pub no_sound : SoundCount
 no_sound = record { samples = 0; energy = 0 }
 
--- Sound with this outcome is heard: it is accepted. Sound has no gate, so that none of it is late or a duplicate.
+-- Sound with this disposition is heard: it is accepted. Sound has no gate, so that none of it is late or a duplicate.
+abbrev pub sounds_by : Disposition → Bool
+sounds_by Dropped = false
+sounds_by Probation = false
+sounds_by (OnTime ext) = true
+sounds_by (Late ext) = false
+sounds_by (Duplicate ext) = false
+sounds_by (Restarted ext) = true
+sounds_by (Compound packets) = false
+
+-- sound with this outcome is heard
 abbrev pub is_heard : Outcome → Bool
-is_heard TooLong = false
-is_heard Neither = false
-is_heard (BadRtp fault) = false
-is_heard (BadRtcp fault) = false
-is_heard Unknown = false
-is_heard BadPayload = false
-is_heard Spent = false
-is_heard Probation = false
-is_heard (Accepted ext) = true
-is_heard (Late ext) = false
-is_heard (Duplicate ext) = false
-is_heard Jump = false
-is_heard (Restarted ext) = true
-is_heard (Rtcp packets) = false
+is_heard outcome = sounds_by (disposition_of outcome)
 
 -- the samples of a payload of this format, and none where it has no format
 abbrev pub samples_in : Option Format → List ℕ → List ℤ

@@ -1,4 +1,6 @@
 pub mod Names
+pub mod OutcomeKinds
+pub mod Outcomes
 pub mod Readings
 pub mod Stories
 pub mod Sources

@@ -1,8 +1,9 @@
 //! The receive side. It takes in each datagram from the wire, and returns its outcome, the items for the lanes, and the
 //! datagrams that ask its sender for something.
 //!
-//! Begin with [`Ingress::new`], then [`Ingress::datagram`], [`Ingress::wait`] and [`Ingress::reports`]. A contract sees
-//! the sources that the receive side knows, as a function of the datagrams, waits and reports so far.
+//! Begin with [`Ingress::new`], then [`Ingress::datagram`], [`Ingress::wait`] and [`Ingress::reports`]. What an outcome
+//! says of its datagram is its row in a table, [`Outcome::class`]. A contract sees the sources that the receive side
+//! knows, as a function of the datagrams, waits and reports so far.
 //!
 //! ```rust
 //! let settings = Settings { bridge_ssrc: 1, cname: Bytes::from_static(b"bridge") };
@@ -28,6 +29,8 @@ mod laws;
 mod media;
 mod media_packet;
 mod outcome;
+mod outcome_class;
+mod outcome_kind;
 mod payloads;
 mod received;
 mod reception;
@@ -47,6 +50,8 @@ pub use self::laws::{
     voices_are_there, waits_leave_others_alone,
 };
 pub use self::outcome::Outcome;
+pub use self::outcome_class::{Disposition, OutcomeClass, Whose};
+pub use self::outcome_kind::OutcomeKind;
 pub use self::received::Received;
 pub use self::reception::Reception;
 pub use self::settings::Settings;

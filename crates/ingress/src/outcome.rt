@@ -1,5 +1,12 @@
-//! The outcome of a datagram.
+//! The outcome of a datagram, and the table of outcomes.
 
+ghost use Rattle.std.specs.Prelude.{◌≡◌};
+ghost use Rattle.ingress.specs.Outcomes.{outcome_class, is_accepted, is_on_time, is_late, is_duplicate};
+
+use crate::outcome_class::{
+    Disposition, OutcomeClass, from_member, from_nobody, from_source, from_stranger,
+};
+use crate::outcome_kind::{OutcomeKind as Kind, rtcp_kind, rtp_kind};
 use rtcp_codec::RtcpFault;
 use rtp_codec::RtpFault;
 
@@ -51,4 +58,91 @@ pub enum Outcome {
         /// The number of its packets, at least 1.
         packets: usize,
     },
+}
+
+impl Outcome {
+    /// Its row in the table of outcomes. All that is asked of an outcome is a column of this table.
+    #[inline(always)]
+    pub fn class(&self) -> OutcomeClass
+        ensures { result ≡ outcome_class self.now }
+    {
+        match *self {
+            Self::TooLong => from_nobody(Kind::TooLong),
+            Self::Neither => from_nobody(Kind::Neither),
+            Self::BadRtp(fault) => from_nobody(rtp_kind(fault)),
+            Self::BadRtcp(fault) => from_nobody(rtcp_kind(fault)),
+            Self::Unknown => from_stranger(Kind::Unknown),
+            Self::BadPayload => from_source(Kind::BadPayload, Disposition::Dropped),
+            Self::Spent => from_source(Kind::Spent, Disposition::Dropped),
+            Self::Probation => from_source(Kind::Probation, Disposition::Probation),
+            Self::Accepted { ext } => from_source(Kind::Accepted, Disposition::OnTime { ext }),
+            Self::Late { ext } => from_source(Kind::Late, Disposition::Late { ext }),
+            Self::Duplicate { ext } => from_source(Kind::Duplicate, Disposition::Duplicate { ext }),
+            Self::Jump => from_source(Kind::Jump, Disposition::Dropped),
+            Self::Restarted { ext } => from_source(Kind::Restarted, Disposition::Restarted { ext }),
+            Self::Rtcp { packets } => from_member(Kind::Rtcp, Disposition::Compound { packets }),
+        }
+    }
+
+    /// Whether its packet counts for its source.
+    #[inline(always)]
+    pub fn is_accepted(&self) -> bool
+        ensures { result ≡ is_accepted self.now }
+    {
+        match self.class().disposition {
+            Disposition::OnTime { .. }
+            | Disposition::Late { .. }
+            | Disposition::Duplicate { .. }
+            | Disposition::Restarted { .. } => true,
+            Disposition::Dropped | Disposition::Probation | Disposition::Compound { .. } => false,
+        }
+    }
+
+    /// Whether its packet counts, is neither late nor a duplicate, and its source goes on with it.
+    #[inline(always)]
+    pub fn is_on_time(&self) -> bool
+        ensures { result ≡ is_on_time self.now }
+    {
+        match self.class().disposition {
+            Disposition::OnTime { .. } => true,
+            Disposition::Dropped
+            | Disposition::Probation
+            | Disposition::Late { .. }
+            | Disposition::Duplicate { .. }
+            | Disposition::Restarted { .. }
+            | Disposition::Compound { .. } => false,
+        }
+    }
+
+    /// Whether its packet came too late.
+    #[inline(always)]
+    pub fn is_late(&self) -> bool
+        ensures { result ≡ is_late self.now }
+    {
+        match self.class().disposition {
+            Disposition::Late { .. } => true,
+            Disposition::Dropped
+            | Disposition::Probation
+            | Disposition::OnTime { .. }
+            | Disposition::Duplicate { .. }
+            | Disposition::Restarted { .. }
+            | Disposition::Compound { .. } => false,
+        }
+    }
+
+    /// Whether its packet repeats a number.
+    #[inline(always)]
+    pub fn is_duplicate(&self) -> bool
+        ensures { result ≡ is_duplicate self.now }
+    {
+        match self.class().disposition {
+            Disposition::Duplicate { .. } => true,
+            Disposition::Dropped
+            | Disposition::Probation
+            | Disposition::OnTime { .. }
+            | Disposition::Late { .. }
+            | Disposition::Restarted { .. }
+            | Disposition::Compound { .. } => false,
+        }
+    }
 }

@@ -1,6 +1,6 @@
 -- The video source whose probation a datagram ended (RFC 3550 section A.1; that its sender is asked for a picture is
 -- own).
-use Rattle.std.specs.Prelude.{◌≡◌, ℕ, Bool, true, false, ◌&&◌, nat_lt, if◌then◌else◌, List, Option, None, Some}
+use Rattle.std.specs.Prelude.{◌≡◌, ℕ, Bool, ◌&&◌, nat_lt, if◌then◌else◌, List, Option, None, Some}
 use Rattle.std.specs.Option.{option_and_then}
 use Rattle.rtp_codec.specs.declared.address.Address.{Address}
 use Rattle.desk_rows.specs.declared.row.Source.{Source}
@@ -10,9 +10,7 @@ use Rattle.desk_rows.specs.Desk.{Desk}
 use Rattle.topology.specs.Looking.{source_from}
 use Rattle.ingress.specs.Readings.{Reading, IsReading, too_long, neither, no_packet, packet, no_compound, compound}
 use Rattle.ingress.specs.declared.outcome.Outcome.{Outcome}
-use Rattle.ingress.specs.declared.outcome.Outcome.TheVariants.{TooLong, Neither, BadRtp, BadRtcp, Unknown, BadPayload}
-use Rattle.ingress.specs.declared.outcome.Outcome.TheVariants.{Spent, Probation, Accepted, Late, Duplicate, Jump}
-use Rattle.ingress.specs.declared.outcome.Outcome.TheVariants.{Restarted, Rtcp}
+use Rattle.ingress.specs.Outcomes.{is_on_time}
 use Rattle.ingress.specs.inner.Holding.{IngressOf}
 use Rattle.media_front.specs.Fronts.{Arrival}
 
@@ -29,26 +27,9 @@ video_in desk from (no_packet fault) = None
 video_in desk from (no_compound fault) = None
 video_in desk from (compound packets) = None
 
--- whether a datagram was accepted, and neither late nor a duplicate nor what its source restarted with
-abbrev pub is_accepted : Outcome → Bool
-is_accepted (Accepted ext) = true
-is_accepted TooLong = false
-is_accepted Neither = false
-is_accepted (BadRtp fault) = false
-is_accepted (BadRtcp fault) = false
-is_accepted Unknown = false
-is_accepted BadPayload = false
-is_accepted Spent = false
-is_accepted Probation = false
-is_accepted (Late ext) = false
-is_accepted (Duplicate ext) = false
-is_accepted Jump = false
-is_accepted (Restarted ext) = false
-is_accepted (Rtcp packets) = false
-
--- whether a datagram ended a probation: it was accepted, and began an epoch
+-- whether a datagram ended a probation: it was accepted on time, and began an epoch
 abbrev pub ends_probation : Outcome → (before after : ℕ) → Bool
-ends_probation outcome before after = is_accepted outcome && nat_lt before after
+ends_probation outcome before after = is_on_time outcome && nat_lt before after
 
 -- The datagram ended the probation of the video source of this SSRC, or of none.
 abbrev pub EndsProbation : Arrival → Outcome → (old new : IngressOf) → Option ℕ → Type 0

@@ -1,10 +1,11 @@
 //! Video sources that are accepted for the first time.
 
 ghost use Rattle.std.specs.Prelude.{◌≡◌, ◌&&◌, option_and_then};
+ghost use Rattle.ingress.specs.Outcomes.{is_on_time};
 ghost use Rattle.ingress.specs.Received.{IsReceived};
 ghost use Rattle.ingress.specs.inner.Holding.{IngressOf};
 ghost use Rattle.media_front.specs.Fronts.{Arrival};
-ghost use Rattle.media_front.specs.Probations.{video_ssrc, is_accepted, EndsProbation};
+ghost use Rattle.media_front.specs.Probations.{video_ssrc, EndsProbation};
 
 use bridge_core::{Outcome, Received};
 use desk_rows::{Media, Source};
@@ -32,24 +33,9 @@ fn video_in(row: Option<Source>) -> Option<u32>
 
 /// Whether a datagram with this outcome ended a probation. `begins`: whether an epoch began with it.
 fn ends_probation(outcome: Outcome, begins: bool) -> bool
-    ensures { result ≡ (is_accepted outcome && begins) }
+    ensures { result ≡ (is_on_time outcome && begins) }
 {
-    match outcome {
-        Outcome::Accepted { .. } => begins,
-        Outcome::TooLong
-        | Outcome::Neither
-        | Outcome::BadRtp(_)
-        | Outcome::BadRtcp(_)
-        | Outcome::Unknown
-        | Outcome::BadPayload
-        | Outcome::Spent
-        | Outcome::Probation
-        | Outcome::Late { .. }
-        | Outcome::Duplicate { .. }
-        | Outcome::Jump
-        | Outcome::Restarted { .. }
-        | Outcome::Rtcp { .. } => false,
-    }
+    outcome.is_on_time() && begins
 }
 
 /// The SSRC of the video source whose probation a datagram ended, if it ended one (RFC 3550 section A.1).

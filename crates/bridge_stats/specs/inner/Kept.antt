@@ -2,13 +2,14 @@
 use Rattle.std.specs.Prelude.{◌≡◌, ℕ, not, if◌then◌else◌, List, [], ◌∷◌, length, count_by, sum_by, fold, Option, None}
 use Rattle.std.specs.Prelude.{Some, ℤ}
 use Rattle.std.specs.Int.{int_max}
+use Rattle.ingress.specs.Outcomes.{is_accepted, is_late, is_duplicate}
 use Rattle.bridge_stats.specs.declared.taken.TakenIn.{TakenIn}
 use Rattle.bridge_stats.specs.declared.drops.DropNumbers.{DropNumbers}
 use Rattle.bridge_stats.specs.declared.stretch.Stretch.{Stretch}
 use Rattle.bridge_stats.specs.Counts.{so_many}
 use Rattle.bridge_stats.specs.Drops.{drops_of}
 use Rattle.bridge_stats.specs.Silence.{silent_in}
-use Rattle.bridge_stats.specs.Sources.{is_accepted, is_late, is_duplicate, numbers_in, last_moment}
+use Rattle.bridge_stats.specs.Sources.{numbers_in, last_moment}
 
 -- what is kept of these numbers
 abbrev pub IsStretch : Option Stretch → List ℤ → Type 0

@@ -1,7 +1,8 @@
 -- What is kept of each kind, by its place.
 use Rattle.std.specs.Prelude.{◌≡◌, ℕ, ◌<◌, nat_eq, if◌then◌else◌, List, length, slice_index, sum_by}
 use Rattle.bridge_stats.specs.declared.taken.TakenIn.{TakenIn}
-use Rattle.bridge_stats.specs.Kinds.{kinds, outcome_kind, line_place}
+use Rattle.ingress.specs.Outcomes.{outcome_kind}
+use Rattle.bridge_stats.specs.Kinds.{kinds, line_place}
 use Rattle.bridge_stats.specs.Counts.{so_many}
 
 -- what those whose kind has this place come to

@@ -1,4 +1,5 @@
 use Rattle.std.proofs.Common.{◌≡◌, ◌∙◌, ◌∷◌, ◌++◌, [], List, sym, ap, subst}
+use Rattle.ingress.specs.declared.outcome_class.OutcomeClass.{OutcomeClass}
 use Rattle.bridge_stats.specs.declared.taken.TakenIn.{TakenIn}
 use Rattle.bridge_stats.specs.Kinds.{line_place}
 use Rattle.bridge_stats.specs.Logs.{taken_list}
@@ -11,9 +12,10 @@ invariant_of-self c =
     let here = c.self.inside in
     let t = c.args.taken.now in
     let all = taken_list here.log in
-    let place = c.place-place.result in
-    let at = c.place-place.ensures.place ∙ ap line_place c.of.ensures in
-    let few = c.place-place.ensures.few in (
+    let place = c.line_place-place.result in
+    let at =
+    c.line_place-place.ensures.place ∙ ap (λ (class : OutcomeClass). line_place class.kind) c.class.ensures in
+    let few = c.line_place-place.ensures.few in (
       subst (AreSums one _) (sym c.note.ensures)
           (sums_more one here.datagrams all t place c.saturating_add.result at few c.saturating_add.ensures
           c.self.invariant.0),
