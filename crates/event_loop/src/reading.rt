@@ -38,7 +38,7 @@ impl<N: PublisherName, P: Pace, S: Sink, I: Inlet, W: Wire, C: Watch> Rounds<N, 
         ensures { (turns : List Turn) × HaveDone turns self.old.state self.new.state
             × IfOk result (λ more. IsReadOnce (IsTaken rows.now) more turns) }
     {
-        match self.state.take(self.alloc, rows, &mut self.chunk)? {
+        match self.state.take_next(self.alloc, rows, &mut self.chunk)? {
             ReadTurn::Nothing => Ok(false),
             ReadTurn::Other => Ok(true),
             ReadTurn::Datagram {

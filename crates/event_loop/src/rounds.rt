@@ -95,7 +95,7 @@ impl<N: PublisherName, P: Pace, S: Sink, I: Inlet, W: Wire, C: Watch> Rounds<N, 
             × OnOk result.1 (IsRound notice (Some reader) (Some result.0) turns) }
     {
         self.state.owe(notice);
-        let (reader, taken) = self.take_in(reader);
+        let (reader, taken) = self.take_by_entry(reader);
         let woken = self.wake(rt);
         match taken {
             Ok(()) => (reader, woken),
@@ -104,13 +104,13 @@ impl<N: PublisherName, P: Pace, S: Sink, I: Inlet, W: Wire, C: Watch> Rounds<N, 
     }
 
     /// Takes in what has come and what is due by one entry into the published desk. Gives the reader back.
-    fn take_in(&mut self, reader: LaneReader) -> (LaneReader, Result<(), FrontFault>)
+    fn take_by_entry(&mut self, reader: LaneReader) -> (LaneReader, Result<(), FrontFault>)
         ensures { (turns : List Turn) × HaveDone turns self.old.state self.new.state
             × OnOk result.1 (IsTakenIn (Some reader) (Some result.0) turns) }
     {
         match reader.enter() {
             Ok(entered) => {
-                let done = self.take(entered.version(), entered.rows());
+                let done = self.take_waiting(entered.version(), entered.rows());
                 (entered.leave(), done)
             }
             Err(reader) => (reader, self.pass()),
@@ -128,12 +128,12 @@ impl<N: PublisherName, P: Pace, S: Sink, I: Inlet, W: Wire, C: Watch> Rounds<N, 
     }
 
     /// Takes in the datagrams that wait, and what is due.
-    fn take(&mut self, version: u64, rows: &Rows) -> Result<(), FrontFault>
+    fn take_waiting(&mut self, version: u64, rows: &Rows) -> Result<(), FrontFault>
         ensures { (turns : List Turn) × HaveDone turns self.old.state self.new.state
             × OnOk result (IsTaking rows.now turns) }
     {
         self.has_members = !rows.members().is_empty();
-        self.trace.begin_round(version);
+        self.trace.set_version(version);
         self.take_datagrams(rows)?;
         let now = self.state.look()?;
         self.take_due(version, rows, now)

@@ -147,7 +147,7 @@ impl<N: PublisherName, P: Pace, S: Sink, I: Inlet, W: Wire, C: Watch> FrontState
     }
 
     /// Reads the next datagram into a chunk, takes it in and counts it.
-    pub(crate) fn take(
+    pub(crate) fn take_next(
         &mut self,
         alloc: Global,
         rows: &Rows,

@@ -94,13 +94,13 @@ impl<N: PublisherName, P: Pace, S: Sink, I: Inlet, W: Wire, C: Watch> Rounds<N, 
             (record { address = member_address source.now; ssrc = source.now.ssrc }) sent ∷ [])) }
     {
         let sent = self.state.ask_picture(self.alloc, source)?;
-        self.note(source, now, sent);
+        self.note_asked(source, now, sent);
         self.trace.tell_picture(sent, source);
         Ok(())
     }
 
     /// Notes that a source was asked at this moment, if it was.
-    fn note(&mut self, source: &VideoSource, now: u64, sent: bool)
+    fn note_asked(&mut self, source: &VideoSource, now: u64, sent: bool)
         ensures { self.new ≡ record self.old { pictures = self.new.pictures } }
     {
         if sent {

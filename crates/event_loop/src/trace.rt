@@ -109,8 +109,8 @@ impl FrontTrace {
         self.sender.is_on()
     }
 
-    /// Begins a round at this version of the desk.
-    pub(crate) fn begin_round(&mut self, version: u64)
+    /// The rounds from here on are of this version of the desk.
+    pub(crate) fn set_version(&mut self, version: u64)
         ensures { self.new ≡ record self.old { version = version } }
     {
         self.version = version;

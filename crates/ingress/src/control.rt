@@ -60,7 +60,7 @@ impl<A: Allocator + Copy> Ingress<A> {
         ensures asker { self.new.asker ≡ self.old.asker }
     {
         let items = asked_items(alloc, from, packets)?;
-        self.known.note_all(from, moment, packets);
+        self.known.hear_all(from, moment, packets);
         Ok(Effect {
             outcome: Outcome::Rtcp {
                 packets: packets.len(),

@@ -151,7 +151,7 @@ impl<A: Allocator + Copy> Known<A> {
     }
 
     /// Notes a sender report, if its source is known and past probation. The order of use stays.
-    fn note(&mut self, from: &Address, ssrc: u32, ntp: u64, moment: u64)
+    fn hear_report(&mut self, from: &Address, ssrc: u32, ntp: u64, moment: u64)
         ensures { (known : List KnownOf) → Holds self.old known
             → Holds self.new
             (retold (record { address = from.now; ssrc = ssrc })
@@ -189,12 +189,12 @@ impl<A: Allocator + Copy> Known<A> {
     }
 
     /// Notes a packet, if it is a sender report.
-    fn note_one(&mut self, from: &Address, moment: u64, packet: &Rtcp<A>)
+    fn hear_packet(&mut self, from: &Address, moment: u64, packet: &Rtcp<A>)
         ensures { (known : List KnownOf) → Holds self.old known
             → Holds self.new (noted from.now moment known (packet_of packet.now)) }
     {
         match packet {
-            Rtcp::Sender(report) => self.note(from, report.ssrc, report.ntp, moment),
+            Rtcp::Sender(report) => self.hear_report(from, report.ssrc, report.ntp, moment),
             Rtcp::Receiver(_)
             | Rtcp::Sdes(_)
             | Rtcp::Bye(_)
@@ -206,12 +206,12 @@ impl<A: Allocator + Copy> Known<A> {
     }
 
     /// Notes the sender reports of a compound.
-    pub(crate) fn note_all(&mut self, from: &Address, moment: u64, packets: &[Rtcp<A>])
+    pub(crate) fn hear_all(&mut self, from: &Address, moment: u64, packets: &[Rtcp<A>])
         ensures { (known : List KnownOf) → Holds self.old known
             → Holds self.new (noted_all from.now moment known (packets_of packets.now)) }
     {
         for packet in packets {
-            self.note_one(from, moment, packet);
+            self.hear_packet(from, moment, packet);
         }
     }
 }

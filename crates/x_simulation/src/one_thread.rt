@@ -172,7 +172,7 @@ impl OneThread {
             let Some(moment) = moments.next() else {
                 return Err(Difference::Round);
             };
-            self.take_in(datagram, *moment)?;
+            self.datagram(datagram, *moment)?;
         }
         let Some(now) = moments.next() else {
             return Err(Difference::Round);

@@ -27,7 +27,7 @@ fn is_from_member(outcome: Outcome) -> bool {
 
 impl OneThread {
     /// Takes in a datagram.
-    pub fn take_in(&mut self, datagram: &Datagram, moment: u64) -> Result<(), AllocError> {
+    pub fn datagram(&mut self, datagram: &Datagram, moment: u64) -> Result<(), AllocError> {
         if moment.saturating_sub(self.ticked) > STOOD_STILL {
             self.tick(moment)?;
         }

@@ -13,7 +13,7 @@ returns g c =
     let turn : Turn = asked_picture o sent in (
       turn ∷ [],
       subst (λ (h : History g.row.P.Denot g.row.S.Denot). HaveDone (turn ∷ []) c.args.self.now.state h)
-          (sym (ap (λ s. s.state) c.note.ensures))
+          (sym (ap (λ s. s.state) c.note_asked.ensures))
           (done_one turn c.args.self.now.state c.ask_picture.new.self c.in_ok-sent.ensures.ok),
       (tt, tt),
       (sent, refl),

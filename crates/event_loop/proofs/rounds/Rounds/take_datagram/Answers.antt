@@ -10,12 +10,12 @@ use Rattle.event_loop.proofs.rounds.Rounds.take_datagram.Goals as goal
 
 pub returns-in-Nothing : goal.returns-in-Nothing
 returns-in-Nothing g c =
-    let t = c.in_ok-take.ensures.done in
+    let t = c.in_ok-take_next.ensures.done in
     (t.0, t.1, subst (λ (k : ReadTurn). IsTakenBy c.args.rows.now k t.0) c.in-Nothing.is t.2)
 
 pub returns-in-Other : goal.returns-in-Other
 returns-in-Other g c =
-    let t = c.in_ok-take.ensures.done in (
+    let t = c.in_ok-take_next.ensures.done in (
       t.0,
       t.1,
       inr (subst (λ (k : ReadTurn). IsTakenBy c.args.rows.now k t.0) c.in-Other.is t.2),
@@ -23,7 +23,7 @@ returns-in-Other g c =
 
 pub returns-in_err-ask_first-in-Datagram : goal.returns-in_err-ask_first-in-Datagram
 returns-in_err-ask_first-in-Datagram g c =
-    let t = c.in_ok-take.ensures.done in
+    let t = c.in_ok-take_next.ensures.done in
     let e = c.ask_first.ensures in (
       t.0 ++ e.0,
       done_both t.0 e.0 _ _ _ t.1 e.1,
@@ -33,7 +33,7 @@ returns-in_err-ask_first-in-Datagram g c =
 
 pub returns-in_ok-ask_first-in-Datagram : goal.returns-in_ok-ask_first-in-Datagram
 returns-in_ok-ask_first-in-Datagram g c =
-    let t = c.in_ok-take.ensures.done in
+    let t = c.in_ok-take_next.ensures.done in
     let k = subst (λ (k : ReadTurn). IsTakenBy c.args.rows.now k t.0) c.in-Datagram.is t.2 in
     let e = c.ask_first.ensures in (
       t.0 ++ e.0,

@@ -28,7 +28,7 @@ returns-clause-moves g c = λ member voice s right asker knows.
           ∙ ap (λ x. ingested (Rtcp (length (packets_of packets))) [] x) c.in_ok-items.ensures,
       record {
         holds =
-            c.note_all.ensures s.known
+            c.hear_all.ensures s.known
             (subst (λ (i : IngressOf). Holds i.entries s.known) (sym c.self.view_is) knows.holds);
         epochs = ap (λ (i : IngressOf). i.epochs) c.self.view_is ∙ knows.epochs;
       },

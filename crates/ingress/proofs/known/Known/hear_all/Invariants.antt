@@ -4,7 +4,7 @@ use Rattle.rtcp_codec.specs.View.{packets_of}
 use Rattle.ingress.specs.Sources.{Known}
 use Rattle.ingress.specs.Control.{noted_all}
 use Rattle.ingress.specs.inner.Holding.{Holds}
-use Rattle.ingress.proofs.known.Known.note_all.Given as goal
+use Rattle.ingress.proofs.known.Known.hear_all.Given as goal
 
 abbrev pub invariant-loop-packet : goal.invariant-loop-packet
 invariant-loop-packet g l =

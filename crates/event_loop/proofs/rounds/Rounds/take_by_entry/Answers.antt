@@ -1,6 +1,6 @@
 use Rattle.std.proofs.Common.{inr}
 use Rattle.event_loop.proofs.StepLemmas.{on_ok_map}
-use Rattle.event_loop.proofs.rounds.Rounds.take_in.Goals as goal
+use Rattle.event_loop.proofs.rounds.Rounds.take_by_entry.Goals as goal
 
 pub returns-in-Err : goal.returns-in-Err
 returns-in-Err g c =

@@ -2,7 +2,7 @@ use Rattle.std.proofs.Common.{◌++◌, ◌∷◌, refl, sym, subst}
 use Rattle.event_loop.specs.Turns.{History, HaveDone, looked}
 use Rattle.event_loop.proofs.TurnLemmas.{done_both}
 use Rattle.event_loop.proofs.StepLemmas.{err_on_ok, on_ok_map}
-use Rattle.event_loop.proofs.rounds.Rounds.take.Goals as goal
+use Rattle.event_loop.proofs.rounds.Rounds.take_waiting.Goals as goal
 
 pub returns-in_err-now : goal.returns-in_err-now
 returns-in_err-now g c =

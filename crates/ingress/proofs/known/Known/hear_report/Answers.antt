@@ -7,8 +7,8 @@ use Rattle.ingress.specs.Sources.{Origin, retold}
 use Rattle.ingress.specs.inner.SourceEntries.{EntryOf}
 use Rattle.ingress.specs.inner.Holding.{Holds, same_key, key_of, kept_at}
 use Rattle.ingress.proofs.KnownSources.{holds_retold, holds_same}
-use Rattle.ingress.proofs.known.Known.note.Goals.{in-Some, in-None}
-use Rattle.ingress.proofs.known.Known.note.Goals as goal
+use Rattle.ingress.proofs.known.Known.hear_report.Goals.{in-Some, in-None}
+use Rattle.ingress.proofs.known.Known.hear_report.Goals as goal
 
 pub returns : goal.returns
 returns g c = λ known h.

@@ -12,7 +12,7 @@ use Rattle.event_loop.specs.Came.{datagram, other, nothing, came_by}
 use Rattle.event_loop.specs.Turns.{History, HaveDone, TakesArrival, history, passed, took, lost}
 use Rattle.event_loop.proofs.TurnLemmas.{done_one}
 use Rattle.event_loop.proofs.StepLemmas.{passed_at, err_if_ok}
-use Rattle.event_loop.proofs.state.FrontState.take.Goals as goal
+use Rattle.event_loop.proofs.state.FrontState.take_next.Goals as goal
 
 pub returns-in-Other-clause-done : goal.returns-in-Other-clause-done
 returns-in-Other-clause-done g c =
