@@ -2,12 +2,10 @@
 use Rattle.std.proofs.Common.{◌≡◌, ℕ, zero, suc, map, take, drop, get_or, ◌+◌, ◌<◌, ◌≤◌, List, [], ◌∷◌, ◌++◌, length}
 use Rattle.std.proofs.Common.{length-append, Result, Ok, Err, refl, sym, ap, ◌∙◌, subst, append_assoc, arith}
 use Rattle.std.specs.Result.{IsErr}
-use Rattle.std.specs.Fmt.{decimal}
 use Rattle.std.specs.List.{flat_map}
 use Rattle.std.proofs.lemmas.List.{append-nil}
-use Rattle.rtp_codec.specs.declared.address.Address.{Address}
 use Rattle.bridge_stats.specs.declared.appending.LineField.{LineField}
-use Rattle.bridge_stats.specs.Text.{LinePart, place_text, next_text, line_text}
+use Rattle.bridge_stats.specs.Text.{LinePart, next_text, line_text}
 use Rattle.bridge_stats.specs.inner.Said.{said, next_said}
 use Rattle.std.specs.declared.alloc.AllocError.{AllocError}
 use Rattle.bridge_stats.specs.inner.Growing.{TextBuffer, Grows}
@@ -43,15 +41,6 @@ pub grows_err : (a b : TextBuffer) (text : List ℕ) (r : Result (Unit {0}) Allo
     → Grows a b text (Err e) → Grows a b text r
 grows_err a b text (Ok u) e is h = absurd cc
 grows_err a b text (Err x) e is h = h
-
--- two numbers, and a mark behind them
-abbrev pub half : ℕ → ℕ → ℕ → List ℕ
-half first second mark = decimal first ++ 46 ∷ [] ++ (decimal second ++ mark ∷ [])
-
-pub place_parts : (x : Address)
-    → (half (get_or x.ip 0 0) (get_or x.ip 1 0) 46 ++ half (get_or x.ip 2 0) (get_or x.ip 3 0) 58) ++ decimal x.port
-    ≡ place_text x
-place_parts x = simp append_assoc
 
 -- one more of a list, each with its text
 pub one_more : {X : Type 0} (f : X → List ℕ) (xs : List X) (k : ℕ) (d : X) → k < length xs

@@ -3,6 +3,7 @@ use Rattle.std.specs.Prelude.{ℕ, ℤ, List, [], ◌∷◌, ◌++◌, codes, de
 use Rattle.std.specs.List.{flat_map}
 use Rattle.std.specs.Fmt.{signed_decimal}
 use Rattle.rtp_codec.specs.declared.address.Address.{Address}
+use Rattle.rtp_codec.specs.Address.{address_text}
 
 -- a part of a line: words as they stand, a number, a number with its sign, an address
 pub data LinePart : Type 0 where
@@ -15,18 +16,12 @@ pub data LinePart : Type 0 where
 abbrev pub no_word : LinePart
 no_word = words (codes "-")
 
--- how an address is written
-abbrev pub place_text : Address → List ℕ
-place_text a =
-    decimal (get_or a.ip 0 0) ++ codes "." ++ decimal (get_or a.ip 1 0) ++ codes "." ++ decimal (get_or a.ip 2 0)
-    ++ codes "." ++ decimal (get_or a.ip 3 0) ++ codes ":" ++ decimal a.port
-
 -- how a part is written
 abbrev pub part_text : LinePart → List ℕ
 part_text (words text) = text
 part_text (number n) = decimal n
 part_text (signed n) = signed_decimal n
-part_text (place a) = place_text a
+part_text (place a) = address_text a
 
 -- a part with a space before it
 abbrev pub next_text : LinePart → List ℕ

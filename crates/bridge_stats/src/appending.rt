@@ -3,7 +3,8 @@
 ghost use Rattle.std.specs.Prelude.{◌≡◌, ◌∷◌, ◌++◌, [], codes, decimal, map};
 ghost use Rattle.std.specs.List.{flat_map};
 ghost use Rattle.std.specs.Fmt.{signed_decimal};
-ghost use Rattle.bridge_stats.specs.Text.{place_text, part_text, next_text, line_text};
+ghost use Rattle.rtp_codec.specs.Address.{address_text};
+ghost use Rattle.bridge_stats.specs.Text.{part_text, next_text, line_text};
 ghost use Rattle.bridge_stats.specs.inner.Said.{said, next_said};
 ghost use Rattle.bridge_stats.specs.inner.Growing.{buffer_of, Grows};
 
@@ -48,36 +49,12 @@ fn append_signed<A: Allocator>(number: i64, out: &mut Vec<u8, A>) -> Result<(), 
     append(buffer.format(number).as_bytes(), out)
 }
 
-/// Appends a number and a mark behind it.
-fn append_part<A: Allocator>(number: u8, mark: u8, out: &mut Vec<u8, A>) -> Result<(), AllocError>
-    ensures { Grows (buffer_of out.old) (buffer_of out.new) (decimal number ++ mark ∷ []) result }
-{
-    append_number(u64::from(number), out)?;
-    append(&[mark], out)
-}
-
-/// Appends two numbers with a dot between, and a mark behind them.
-fn append_half<A: Allocator>(
-    first: u8,
-    second: u8,
-    mark: u8,
-    out: &mut Vec<u8, A>,
-) -> Result<(), AllocError>
-    ensures { Grows (buffer_of out.old) (buffer_of out.new)
-        (decimal first ++ 46 ∷ [] ++ (decimal second ++ mark ∷ [])) result }
-{
-    append_part(first, b'.', out)?;
-    append_part(second, mark, out)
-}
-
 /// Appends an address.
-fn append_place<A: Allocator>(address: Address, out: &mut Vec<u8, A>) -> Result<(), AllocError>
-    ensures { Grows (buffer_of out.old) (buffer_of out.new) (place_text address) result }
+fn append_address<A: Allocator>(address: Address, out: &mut Vec<u8, A>) -> Result<(), AllocError>
+    ensures { Grows (buffer_of out.old) (buffer_of out.new) (address_text address) result }
 {
-    let [a, b, c, d] = address.ip;
-    append_half(a, b, b'.', out)?;
-    append_half(c, d, b':', out)?;
-    append_number(u64::from(address.port), out)
+    let text = address.text();
+    append(text.as_str().as_bytes(), out)
 }
 
 /// Appends a part.
@@ -88,7 +65,7 @@ fn append_field<A: Allocator>(field: LineField<'_>, out: &mut Vec<u8, A>) -> Res
         LineField::Words(text) => append(text, out),
         LineField::Number(n) => append_number(n, out),
         LineField::Signed(n) => append_signed(n, out),
-        LineField::Place(address) => append_place(address, out),
+        LineField::Place(address) => append_address(address, out),
     }
 }
 

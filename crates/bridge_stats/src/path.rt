@@ -92,7 +92,7 @@ pub(crate) fn stream_at(from: &Address, ssrc: u32) -> Sender
     ensures { result ≡ stream_at from.now ssrc }
 {
     Sender {
-        ip: from.ip,
+        ip: from.octets(),
         port: from.port,
         ssrc,
     }

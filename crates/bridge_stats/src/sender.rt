@@ -3,13 +3,13 @@
 ghost use Rattle.std.specs.Prelude.{◌≡◌};
 ghost use Rattle.bridge_stats.specs.Senders.{sender_of};
 
-use rtp_codec::{Address, Header};
+use rtp_codec::{Address, Header, IpOctets};
 
 /// Who sends RTP packets: an address and an SSRC.
 #[derive(Clone, Copy, PartialEq, Eq, Hash)]
 pub struct Sender {
     /// The four octets of the IPv4 address, in network order.
-    pub ip: [u8; 4],
+    pub ip: IpOctets,
     /// The UDP port.
     pub port: u16,
     /// The SSRC of its packets.
@@ -21,7 +21,7 @@ pub(crate) fn sender_of(from: &Address, header: &Header) -> Sender
     ensures { result ≡ sender_of from.now header.now }
 {
     Sender {
-        ip: from.ip,
+        ip: from.octets(),
         port: from.port,
         ssrc: header.ssrc,
     }

@@ -13,7 +13,8 @@ use Rattle.std.proofs.lemmas.Bool.{cases_Bool, cases_lt, lt-ltb, eqb-true}
 use Rattle.rtp_codec.specs.declared.address.Address.{Address}
 use Rattle.desk_text.specs.Words.{cut_of}
 use Rattle.desk_text.specs.Numbers.{decimal_of}
-use Rattle.desk_text.specs.Addresses.{◌>>=◌, address_text, IsAddress, field_of, address_of}
+use Rattle.rtp_codec.specs.Address.{address_text}
+use Rattle.desk_text.specs.Addresses.{◌>>=◌, IsAddress, field_of, address_of}
 use Rattle.desk_text.proofs.Cuts.{cut_found, cut_none}
 use Rattle.desk_text.proofs.NumberLemmas.{own, spelled, read}
 

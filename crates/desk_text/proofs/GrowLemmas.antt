@@ -6,8 +6,6 @@ use Rattle.std.specs.Fmt.{decimal}
 use Rattle.std.specs.List.{join_with_byte, flat_map}
 use Rattle.std.proofs.lemmas.List.{append-nil, take_more, take_all, take-append-drop, map-append, flat_map_more}
 use Rattle.hex.specs.Hex.{encode_with, encode_lower, lower_digits}
-use Rattle.rtp_codec.specs.declared.address.Address.{Address}
-use Rattle.desk_text.specs.Addresses.{address_text}
 use Rattle.desk_text.specs.Text.{Word, word_text}
 use Rattle.std.specs.declared.alloc.AllocError.{AllocError}
 use Rattle.desk_text.specs.inner.Growing.{TextBuffer, Grows}
@@ -43,17 +41,6 @@ pub grows_err : (a b : TextBuffer) (text : List ℕ) (r : Result (Unit {0}) Allo
     → Grows a b text (Err e) → Grows a b text r
 grows_err a b text (Ok u) e is h = absurd cc
 grows_err a b text (Err x) e is h = h
-
--- ---- an address
-
--- two numbers, and a mark behind them
-abbrev pub half : ℕ → ℕ → ℕ → List ℕ
-half first second mark = decimal first ++ 46 ∷ [] ++ (decimal second ++ mark ∷ [])
-
-pub address_parts : (x : Address)
-    → (half (get_or x.ip 0 0) (get_or x.ip 1 0) 46 ++ half (get_or x.ip 2 0) (get_or x.ip 3 0) 58) ++ decimal x.port
-    ≡ address_text x
-address_parts x = simp append_assoc
 
 -- ---- hexadecimal
 

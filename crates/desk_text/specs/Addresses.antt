@@ -1,16 +1,8 @@
 -- Addresses: four numbers below 256 with dots between, a colon, and a port (own).
-use Rattle.std.specs.Prelude.{◌≡◌, ℕ, ◌≤◌, length, List, [], ◌∷◌, ◌++◌, codes, slice_index, Option, Some, None}
-use Rattle.std.specs.Fmt.{decimal}
+use Rattle.std.specs.Prelude.{◌≡◌, ℕ, ◌≤◌, length, List, [], ◌∷◌, slice_index, Option, Some, None}
 use Rattle.rtp_codec.specs.declared.address.Address.{Address}
 use Rattle.desk_text.specs.Words.{cut_of}
 use Rattle.desk_text.specs.Numbers.{decimal_of}
-
--- how an address is written
-abbrev pub address_text : Address → List ℕ
-address_text a =
-    decimal (slice_index a.ip 0) ++ codes "." ++ decimal (slice_index a.ip 1) ++ codes "."
-    ++ decimal (slice_index a.ip 2) ++ codes "." ++ decimal (slice_index a.ip 3)
-    ++ codes ":" ++ decimal a.port
 
 -- the numbers of an address are in range
 pub record IsAddress (a : Address) : Type 0 where

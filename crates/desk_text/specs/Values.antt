@@ -12,7 +12,8 @@ use Rattle.desk_text.specs.declared.value.Value.{Value}
 use Rattle.desk_text.specs.declared.value.Value.TheVariants as values
 use Rattle.desk_text.specs.Words.{◌>>=◌, word_at, value_or}
 use Rattle.desk_text.specs.Numbers.{decimal_of}
-use Rattle.desk_text.specs.Addresses.{address_text, address_of, IsAddress}
+use Rattle.rtp_codec.specs.Address.{address_text}
+use Rattle.desk_text.specs.Addresses.{address_of, IsAddress}
 use Rattle.desk_text.specs.Kinds.{codec_text, codec_of, media_text, media_of}
 
 -- the field that a value is of

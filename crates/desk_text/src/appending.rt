@@ -3,7 +3,7 @@
 ghost use Rattle.std.specs.Prelude.{◌≡◌, ◌∷◌, ◌++◌, [], decimal, map};
 ghost use Rattle.std.specs.Fmt.{signed_decimal};
 ghost use Rattle.hex.specs.Hex.{encode_lower};
-ghost use Rattle.desk_text.specs.Addresses.{address_text};
+ghost use Rattle.rtp_codec.specs.Address.{address_text};
 ghost use Rattle.desk_text.specs.Kinds.{codec_text, media_text};
 ghost use Rattle.desk_text.specs.Values.{value_text};
 ghost use Rattle.desk_text.specs.Text.{word_text, line_text, fixed};
@@ -88,27 +88,11 @@ pub(crate) fn append_part<A: Allocator>(
     append(&[mark], out)
 }
 
-/// Appends two numbers with a dot between, and a mark behind them.
-fn append_half<A: Allocator>(
-    first: u8,
-    second: u8,
-    mark: u8,
-    out: &mut Vec<u8, A>,
-) -> Result<(), AllocError>
-    ensures { Grows (buffer_of out.old) (buffer_of out.new) (decimal first ++ 46 ∷ [] ++ (decimal second
-        ++ mark ∷ [])) result }
-{
-    append_part(u64::from(first), b'.', out)?;
-    append_part(u64::from(second), mark, out)
-}
-
 fn append_address<A: Allocator>(address: Address, out: &mut Vec<u8, A>) -> Result<(), AllocError>
     ensures { Grows (buffer_of out.old) (buffer_of out.new) (address_text address) result }
 {
-    let [a, b, c, d] = address.ip;
-    append_half(a, b, b'.', out)?;
-    append_half(c, d, b':', out)?;
-    append_number(u64::from(address.port), out)
+    let text = address.text();
+    append(text.as_str().as_bytes(), out)
 }
 
 fn codec_text(codec: Codec) -> &'static [u8]

@@ -1,7 +1,7 @@
 -- How causes and events are printed (own).
-use Rattle.std.specs.Prelude.{ℕ, List, ◌++◌, codes, slice_index}
+use Rattle.std.specs.Prelude.{ℕ, List, ◌++◌, codes}
 use Rattle.std.specs.Fmt.{decimal}
-use Rattle.rtp_codec.specs.declared.address.Address.{Address}
+use Rattle.rtp_codec.specs.Address.{address_text}
 use Rattle.event_lines.specs.declared.cause.ServerPart.{ServerPart}
 use Rattle.event_lines.specs.declared.cause.ServerPart.TheVariants.{Udp, Tcp, Trace, Poll, Clock}
 use Rattle.event_lines.specs.declared.cause.ServerPart.TheVariants.{Start, Front, Desk, End}
@@ -15,18 +15,11 @@ use Rattle.event_lines.specs.Words.{why_text}
 abbrev pub most_causes : ℕ
 most_causes = 24
 
--- an address: four numbers with dots between, a colon, and a port
-abbrev pub place_text : Address → List ℕ
-place_text a =
-    decimal (slice_index a.ip 0) ++ codes "." ++ decimal (slice_index a.ip 1) ++ codes "."
-    ++ decimal (slice_index a.ip 2) ++ codes "." ++ decimal (slice_index a.ip 3)
-    ++ codes ":" ++ decimal a.port
-
 -- how a part of a bridge is named
 abbrev pub part_text : ServerPart → List ℕ
-part_text (Udp at) = codes "udp " ++ place_text at
-part_text (Tcp at) = codes "tcp " ++ place_text at
-part_text (Trace at) = codes "trace " ++ place_text at
+part_text (Udp at) = codes "udp " ++ address_text at
+part_text (Tcp at) = codes "tcp " ++ address_text at
+part_text (Trace at) = codes "trace " ++ address_text at
 part_text Poll = codes "poll"
 part_text Clock = codes "clock"
 part_text Start = codes "start"
@@ -42,9 +35,9 @@ cause_text (LaneSpent lane) = codes "lane " ++ decimal lane ++ codes ": 2^64 - 1
 
 -- how an event is printed
 abbrev pub event_text : Event → List ℕ
-event_text (Connection from) = codes "connection from " ++ place_text from
-event_text (Refused from why) = codes "connection from " ++ place_text from ++ codes " refused: " ++ why_text why
+event_text (Connection from) = codes "connection from " ++ address_text from
+event_text (Refused from why) = codes "connection from " ++ address_text from ++ codes " refused: " ++ why_text why
 event_text (Dropped lane items) =
     codes "lane " ++ decimal lane ++ codes ": " ++ decimal items ++ codes " items dropped so far"
-event_text (TraceLost to) = codes "trace " ++ place_text to ++ codes " lost"
+event_text (TraceLost to) = codes "trace " ++ address_text to ++ codes " lost"
 event_text (LeftOut events) = decimal events ++ codes " events left out"

@@ -59,39 +59,14 @@ pub enum Cause {
     },
 }
 
-/// An address, to be printed.
-#[derive(Clone, Copy)]
-pub(crate) struct ShownPlace(pub(crate) Address);
-
-impl fmt::Display for ShownPlace {
-    ghost use Rattle.event_lines.specs.Told.{place_text};
-
-    ghost output = { λ shown. Some (place_text shown.0) };
-
-    fn fmt<W: fmt::Write>(&self, f: &mut fmt::Formatter<W>) -> fmt::Result {
-        let [a, b, c, d] = self.0.ip;
-        let port = self.0.port;
-        write!(f, "{a}.{b}.{c}.{d}:{port}")
-    }
-}
-
 impl fmt::Display for ServerPart {
     ghost output = { λ part. Some (part_text part) };
 
     fn fmt<W: fmt::Write>(&self, f: &mut fmt::Formatter<W>) -> fmt::Result {
         match self {
-            ServerPart::Udp(at) => {
-                let at = ShownPlace(*at);
-                write!(f, "udp {at}")
-            }
-            ServerPart::Tcp(at) => {
-                let at = ShownPlace(*at);
-                write!(f, "tcp {at}")
-            }
-            ServerPart::Trace(at) => {
-                let at = ShownPlace(*at);
-                write!(f, "trace {at}")
-            }
+            ServerPart::Udp(at) => write!(f, "udp {at}"),
+            ServerPart::Tcp(at) => write!(f, "tcp {at}"),
+            ServerPart::Trace(at) => write!(f, "trace {at}"),
             ServerPart::Poll => write!(f, "poll"),
             ServerPart::Clock => write!(f, "clock"),
             ServerPart::Start => write!(f, "start"),

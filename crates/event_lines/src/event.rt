@@ -3,7 +3,6 @@
 ghost use Rattle.std.specs.Prelude.{Some};
 ghost use Rattle.event_lines.specs.Told.{event_text};
 
-use crate::cause::ShownPlace;
 use crate::why::WhyFailed;
 use rtp_codec::Address;
 use std::fmt;
@@ -47,22 +46,13 @@ impl fmt::Display for Event {
 
     fn fmt<W: fmt::Write>(&self, f: &mut fmt::Formatter<W>) -> fmt::Result {
         match self {
-            Event::Connection { from } => {
-                let from = ShownPlace(*from);
-                write!(f, "connection from {from}")
-            }
-            Event::Refused { from, why } => {
-                let from = ShownPlace(*from);
-                write!(f, "connection from {from} refused: {why}")
-            }
+            Event::Connection { from } => write!(f, "connection from {from}"),
+            Event::Refused { from, why } => write!(f, "connection from {from} refused: {why}"),
             Event::Dropped { lane, items } => write!(
                 f,
                 "lane {lane}: {items} items dropped so far"
             ),
-            Event::TraceLost { to } => {
-                let to = ShownPlace(*to);
-                write!(f, "trace {to} lost")
-            }
+            Event::TraceLost { to } => write!(f, "trace {to} lost"),
             Event::LeftOut { events } => write!(f, "{events} events left out"),
         }
     }

@@ -1,6 +1,6 @@
 -- How a bridge prints where it listens (own).
 use Rattle.std.specs.Prelude.{ℕ, List, ◌++◌, codes}
-use Rattle.desk_text.specs.Addresses.{address_text}
+use Rattle.rtp_codec.specs.Address.{address_text}
 use Rattle.front_settings.specs.declared.listening.Listening.{Listening}
 
 -- where a bridge listens, as it is printed

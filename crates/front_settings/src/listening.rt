@@ -12,23 +12,6 @@ pub struct Listening {
     pub tcp: Address,
 }
 
-/// An address, to be printed.
-#[derive(Clone, Copy)]
-struct Shown(Address);
-
-impl fmt::Display for Shown {
-    ghost use Rattle.std.specs.Prelude.{Some};
-    ghost use Rattle.desk_text.specs.Addresses.{address_text};
-
-    ghost output = { λ shown. Some (address_text shown.0) };
-
-    fn fmt<W: fmt::Write>(&self, f: &mut fmt::Formatter<W>) -> fmt::Result {
-        let [a, b, c, d] = self.0.ip;
-        let port = self.0.port;
-        write!(f, "{a}.{b}.{c}.{d}:{port}")
-    }
-}
-
 impl fmt::Display for Listening {
     ghost use Rattle.std.specs.Prelude.{Some};
     ghost use Rattle.front_settings.specs.Printed.{listening_text};
@@ -36,8 +19,8 @@ impl fmt::Display for Listening {
     ghost output = { λ listening. Some (listening_text listening) };
 
     fn fmt<W: fmt::Write>(&self, f: &mut fmt::Formatter<W>) -> fmt::Result {
-        let udp = Shown(self.udp);
-        let tcp = Shown(self.tcp);
+        let udp = self.udp;
+        let tcp = self.tcp;
         write!(f, "udp {udp} and tcp {tcp}")
     }
 }

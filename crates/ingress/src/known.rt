@@ -16,7 +16,7 @@ use crate::source_entry::{NextState, SourceEntry};
 use frame_gate::{Frame, PreparedWait, Waited};
 use lru::LruCache;
 use rtcp_codec::Rtcp;
-use rtp_codec::Address;
+use rtp_codec::{Address, IpOctets};
 use std::alloc::{AllocError, Allocator, Global};
 use std::hash::{BuildHasherDefault, FoldHasher};
 use std::marker::Model;
@@ -28,7 +28,7 @@ const MOST_KNOWN: usize = 4_096;
 /// The key of a source: the parts of an address, and an SSRC.
 #[derive(Clone, Copy, PartialEq, Eq, Hash)]
 pub(crate) struct OriginKey {
-    ip: [u8; 4],
+    ip: IpOctets,
     port: u16,
     ssrc: u32,
 }
@@ -38,7 +38,7 @@ pub(crate) fn key_of(address: &Address, ssrc: u32) -> OriginKey
     ensures { result ≡ key_of (record { address = address.now; ssrc = ssrc }) }
 {
     OriginKey {
-        ip: address.ip,
+        ip: address.octets(),
         port: address.port,
         ssrc,
     }

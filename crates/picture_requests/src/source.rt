@@ -3,7 +3,7 @@
 ghost use Rattle.std.specs.Prelude.{◌≡◌};
 ghost use Rattle.picture_requests.specs.Sources.{member_address, source_at, is_among};
 
-use rtp_codec::Address;
+use rtp_codec::{Address, IpOctets};
 
 /// A source of video at the address of its member. The parts of the address stand apart, as keys of tables.
 #[derive(Clone, Copy, PartialEq, Eq, Hash)]
@@ -11,7 +11,7 @@ pub struct VideoSource {
     /// The SSRC of the source.
     pub ssrc: u32,
     /// The four octets of the member's IPv4 address, in network order.
-    pub ip: [u8; 4],
+    pub ip: IpOctets,
     /// The member's UDP port.
     pub port: u16,
 }
@@ -23,7 +23,7 @@ impl VideoSource {
     {
         Self {
             ssrc,
-            ip: address.ip,
+            ip: address.octets(),
             port: address.port,
         }
     }

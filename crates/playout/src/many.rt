@@ -11,7 +11,7 @@ use crate::jitter_buffer::Playout;
 use crate::source_playout::SourcePlayout;
 use crate::timed_samples::TimedSamples;
 use indexmap::IndexMap;
-use rtp_codec::Address;
+use rtp_codec::{Address, IpOctets};
 use std::alloc::{AllocError, Allocator, Global};
 use std::hash::{BuildHasherDefault, FoldHasher};
 use std::marker::Model;
@@ -23,7 +23,7 @@ const FIRST_SOURCES: usize = 16;
 #[derive(Clone, Copy, PartialEq, Eq, Hash)]
 pub(crate) struct SourceKey {
     source: u32,
-    ip: [u8; 4],
+    ip: IpOctets,
     port: u16,
 }
 
@@ -33,7 +33,7 @@ fn key_of(source: u32, address: &Address) -> SourceKey
 {
     SourceKey {
         source,
-        ip: address.ip,
+        ip: address.octets(),
         port: address.port,
     }
 }

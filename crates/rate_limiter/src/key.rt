@@ -3,12 +3,12 @@
 ghost use Rattle.std.specs.Prelude.{◌≡◌};
 ghost use Rattle.rate_limiter.specs.inner.Keyed.{key_of};
 
-use rtp_codec::Address;
+use rtp_codec::{Address, IpOctets};
 
 /// The key of a bucket: the parts of its address.
 #[derive(Clone, Copy, PartialEq, Eq, Hash)]
 pub(crate) struct AddressKey {
-    ip: [u8; 4],
+    ip: IpOctets,
     port: u16,
 }
 
@@ -17,7 +17,7 @@ pub(crate) fn key_of(address: &Address) -> AddressKey
     ensures { result ≡ key_of address.now }
 {
     AddressKey {
-        ip: address.ip,
+        ip: address.octets(),
         port: address.port,
     }
 }

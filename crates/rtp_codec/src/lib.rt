@@ -1,6 +1,7 @@
 //! RTP packets and sequence numbers (RFC 3550), and the addresses that packets come from.
 //!
-//! Begin with [`classify`] for a datagram, then [`read`]. [`write`] appends a packet to a buffer.
+//! Begin with [`classify`] for a datagram, then [`read`]. [`write`] appends a packet to a buffer. Whoever prints an
+//! address prints its [`text`](Address::text).
 //! A contract sees an [`RtpView`] as a packet (specs/Packet.antt) of header, contributing sources, extension, payload
 //! and padding. What is written reads back as the same packet.
 //!
@@ -17,6 +18,7 @@
 #![tactic(auto)]
 
 mod address;
+mod address_text;
 mod class;
 mod fault;
 mod laws;
@@ -25,7 +27,8 @@ mod sequence;
 mod view;
 mod writing;
 
-pub use self::address::Address;
+pub use self::address::{Address, IpOctets};
+pub use self::address_text::AddressText;
 pub use self::class::{Class, classify};
 pub use self::fault::RtpFault;
 pub use self::laws::faultless_is_packet;

@@ -21,7 +21,8 @@ use Rattle.desk_edit.specs.Reasons.{group_limit, refusal_of_group}
 use Rattle.desk_edit.specs.Groups.{size_refused}
 use Rattle.desk_edit.specs.Calls.{CallHistory, refusal_of, after_call}
 use Rattle.desk_calls.specs.Accepted.{AreAccepted}
-use Rattle.desk_text.specs.Addresses.{address_text, IsAddress}
+use Rattle.rtp_codec.specs.Address.{address_text}
+use Rattle.desk_text.specs.Addresses.{IsAddress}
 use Rattle.desk_text.specs.Kinds.{codec_text, media_text}
 use Rattle.desk_text.specs.Values.{value_text}
 use Rattle.desk_text.specs.Calls.{name_text, fields_of, command_words, IsCommand, slash, group_words, AreCommands}

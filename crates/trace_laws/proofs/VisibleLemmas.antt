@@ -11,7 +11,8 @@ use Rattle.rtp_codec.specs.declared.address.Address.{Address}
 use Rattle.frame_gate.specs.Frame.{SourcePacket}
 use Rattle.media_items.specs.Frame.{SourceFrame}
 use Rattle.desk_text.specs.Numbers.{FitsExt}
-use Rattle.desk_text.specs.Addresses.{address_text, IsAddress}
+use Rattle.rtp_codec.specs.Address.{address_text}
+use Rattle.desk_text.specs.Addresses.{IsAddress}
 use Rattle.desk_text.specs.Values.{value_text, AllFit}
 use Rattle.desk_text.specs.Lines.{is_printable}
 use Rattle.desk_text.proofs.NumberLemmas.{own}

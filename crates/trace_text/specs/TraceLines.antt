@@ -2,7 +2,7 @@
 use Rattle.std.specs.Prelude.{ℕ, ◌==◌, if◌then◌else◌, List, [], ◌∷◌, ◌++◌, length, codes, decimal}
 use Rattle.std.specs.List.{flat_map}
 use Rattle.rtp_codec.specs.declared.address.Address.{Address}
-use Rattle.desk_text.specs.Addresses.{address_text}
+use Rattle.rtp_codec.specs.Address.{address_text}
 use Rattle.desk_text.specs.HistoryText.{called_line}
 use Rattle.call_history.specs.AcceptedCall.{AcceptedOf}
 use Rattle.script_text.specs.Requests.{rx_line}
@@ -44,7 +44,3 @@ datagram_line moment from octets =
 -- the comment that the bridge asked a sender for a picture, of its own accord
 abbrev pub picture_line : Address → ℕ → List ℕ
 picture_line to ssrc = codes "# picture " ++ address_text to ++ codes " " ++ decimal ssrc ++ codes "\n"
-
--- two numbers of an address with a dot between, and what stands behind them
-abbrev pub half_text : ℕ → ℕ → List ℕ → List ℕ
-half_text first second mark = decimal first ++ codes "." ++ decimal second ++ mark

@@ -1,9 +1,9 @@
 //! Appending to a text.
 
 ghost use Rattle.std.specs.Prelude.{◌≡◌, ◌∷◌, ◌++◌, [], decimal, codes, OnOk};
-ghost use Rattle.desk_text.specs.Addresses.{address_text};
+ghost use Rattle.rtp_codec.specs.Address.{address_text};
 ghost use Rattle.trace_text.specs.TraceLines.{mark_of, first_end, first_line, empty_line, datagram_line};
-ghost use Rattle.trace_text.specs.TraceLines.{picture_line, half_text};
+ghost use Rattle.trace_text.specs.TraceLines.{picture_line};
 
 use crate::speaker::Speaker;
 use itoa::Buffer;
@@ -77,27 +77,12 @@ pub(crate) fn append_first<A: Allocator>(
     append(first_end(speaker), out)
 }
 
-/// Appends two numbers of an address with a dot between, and a mark behind them.
-fn append_half<A: Allocator>(
-    first: u8,
-    second: u8,
-    mark: &[u8],
-    out: &mut Vec<u8, A>,
-) -> Result<(), AllocError>
-    ensures { OnOk result (out.new.items ≡ out.old.items ++ half_text first second mark.now) }
-{
-    append_around(b"", u64::from(first), b".", out)?;
-    append_around(b"", u64::from(second), mark, out)
-}
-
 /// Appends an address.
 fn append_address<A: Allocator>(address: Address, out: &mut Vec<u8, A>) -> Result<(), AllocError>
     ensures { OnOk result (out.new.items ≡ out.old.items ++ address_text address) }
 {
-    let [a, b, c, d] = address.ip;
-    append_half(a, b, b".", out)?;
-    append_half(c, d, b":", out)?;
-    append_number(u64::from(address.port), out)
+    let text = address.text();
+    append(text.as_str().as_bytes(), out)
 }
 
 /// Appends the comment on a datagram without octets.

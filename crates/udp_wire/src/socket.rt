@@ -10,7 +10,10 @@ use std::net::{IpAddr, Ipv4Addr, SocketAddr};
 pub fn socket_address(address: Address) -> SocketAddr
     ensures { told_address result ≡ Some address }
 {
-    SocketAddr::new(IpAddr::V4(Ipv4Addr::from_octets(address.ip)), address.port)
+    SocketAddr::new(
+        IpAddr::V4(Ipv4Addr::from_octets(address.octets())),
+        address.port,
+    )
 }
 
 /// The address that the system reports, or `None` for IPv6. An IPv4 socket has an IPv4 address.

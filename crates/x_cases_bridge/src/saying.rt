@@ -68,8 +68,6 @@ pub fn say_up(
     octets: &[u8],
     out: &mut String,
 ) -> Result<(), AllocError> {
-    let [a, b, c, d] = to.ip;
-    let port = to.port;
     let digits = hex::encode(alloc, octets)?;
-    write!(out, "up {a}.{b}.{c}.{d}:{port} {digits}\n")
+    write!(out, "up {to} {digits}\n")
 }

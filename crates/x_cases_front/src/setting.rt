@@ -29,11 +29,7 @@ fn shown(alloc: Global, settings: &FrontSettings) -> Option<String> {
     let cname = str::from_utf8(&settings.bridge.cname).ok()?;
     let trace = match settings.trace {
         None => String::new(alloc),
-        Some(at) => {
-            let [a, b, c, d] = at.ip;
-            let port = at.port;
-            format!(in alloc; " trace {a}.{b}.{c}.{d}:{port}").ok()?
-        }
+        Some(at) => format!(in alloc; " trace {at}").ok()?,
     };
     let buffers = buffers(alloc, settings)?;
     format!(in alloc;

@@ -25,12 +25,10 @@ struct Failing {
 
 impl Failing {
     fn note(&mut self, word: &str, to: Address, parts: (&[u8], &[u8])) -> Result<(), AllocError> {
-        let [a, b, c, d] = to.ip;
-        let port = to.port;
         let first = hex::encode(self.alloc, parts.0)?;
         let rest = hex::encode(self.alloc, parts.1)?;
         let notes = &mut self.notes;
-        write!(notes, "{word} {a}.{b}.{c}.{d}:{port} {first}{rest}\n")
+        write!(notes, "{word} {to} {first}{rest}\n")
     }
 }
 
