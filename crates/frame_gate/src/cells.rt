@@ -52,7 +52,7 @@ pub fn find_held<'a, A: Allocator + Copy>(
 }
 
 /// Appends the packet that was found, unless it is empty.
-fn keep<A: Allocator + Copy>(
+fn push_found<A: Allocator + Copy>(
     out: &mut Vec<FramePacket<A>, A>,
     found: Option<&HeldPacket<A>>,
 ) -> Result<(), AllocError>
@@ -84,7 +84,7 @@ pub fn piece<A: Allocator + Copy>(
 {
     let mut out = Vec::new(alloc);
     for number in from..to {
-        keep(&mut out, find_held(cells, newcomer, number))?;
+        push_found(&mut out, find_held(cells, newcomer, number))?;
     }
     Ok(out)
 }

@@ -183,9 +183,9 @@ impl<A: Allocator + Copy> Gate<A> {
         self.judge(alloc, HeldPacket::new(ext, packet))
     }
 
-    /// Keeps a packet, and forgets what is decided.
+    /// Holds a packet, and forgets what is decided.
     #[inline(always)]
-    fn keep(&mut self, packet: HeldPacket<A>, walk: Walk)
+    fn hold(&mut self, packet: HeldPacket<A>, walk: Walk)
         requires ordered { walk.next ≤ walk.after }
         requires number { packet.number < 2 ^ 63 }
         ensures { Takes self.old packet walk self.new }
@@ -209,7 +209,7 @@ impl<A: Allocator + Copy> Gate<A> {
             answer,
         } = prepared;
         if answer.place == Place::Taken {
-            self.keep(packet, walk);
+            self.hold(packet, walk);
         }
         answer
     }

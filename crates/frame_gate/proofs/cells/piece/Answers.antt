@@ -11,9 +11,10 @@ loop-number-preserved g c =
     let n = c.loop-number.number in
     let out = c.loop-number.out.items in
     let rest = collected at (n + 1) (c.args.to - (n + 1)) in
-    let kept : c.keep.new.out.items ≡ out ++ in_frame (option_copied c.find_held.result) = c.in_ok-keep.ensures.items in
+    let kept : c.push_found.new.out.items ≡ out ++ in_frame (option_copied c.find_held.result) =
+    c.in_ok-push_found.ensures.items in
     record {
-      kinds = c.in_ok-keep.ensures.kinds c.loop-number.invariant.kinds;
+      kinds = c.in_ok-push_found.ensures.kinds c.loop-number.invariant.kinds;
       items =
           ap (λ (xs : List SourcePacket). xs ++ rest) (kept ∙ ap (λ o. out ++ in_frame o) c.find_held.ensures)
           ∙ append_assoc out (in_frame (at n)) rest

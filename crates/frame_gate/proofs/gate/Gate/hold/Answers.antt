@@ -5,7 +5,7 @@ use Rattle.std.proofs.lemmas.List.{with_items_is}
 use Rattle.frame_gate.specs.Packets.{NumberedPacket}
 use Rattle.frame_gate.specs.inner.Cells.{MayForget, Forgets}
 use Rattle.frame_gate.specs.inner.Kept.{Kept}
-use Rattle.frame_gate.proofs.gate.Gate.keep.Goals as goal
+use Rattle.frame_gate.proofs.gate.Gate.hold.Goals as goal
 
 pub returns : goal.returns
 returns g c =
