@@ -5,7 +5,7 @@ use Rattle.http.specs.Request.{head_of, body_of}
 use Rattle.http_uri.specs.Uri.{uri_path}
 use Rattle.desk_http.specs.declared.site.Site.{Site}
 use Rattle.desk_http.specs.declared.routing.Route.{Route}
-use Rattle.desk_http.specs.declared.routing.Route.TheVariants.{Page, Script, Style, Read, Call, Names}
+use Rattle.desk_http.specs.declared.routing.Route.TheVariants.{Page, Script, Style, Read, Events, Call, Names}
 use Rattle.desk_http.specs.declared.routing.Route.TheVariants.{ChangeNames, Refused}
 use Rattle.desk_http.specs.declared.routing.PageRefusal.{PageRefusal}
 use Rattle.desk_http.specs.declared.routing.PageRefusal.TheVariants.{ForeignHost, ForeignOrigin, NotAllowed, NoToken}
@@ -68,6 +68,7 @@ at_call site request (Some resources.Script) e = absurd (get_no (is_method reque
 at_call site request (Some resources.Style) e = absurd (get_no (is_method request (codes "GET")) Style (λ h. cc) e)
 at_call site request (Some (resources.Read query form)) e =
     absurd (get_no (is_method request (codes "GET")) (Read query form) (λ h. cc) e)
+at_call site request (Some resources.Events) e = absurd (get_no (is_method request (codes "GET")) Events (λ h. cc) e)
 at_call site request (Some resources.Call) e = e
 at_call site request (Some resources.Names) e = absurd (no_names_call site request e)
 

@@ -3,3 +3,4 @@ mod GuardLemmas
 pub mod ReadingLemmas
 pub mod RelayLemmas
 mod SpeechLemmas
+mod EditLemmas

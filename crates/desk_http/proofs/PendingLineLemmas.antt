@@ -1,8 +1,8 @@
 -- A line is handed over at most once.
 use Rattle.std.proofs.Common.{◌≡◌, ℕ, ◌≤◌, Bool, true, false, List, [], ◌∷◌, ◌++◌, length, refl, sym, subst, arith}
-use Rattle.desk_http.specs.PendingLines.{Event, queues, takes, takes_query, takes_call, takes_names, reading}
-use Rattle.desk_http.specs.PendingLines.{queued, dispatched, lines_dispatched, listed, line_if, after_take_if}
-use Rattle.desk_http.specs.PendingLines.{has_query, has_call, has_names_line}
+use Rattle.desk_http.specs.PendingLines.{Event, queues, takes, takes_query, takes_call, takes_names, takes_events}
+use Rattle.desk_http.specs.PendingLines.{reading, queued, dispatched, lines_dispatched, listed, line_if, after_take_if}
+use Rattle.desk_http.specs.PendingLines.{has_query, has_call, has_names_line, has_events_line}
 
 -- once it was handed over, nothing more is
 pub lines-dispatched : (events : List Event) → lines_dispatched events dispatched ≡ []
@@ -11,6 +11,7 @@ lines-dispatched (queues line ∷ events) = lines-dispatched events
 lines-dispatched (takes_query query ∷ events) = lines-dispatched events
 lines-dispatched (takes_call ∷ events) = lines-dispatched events
 lines-dispatched (takes_names ∷ events) = lines-dispatched events
+lines-dispatched (takes_events ∷ events) = lines-dispatched events
 lines-dispatched (takes ∷ events) = lines-dispatched events
 
 -- a line that is handed over is the last one
@@ -31,6 +32,8 @@ lines-queued (takes_query query ∷ events) line =
     once_if (has_query query (queued line)) events line (lines-queued events line)
 lines-queued (takes_call ∷ events) line = once_if (has_call (queued line)) events line (lines-queued events line)
 lines-queued (takes_names ∷ events) line = once_if (has_names_line (queued line)) events line (lines-queued events line)
+lines-queued (takes_events ∷ events) line =
+    once_if (has_events_line (queued line)) events line (lines-queued events line)
 lines-queued (takes ∷ events) line = only_one events line
 
 pub lines-reading : (events : List Event) → length (lines_dispatched events reading) ≤ 1
@@ -39,4 +42,5 @@ lines-reading (queues line ∷ events) = lines-queued events line
 lines-reading (takes_query query ∷ events) = lines-reading events
 lines-reading (takes_call ∷ events) = lines-reading events
 lines-reading (takes_names ∷ events) = lines-reading events
+lines-reading (takes_events ∷ events) = lines-reading events
 lines-reading (takes ∷ events) = lines-reading events

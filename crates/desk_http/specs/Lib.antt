@@ -16,3 +16,4 @@ pub mod Readings
 pub mod Metrics
 pub mod Rows
 pub mod Speaking
+pub mod Events

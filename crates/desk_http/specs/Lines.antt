@@ -39,6 +39,10 @@ first_word line = take (prefix_len is_not_space line) line
 abbrev pub is_names_line : List ℕ → Bool
 is_names_line line = bytes_eq (first_word line) (codes "names")
 
+-- the line asks for the stream of events: it never goes to the bridge
+abbrev pub is_events_line : List ℕ → Bool
+is_events_line line = bytes_eq (first_word line) (codes "events")
+
 -- the most octets of a change of names
 abbrev pub longest_change : ℕ
 longest_change = 262144
@@ -54,11 +58,11 @@ is_asking word =
     || bytes_eq word (codes "why") || bytes_eq word (codes "help")
 
 -- the first word asks for more than one line, for lines from then on, for the end of the connection or of the bridge,
--- for something of the connection's own, or for names
+-- for something of the connection's own, for names, or for the stream of events
 abbrev pub is_reserved : List ℕ → Bool
 is_reserved line =
     bytes_eq (first_word line) (codes "show") || bytes_eq (first_word line) (codes "history")
     || bytes_eq (first_word line) (codes "stats") || bytes_eq (first_word line) (codes "levels")
     || bytes_eq (first_word line) (codes "watch")
     || bytes_eq (first_word line) (codes "quit") || bytes_eq (first_word line) (codes "stop")
-    || is_asking (first_word line) || is_names_line line
+    || is_asking (first_word line) || is_names_line line || is_events_line line

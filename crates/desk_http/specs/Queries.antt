@@ -12,6 +12,10 @@ query_line queries.History = codes "history 256"
 query_line queries.Calls = codes "calls 512"
 query_line queries.Stats = codes "stats"
 
+-- the line that asks for the newest call, by which the page follows the desk: its answer ends by the desk's version
+abbrev pub latest_line : List ℕ
+latest_line = codes "history 1"
+
 -- the line asks what the bridge counts
 abbrev pub is_stats : List ℕ → Bool
 is_stats line = bytes_eq line (query_line queries.Stats)
@@ -20,8 +24,8 @@ is_stats line = bytes_eq line (query_line queries.Stats)
 abbrev pub is_calls : List ℕ → Bool
 is_calls line = bytes_eq line (query_line queries.Calls)
 
--- the line is one of these
+-- the line is one of these, or the one that asks for the newest call
 abbrev pub is_query : List ℕ → Bool
 is_query line =
     bytes_eq line (query_line queries.Desk) || bytes_eq line (query_line queries.History) || is_calls line
-    || is_stats line
+    || is_stats line || bytes_eq line latest_line

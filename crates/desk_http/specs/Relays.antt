@@ -12,7 +12,7 @@ use Rattle.desk_http.specs.declared.query.AnswerForm.TheVariants.{Lines, Json, M
 use Rattle.desk_http.specs.declared.routing.Route.{Route}
 use Rattle.desk_http.specs.declared.routing.Route.TheVariants as routes
 use Rattle.desk_http.specs.declared.responding.BridgeReply.{BridgeReply}
-use Rattle.desk_http.specs.declared.responding.BridgeReply.TheVariants.{Text, Busy, Gone, Lost}
+use Rattle.desk_http.specs.declared.responding.BridgeReply.TheVariants.{Text, Busy, Gone, Lost, Full}
 use Rattle.desk_http.specs.BridgeRequests.{is_fault}
 use Rattle.desk_http.specs.Metrics.{metrics_text}
 use Rattle.desk_http.specs.Rows.{json_text}
@@ -62,6 +62,7 @@ text_response_of tables (routes.Read query form) answer = form_response tables q
 text_response_of tables routes.Page answer = text_response 200 answer
 text_response_of tables routes.Script answer = text_response 200 answer
 text_response_of tables routes.Style answer = text_response 200 answer
+text_response_of tables routes.Events answer = text_response 200 answer
 text_response_of tables routes.Call answer = text_response 200 answer
 text_response_of tables routes.Names answer = text_response 200 answer
 text_response_of tables routes.ChangeNames answer = text_response 200 answer
@@ -75,3 +76,5 @@ relayed_response tables route Busy =
 relayed_response tables route Gone = text_response 502 (codes "Gone: the bridge is not there, nothing was sent\n")
 relayed_response tables route Lost =
     text_response 504 (codes "Lost: no answer came, look at the desk before sending the line again\n")
+relayed_response tables route Full =
+    text_response 503 (codes "Full: 24 pages have the events, ask for the desk now and then\n")

@@ -82,7 +82,8 @@ refusal_status NoNames = 400
 abbrev pub refusal_text : PageRefusal → List ℕ
 refusal_text ForeignHost = codes "ForeignHost: this page answers to its own address alone\n"
 refusal_text ForeignOrigin = codes "ForeignOrigin: this page takes nothing from other pages\n"
-refusal_text NotFound = codes "NotFound: there are /, /desk, /history, /past, /stats, /metrics, /call and /names\n"
+refusal_text NotFound =
+    codes "NotFound: there are /, /desk, /history, /past, /stats, /metrics, /events, /call and /names\n"
 refusal_text NotAllowed = codes "NotAllowed: POST to /call, GET or POST to /names, GET elsewhere\n"
 refusal_text NoToken = codes "NoToken: load the page again, its token is of an earlier run\n"
 refusal_text NoPerson = codes "NoPerson: X-Desk-Person is a name of 1 to 64 octets from ! to ~, or isn't there\n"
@@ -95,7 +96,7 @@ refusal_text NoNames =
 abbrev pub refusal_response : PageRefusal → PageResponse
 refusal_response refusal = text_response (refusal_status refusal) (refusal_text refusal)
 
--- a placeholder while the bridge or the store of names is asked, which no browser gets
+-- a placeholder while the bridge or the store of names is asked, or a stream begins, which no browser gets
 abbrev pub waiting_response : PageResponse
 waiting_response = text_response 503 (codes "Waiting: the bridge is asked\n")
 
@@ -106,6 +107,7 @@ direct_response site assets routes.Script = script_response assets
 direct_response site assets routes.Style =
     record { status = 200; content_type = style_type; body = assets.style.now }
 direct_response site assets (routes.Read query form) = waiting_response
+direct_response site assets routes.Events = waiting_response
 direct_response site assets routes.Call = waiting_response
 direct_response site assets routes.Names = waiting_response
 direct_response site assets routes.ChangeNames = waiting_response

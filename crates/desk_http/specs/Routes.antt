@@ -88,6 +88,7 @@ resource_at path =
     else if bytes_eq path (codes "/past.txt") then Some (resources.Read Calls Lines)
     else if bytes_eq path (codes "/stats") then Some (resources.Read Stats Json)
     else if bytes_eq path (codes "/metrics") then Some (resources.Read Stats Metrics)
+    else if bytes_eq path (codes "/events") then Some resources.Events
     else if bytes_eq path (codes "/call") then Some resources.Call
     else if bytes_eq path (codes "/names") then Some resources.Names
     else None
@@ -132,6 +133,7 @@ resource_route site request (Some resources.Page) = get_only request routes.Page
 resource_route site request (Some resources.Script) = get_only request routes.Script
 resource_route site request (Some resources.Style) = get_only request routes.Style
 resource_route site request (Some (resources.Read query form)) = get_only request (routes.Read query form)
+resource_route site request (Some resources.Events) = get_only request routes.Events
 resource_route site request (Some resources.Call) = call_route site request
 resource_route site request (Some resources.Names) = names_route site request
 

@@ -17,12 +17,14 @@ use Rattle.desk_http.specs.Responses.{PageResponse, IsPageResponse, direct_respo
 use Rattle.desk_http.specs.Relays.{relayed_response}
 use Rattle.desk_http.specs.States.{is_known}
 
--- the line that a route hands to the bridge or to the store of names: that of a call is the body, octet by octet
+-- the line that a route hands to the bridge, to the store of names or to the stream of events: that of a call is the
+-- body, octet by octet
 abbrev pub bridge_line : Route → List ℕ → Option (List ℕ)
 bridge_line routes.Page body = None
 bridge_line routes.Script body = None
 bridge_line routes.Style body = None
 bridge_line (routes.Read query form) body = Some (query_line query)
+bridge_line routes.Events body = Some (codes "events")
 bridge_line routes.Call body = Some body
 bridge_line routes.Names body = Some (codes "names")
 bridge_line routes.ChangeNames body = Some body

@@ -9,7 +9,7 @@ use Rattle.desk_http.specs.declared.query.AnswerForm.TheVariants.{Lines, Json, M
 use Rattle.desk_http.specs.declared.routing.Route.{Route}
 use Rattle.desk_http.specs.declared.routing.Route.TheVariants as routes
 use Rattle.desk_http.specs.declared.responding.BridgeReply.{BridgeReply}
-use Rattle.desk_http.specs.declared.responding.BridgeReply.TheVariants.{Text, Busy, Gone, Lost}
+use Rattle.desk_http.specs.declared.responding.BridgeReply.TheVariants.{Text, Busy, Gone, Lost, Full}
 use Rattle.desk_http.specs.BridgeRequests.{before_last_lf, last_line}
 
 -- the number of a text that comes after others: a text that is as the last one keeps its number
@@ -48,6 +48,7 @@ is_desk_lines (routes.Read Stats form) = false
 is_desk_lines routes.Page = false
 is_desk_lines routes.Script = false
 is_desk_lines routes.Style = false
+is_desk_lines routes.Events = false
 is_desk_lines routes.Call = false
 is_desk_lines routes.Names = false
 is_desk_lines routes.ChangeNames = false
@@ -61,3 +62,4 @@ is_known route (Some query) (Text answer) =
 is_known route (Some query) Busy = false
 is_known route (Some query) Gone = false
 is_known route (Some query) Lost = false
+is_known route (Some query) Full = false

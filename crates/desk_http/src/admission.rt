@@ -9,10 +9,16 @@ ghost use Rattle.desk_http.specs.Admission.{
   is_stalled,
   eviction_candidate,
   placement_of,
+  admits_stream,
+  keeps_up,
 };
 
 /// How many connections are served at a time.
 const MAX_CLIENTS: usize = 32;
+/// How many of them may have the stream of events.
+const MAX_STREAMS: usize = 24;
+/// How many octets of events a browser may leave unread.
+const MAX_UNREAD: usize = 1_048_576;
 /// How many milliseconds a connection has to send its whole request, where all places are taken.
 // A browser sends a whole request at once, head and body, so one limit bounds both.
 const REQUEST_TIMEOUT: u64 = 500;
@@ -30,6 +36,8 @@ pub enum ClientStage {
     Waiting,
     /// Its request was answered.
     Responding,
+    /// It has the stream of events.
+    Streaming,
 }
 
 /// What decides which connection keeps its place. Moments are in milliseconds.
@@ -60,7 +68,10 @@ impl ClientStage {
     {
         match self {
             ClientStage::Idle => true,
-            ClientStage::Sending | ClientStage::Waiting | ClientStage::Responding => false,
+            ClientStage::Sending
+            | ClientStage::Waiting
+            | ClientStage::Responding
+            | ClientStage::Streaming => false,
         }
     }
 
@@ -69,7 +80,10 @@ impl ClientStage {
     {
         match self {
             ClientStage::Sending => true,
-            ClientStage::Idle | ClientStage::Waiting | ClientStage::Responding => false,
+            ClientStage::Idle
+            | ClientStage::Waiting
+            | ClientStage::Responding
+            | ClientStage::Streaming => false,
         }
     }
 
@@ -78,7 +92,10 @@ impl ClientStage {
     {
         match self {
             ClientStage::Responding => true,
-            ClientStage::Idle | ClientStage::Sending | ClientStage::Waiting => false,
+            ClientStage::Idle
+            | ClientStage::Sending
+            | ClientStage::Waiting
+            | ClientStage::Streaming => false,
         }
     }
 }
@@ -117,13 +134,28 @@ fn oldest_stalled(clients: &[ClientActivity], now: u64) -> Option<usize>
     clients.iter().position(|client| client.is_stalled(now))
 }
 
-/// Which of these connections, the oldest first, may be closed for a new one. One that waits for the bridge never is.
+/// Which of these connections, the oldest first, may be closed for a new one. One that waits for the bridge or
+/// has the stream of events never is.
 fn eviction_candidate(clients: &[ClientActivity], now: u64) -> Option<usize>
     ensures { result ≡ eviction_candidate clients.now now }
 {
     oldest_idle(clients)
         .or(oldest_slow(clients, now))
         .or(oldest_stalled(clients, now))
+}
+
+/// Whether one more connection may have the stream of events, where so many have it: the others serve requests.
+pub fn admits_stream(count: usize) -> bool
+    ensures { result ≡ admits_stream count }
+{
+    count < MAX_STREAMS
+}
+
+/// Whether a browser with so many unread octets of events keeps its connection. One that loses it loads the desk again.
+pub fn keeps_up(unread: usize) -> bool
+    ensures { result ≡ keeps_up unread }
+{
+    unread <= MAX_UNREAD
 }
 
 /// Decides on a new connection at this moment, in milliseconds, by those that are there, the oldest first.

@@ -47,6 +47,7 @@ fn is_desk_lines(route: Route) -> bool
         Route::Page
         | Route::Script
         | Route::Style
+        | Route::Events
         | Route::Call
         | Route::Names
         | Route::ChangeNames
@@ -62,7 +63,8 @@ pub(crate) fn is_known(route: Route, query: Option<&str>, reply: &BridgeReply) -
         (Some(query), BridgeReply::Text(answer)) => {
             is_desk_lines(route) && is_seen(state_in(query.as_bytes()), before_last_lf(answer))
         }
-        (Some(_), BridgeReply::Busy | BridgeReply::Gone | BridgeReply::Lost) => false,
+        (Some(_), BridgeReply::Busy | BridgeReply::Gone | BridgeReply::Lost | BridgeReply::Full) =>
+            { false }
         (None, _) => false,
     }
 }

@@ -9,6 +9,7 @@ ghost use Rattle.desk_http.specs.Lines.{
   is_not_space,
   first_word,
   is_names_line,
+  is_events_line,
   is_change,
   is_reserved,
   is_asking,
@@ -70,6 +71,13 @@ pub(crate) fn is_names_line(line: &[u8]) -> bool
     first_word(line) == b"names".as_slice()
 }
 
+/// Whether the first word of a line is `events`. Such a line never goes to the bridge: the page itself has the stream.
+pub(crate) fn is_events_line(line: &[u8]) -> bool
+    ensures { result ≡ is_events_line line.now }
+{
+    first_word(line) == b"events".as_slice()
+}
+
 /// Whether a body is a change of names: it begins with that word, and isn't too long.
 pub(crate) fn is_change(body: &[u8]) -> bool
     ensures { result ≡ is_change body.now }
@@ -91,6 +99,7 @@ pub(crate) fn is_reserved(line: &[u8]) -> bool
         || word == b"stop".as_slice()
         || is_asking(word)
         || is_names_line(line)
+        || is_events_line(line)
 }
 
 /// Whether a word begins a line about the log, the desk's groups, the connection or its lines.

@@ -9,12 +9,13 @@ ghost use Rattle.desk_http.specs.PendingLines.{
   has_query,
   has_call,
   has_names_line,
+  has_events_line,
   line_at,
   line_if,
 };
 
 use crate::Query;
-use crate::lines::is_names_line;
+use crate::lines::{is_events_line, is_names_line};
 use crate::query::is_query;
 use std::mem;
 
@@ -26,7 +27,7 @@ use std::mem;
 pub enum PendingLine {
     /// No request is whole yet.
     Reading,
-    /// This line is to be handed to the bridge, or to the store of names.
+    /// This line is to be handed to the bridge, to the store of names, or to the stream of events.
     Queued(Vec<u8>),
     /// The line was handed over, which happens once.
     Dispatched,
@@ -60,12 +61,23 @@ impl PendingLine {
         }
     }
 
-    /// Whether a line is queued that is no query, and not about names.
+    fn has_events_line(&self) -> bool
+        ensures { result ≡ has_events_line (stage_of self.now) }
+    {
+        match self {
+            PendingLine::Queued(line) => is_events_line(line),
+            PendingLine::Reading | PendingLine::Dispatched => false,
+        }
+    }
+
+    /// Whether a line is queued that is no query, not about names, and doesn't ask for events.
     pub fn has_call(&self) -> bool
         ensures { result ≡ has_call (stage_of self.now) }
     {
         match self {
-            PendingLine::Queued(line) => !is_query(line) && !is_names_line(line),
+            PendingLine::Queued(line) => {
+                !is_query(line) && !is_names_line(line) && !is_events_line(line)
+            }
             PendingLine::Reading | PendingLine::Dispatched => false,
         }
     }
@@ -113,6 +125,19 @@ impl PendingLine {
         ensures stage { stage_of self.new ≡ after_take_if (has_names_line (stage_of self.old)) (stage_of self.old) }
     {
         if self.has_names_line() {
+            self.take()
+        } else {
+            None
+        }
+    }
+
+    /// Takes the line if it asks for the stream of events, which the page has: the bridge never gets it.
+    pub fn take_events(&mut self) -> Option<Vec<u8>>
+        ensures line { option_map (λ v. v.items) result
+            ≡ line_if (has_events_line (stage_of self.old)) (stage_of self.old) }
+        ensures stage { stage_of self.new ≡ after_take_if (has_events_line (stage_of self.old)) (stage_of self.old) }
+    {
+        if self.has_events_line() {
             self.take()
         } else {
             None

@@ -1,7 +1,7 @@
 //! What the page asks the bridge without changing anything.
 
 ghost use Rattle.std.specs.Prelude.{◌≡◌};
-ghost use Rattle.desk_http.specs.Queries.{query_line, is_query, is_stats, is_calls};
+ghost use Rattle.desk_http.specs.Queries.{query_line, latest_line, is_query, is_stats, is_calls};
 
 /// What the page asks the bridge without changing anything. Its reply has many lines, and all who ask get the same one.
 #[derive(Clone, Copy)]
@@ -42,6 +42,14 @@ impl Query {
     }
 }
 
+/// The line that asks for the newest call, by which the page follows the desk: its answer is short, and ends by the
+/// desk's version.
+pub fn latest_line() -> &'static [u8]
+    ensures { result.now ≡ latest_line }
+{
+    b"history 1"
+}
+
 /// Whether a line asks what the bridge counts.
 pub(crate) fn is_stats(line: &[u8]) -> bool
     ensures { result ≡ is_stats line.now }
@@ -60,5 +68,9 @@ pub(crate) fn is_calls(line: &[u8]) -> bool
 pub(crate) fn is_query(line: &[u8]) -> bool
     ensures { result ≡ is_query line.now }
 {
-    line == Query::Desk.line() || line == Query::History.line() || is_calls(line) || is_stats(line)
+    line == Query::Desk.line()
+        || line == Query::History.line()
+        || is_calls(line)
+        || is_stats(line)
+        || line == latest_line()
 }

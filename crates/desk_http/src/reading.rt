@@ -21,7 +21,7 @@ pub enum WordPlace {
 }
 
 /// The lines of a text: what stands between LFs.
-pub(crate) fn answer_lines<'a>(alloc: Global, text: &'a str) -> Result<Vec<&'a str>, AllocError>
+pub fn answer_lines<'a>(alloc: Global, text: &'a str) -> Result<Vec<&'a str>, AllocError>
     ensures { IfOk result (λ lines. map (λ x. x.now) lines.items ≡ answer_lines text.now) }
 {
     text.split('\n').collect(alloc)

@@ -192,6 +192,7 @@ fn fill_answer(
         Route::Page
         | Route::Script
         | Route::Style
+        | Route::Events
         | Route::Call
         | Route::Names
         | Route::ChangeNames
@@ -229,6 +230,11 @@ pub(crate) fn relay(
             response,
             StatusCode::GATEWAY_TIMEOUT,
             b"Lost: no answer came, look at the desk before sending the line again\n",
+        ),
+        BridgeReply::Full => fill_text(
+            response,
+            StatusCode::SERVICE_UNAVAILABLE,
+            b"Full: 24 pages have the events, ask for the desk now and then\n",
         ),
     }
 }

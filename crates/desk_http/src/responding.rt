@@ -35,6 +35,8 @@ pub enum BridgeReply {
     Gone,
     /// Octets of the line were sent, and no whole reply came.
     Lost,
+    /// As many browsers have the stream of events as may have it.
+    Full,
 }
 
 /// Adds the headers that all responses have.
@@ -148,7 +150,7 @@ fn refusal_text(refusal: PageRefusal) -> &'static [u8]
         PageRefusal::ForeignHost => b"ForeignHost: this page answers to its own address alone\n",
         PageRefusal::ForeignOrigin => b"ForeignOrigin: this page takes nothing from other pages\n",
         PageRefusal::NotFound =>
-            b"NotFound: there are /, /desk, /history, /past, /stats, /metrics, /call and /names\n",
+            b"NotFound: there are /, /desk, /history, /past, /stats, /metrics, /events, /call and /names\n",
         PageRefusal::NotAllowed =>
             b"NotAllowed: POST to /call, GET or POST to /names, GET elsewhere\n",
         PageRefusal::NoToken => b"NoToken: load the page again, its token is of an earlier run\n",
@@ -162,7 +164,8 @@ fn refusal_text(refusal: PageRefusal) -> &'static [u8]
     }
 }
 
-/// Fills in the response by a route. A route to the bridge or to the names gets a placeholder, which is never sent.
+/// Fills in the response by a route. A route to the bridge, to the names or to the events gets a placeholder, which is
+/// never sent.
 pub(crate) fn respond(
     response: &mut Response,
     site: &Site,
@@ -187,11 +190,12 @@ pub(crate) fn respond(
         Route::Refused(refusal) => {
             fill_text(response, refusal_status(refusal), refusal_text(refusal))
         }
-        Route::Read(_, _) | Route::Call | Route::Names | Route::ChangeNames => fill_text(
-            response,
-            StatusCode::SERVICE_UNAVAILABLE,
-            b"Waiting: the bridge is asked\n",
-        ),
+        Route::Read(_, _) | Route::Events | Route::Call | Route::Names | Route::ChangeNames =>
+            fill_text(
+                response,
+                StatusCode::SERVICE_UNAVAILABLE,
+                b"Waiting: the bridge is asked\n",
+            ),
     }
 }
 

@@ -34,6 +34,8 @@ pub enum Route {
     Style,
     /// What the bridge answers to a query, handed on like this.
     Read(Query, AnswerForm),
+    /// The stream of what happens from now on.
+    Events,
     /// A call: the line in its body goes to the bridge.
     Call,
     /// The names that operators gave.
@@ -74,6 +76,7 @@ pub(crate) enum Resource {
     Script,
     Style,
     Read(Query, AnswerForm),
+    Events,
     Call,
     Names,
 }
@@ -103,6 +106,8 @@ fn resource_at(path: &str) -> Option<Resource>
         Some(Resource::Read(Query::Stats, AnswerForm::Json))
     } else if path == "/metrics" {
         Some(Resource::Read(Query::Stats, AnswerForm::Metrics))
+    } else if path == "/events" {
+        Some(Resource::Events)
     } else if path == "/call" {
         Some(Resource::Call)
     } else if path == "/names" {
@@ -235,6 +240,7 @@ fn resource_route(site: &Site, request: &Request<Bytes>, resource: Option<Resour
         Some(Resource::Script) => get_only(request, Route::Script),
         Some(Resource::Style) => get_only(request, Route::Style),
         Some(Resource::Read(query, form)) => get_only(request, Route::Read(query, form)),
+        Some(Resource::Events) => get_only(request, Route::Events),
         Some(Resource::Call) => call_route(site, request),
         Some(Resource::Names) => names_route(site, request),
         None => Route::Refused(PageRefusal::NotFound),

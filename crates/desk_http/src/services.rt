@@ -16,12 +16,13 @@ use http::Request;
 use http_server::{Response, Service};
 use std::alloc::{AllocError, Global};
 
-/// The line that a route hands to the bridge or to the store of names, if it has one.
+/// The line that a route hands to the bridge, to the store of names or to the stream of events, if it has one.
 fn bridge_line(route: Route, body: &[u8]) -> Option<&[u8]>
     ensures { option_map (λ x. x.now) result ≡ bridge_line route body.now }
 {
     match route {
         Route::Read(query, _) => Some(query.line()),
+        Route::Events => Some(b"events"),
         Route::Call => Some(body),
         Route::Names => Some(b"names"),
         Route::ChangeNames => Some(body),
