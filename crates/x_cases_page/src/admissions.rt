@@ -11,6 +11,7 @@ fn stage_of(name: &str) -> Option<ClientStage> {
         "sending" => Some(ClientStage::Sending),
         "waiting" => Some(ClientStage::Waiting),
         "responding" => Some(ClientStage::Responding),
+        "streaming" => Some(ClientStage::Streaming),
         _ => None,
     }
 }

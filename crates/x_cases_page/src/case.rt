@@ -2,6 +2,7 @@
 
 use crate::admissions::placement_is;
 use crate::connections::{is_named, reply_is};
+use crate::events::{are_known, edit_is, event_is, head_has, may_lag, may_stream};
 use crate::request::{octets_of, request_of, spoken};
 use crate::states::state_is;
 use desk_http::{
@@ -122,6 +123,7 @@ fn reply_of(alloc: Global, text: &str) -> Option<BridgeReply> {
         "busy" => Some(BridgeReply::Busy),
         "gone" => Some(BridgeReply::Gone),
         "lost" => Some(BridgeReply::Lost),
+        "full" => Some(BridgeReply::Full),
         _ => Some(BridgeReply::Text(spoken(alloc, text.strip_prefix("text ")?)?)),
     }
 }
@@ -258,6 +260,12 @@ impl Page {
             "respond" => is_response(self.alloc, &self.response_to(text)?, wanted),
             "tell" => is_told(self.alloc, &self.response_to(text)?, wanted),
             "feed" => self.receives(text, wanted),
+            "head" => head_has(wanted),
+            "event" => event_is(self.alloc, text, wanted),
+            "edit" => edit_is(self.alloc, text, wanted),
+            "known" => are_known(self.alloc, text, wanted),
+            "streams" => may_stream(text, wanted),
+            "unread" => may_lag(text, wanted),
             _ => None,
         }
     }

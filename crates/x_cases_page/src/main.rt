@@ -20,6 +20,12 @@
 //! - `person REQUEST > NAME`: the page takes the request as this person's.
 //! - `named NAME ; ASKED ; STEP ; STEP .. > yes`, or `no`: an open connection asks for the name ASKED, the steps are
 //!   those of `connection`, and the bridge knows it by NAME then.
+//! - `head HEAD > TEXT`: the head of the stream of events has this text, which no HEAD changes.
+//! - `event NAME ; TEXT > TEXT`: an event of this name and data is these octets.
+//! - `edit TEXT ; TEXT > START REMOVED INSERTED`: what turns a text of the desk into another one.
+//! - `known LINE ; LINE ; LINE .. > N`: so many of the other lines are known by the first one, which is the last known.
+//! - `streams N > yes`, or `no`: where N browsers have the stream of events, one more may have it.
+//! - `unread N > yes`, or `no`: a browser with N unread octets of events keeps its connection.
 //! - `start BRIDGE LISTEN > yes`, or `no`: the page may start with these addresses.
 //!
 //! A REQUEST is `METHOD PATH FIELD=VALUE ..`, and after ` | ` its body. In all texts `\n` is an LF, and `TEXT*N` is a
@@ -29,6 +35,7 @@
 mod admissions;
 mod case;
 mod connections;
+mod events;
 mod request;
 mod states;
 
