@@ -86,6 +86,8 @@ pub(crate) struct BridgeClient {
     connection: BridgeConnection,
     /// The socket may be readable or writable.
     ready: bool,
+    /// How often it connected.
+    pub(crate) connects: u64,
 }
 
 impl BridgeClient {
@@ -94,6 +96,7 @@ impl BridgeClient {
             stream: None,
             connection: BridgeConnection::new(alloc),
             ready: false,
+            connects: 0,
         }
     }
 
@@ -116,6 +119,7 @@ impl BridgeClient {
         if self.stream.is_none() {
             self.stream = Some(connect_to(rt, registry, token, address)?);
             self.connection.open();
+            self.connects = self.connects.saturating_add(1);
         }
         Ok(())
     }

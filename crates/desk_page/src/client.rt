@@ -2,7 +2,9 @@
 
 use crate::client_state::ClientState;
 use crate::server_config::ServerConfig;
-use desk_http::{ClientActivity, ClientStage, PendingLine, Query, Responder, Router};
+use desk_http::{
+    ClientActivity, ClientStage, PendingLine, Query, Responder, Router, keeps_up, stream_head,
+};
 use http_server::Connection;
 use mio::net::TcpStream;
 use std::alloc::{AllocError, Global};
@@ -10,7 +12,8 @@ use std::io::{ErrorKind, Read, Write};
 use std::net::Shutdown;
 use std::{io, mem};
 
-/// How many milliseconds a browser has to send its request, or to take the response.
+/// How many milliseconds a browser has to send its request, or to take the response. One that has the stream of events
+/// has to take some of what is unread in this time.
 const TIMEOUT: u64 = 10_000;
 /// How many milliseconds a browser has to close after the response.
 const DRAIN_TIMEOUT: u64 = 1_000;
@@ -31,6 +34,9 @@ pub(crate) struct Client {
     person: Vec<u8>,
     /// Its line was handed to the bridge and has no reply yet.
     awaits_reply: bool,
+    /// What the stream of events has for the browser, and how much of it was sent.
+    events: Vec<u8>,
+    sent: usize,
     state: ClientState,
     /// Connections are numbered in the order in which they were accepted.
     id: usize,
@@ -64,6 +70,8 @@ impl Client {
             pending: PendingLine::Reading,
             person: Vec::new(config.alloc),
             awaits_reply: false,
+            events: Vec::new(config.alloc),
+            sent: 0,
             state: ClientState::Reading,
             id,
             accepted: now,
@@ -90,6 +98,7 @@ impl Client {
             ClientState::Reading if self.request.is_empty() => ClientStage::Idle,
             ClientState::Reading => ClientStage::Sending,
             ClientState::Waiting => ClientStage::Waiting,
+            ClientState::Streaming => ClientStage::Streaming,
             ClientState::Writing | ClientState::Draining | ClientState::Closed =>
                 ClientStage::Responding,
         };
@@ -134,6 +143,42 @@ impl Client {
     /// Takes the line if it is about names.
     pub(crate) fn take_names(&mut self) -> Option<Vec<u8>> {
         self.pending.take_names()
+    }
+
+    /// Takes the line if it asks for the stream of events.
+    pub(crate) fn take_events(&mut self) -> Option<Vec<u8>> {
+        self.pending.take_events()
+    }
+
+    /// Whether it has the stream of events.
+    pub(crate) fn is_streaming(&self) -> bool {
+        self.state == ClientState::Streaming
+    }
+
+    /// Begins the stream of events by a first one.
+    pub(crate) fn begin_stream(&mut self, hello: &[u8], now: u64) {
+        self.enter(ClientState::Streaming, now, TIMEOUT);
+        self.publish(stream_head(), now);
+        self.publish(hello, now);
+    }
+
+    /// Gives a stream more events. A browser that doesn't keep up loses its connection, and loads the desk again.
+    pub(crate) fn publish(&mut self, events: &[u8], now: u64) {
+        if self.state != ClientState::Streaming {
+            return;
+        }
+        let unread = self.events.len().saturating_sub(self.sent);
+        if unread == 0 {
+            self.events.clear();
+            self.sent = 0;
+            self.deadline = now.saturating_add(TIMEOUT);
+        }
+        if !keeps_up(unread.saturating_add(events.len()))
+            || self.events.extend_from_slice(events).is_err()
+        {
+            self.state = ClientState::Closed;
+        }
+        self.ready = true;
     }
 
     /// Takes the queued line, if there is one. It isn't for the bridge any more.
@@ -188,6 +233,9 @@ impl Client {
             && self.read(router, chunk, now).is_err()
         {
             self.state = ClientState::Closed;
+        }
+        if self.state == ClientState::Streaming && self.ready {
+            self.stream(chunk, now);
         }
         if self.state == ClientState::Writing && self.ready {
             self.write(now);
@@ -265,6 +313,53 @@ impl Client {
             }
         }
         true
+    }
+
+    /// Sends events, and looks whether the browser has closed.
+    fn stream(&mut self, chunk: &mut [u8], now: u64) {
+        self.ready = false;
+        if !self.send_events(now) || !self.is_connected(chunk) {
+            self.state = ClientState::Closed;
+        }
+    }
+
+    /// Writes what the socket takes of the events. Returns whether the connection still takes octets.
+    fn send_events(&mut self, now: u64) -> bool {
+        for _ in 0..MAX_TRANSFERS {
+            let unread = match self.events.get(self.sent..) {
+                Some(unread) if !unread.is_empty() => unread,
+                _ => {
+                    self.deadline = u64::MAX;
+                    return true;
+                }
+            };
+            match self.stream.write(unread) {
+                Ok(count) => {
+                    self.sent = self.sent.saturating_add(count);
+                    self.active = now;
+                    self.deadline = now.saturating_add(TIMEOUT);
+                }
+                Err(error) => match error.kind() {
+                    ErrorKind::WouldBlock => return true,
+                    ErrorKind::Interrupted => {}
+                    _ => return false,
+                },
+            }
+        }
+        self.ready = true;
+        true
+    }
+
+    /// Drops what a browser sends behind its request. Returns whether the browser is still there.
+    fn is_connected(&mut self, chunk: &mut [u8]) -> bool {
+        match self.stream.read(chunk) {
+            Ok(0) => false,
+            Ok(_) => {
+                self.ready = true;
+                true
+            }
+            Err(error) => matches!(error.kind(), ErrorKind::WouldBlock | ErrorKind::Interrupted),
+        }
     }
 
     /// Writes the response, and then ends the stream.

@@ -4,7 +4,9 @@ use crate::client::Client;
 use crate::names_store::NamesStore;
 use crate::query_timer::QueryTimer;
 use crate::server_config::ServerConfig;
-use desk_http::{BridgeReply, ClientActivity, Placement, Query, Responder, Router, Site, admit};
+use desk_http::{
+    BridgeReply, ClientActivity, Placement, Query, Responder, Router, Site, admit, admits_stream,
+};
 use mio::net::TcpStream;
 use std::alloc::{AllocError, Global};
 use std::fs::Files;
@@ -100,7 +102,7 @@ impl Clients {
     }
 
     /// Takes one line of this query, for the bridge. All who ask it get the reply.
-    fn next_query(&mut self, query: Query) -> Option<Vec<u8>> {
+    pub(crate) fn next_query(&mut self, query: Query) -> Option<Vec<u8>> {
         let mut next = None;
         for client in &mut self.connected {
             if let Some(line) = client.dispatch_query(query) {
@@ -168,6 +170,74 @@ impl Clients {
             }
         }
         Ok(())
+    }
+
+    /// How many have the stream of events.
+    pub(crate) fn streams(&self) -> usize {
+        self.connected
+            .iter()
+            .filter(|client| client.is_streaming())
+            .count()
+    }
+
+    /// Begins the streams that are asked for by a first event, or says that there are too many.
+    pub(crate) fn serve_events(
+        &mut self,
+        config: ServerConfig,
+        site: &Site,
+        hello: &[u8],
+        now: u64,
+    ) {
+        let mut count = self.streams();
+        for client in &mut self.connected {
+            if let Some(line) = client.take_events() {
+                if admits_stream(count) {
+                    count = count.saturating_add(1);
+                    client.begin_stream(hello, now);
+                } else {
+                    let (alloc, tables, line) = (config.alloc, &config.tables, line.as_slice());
+                    let responder = Responder {
+                        alloc,
+                        tables,
+                        site,
+                        line,
+                        reply: &BridgeReply::Full,
+                    };
+                    client.complete(config, responder, now);
+                }
+            }
+        }
+    }
+
+    /// Gives events to all who have the stream of them.
+    pub(crate) fn publish(&mut self, events: &[u8], now: u64) {
+        for client in &mut self.connected {
+            client.publish(events, now);
+        }
+    }
+
+    /// Responds to all who ask this query by an answer that is still right.
+    pub(crate) fn complete_query(
+        &mut self,
+        config: ServerConfig,
+        site: &Site,
+        query: Query,
+        reply: &BridgeReply,
+        now: u64,
+    ) {
+        for client in &mut self.connected {
+            if let Some(line) = client.dispatch_query(query) {
+                let (alloc, tables, line) = (config.alloc, &config.tables, line.as_slice());
+                let responder = Responder {
+                    alloc,
+                    tables,
+                    site,
+                    line,
+                    reply,
+                };
+                client.complete(config, responder, now);
+            }
+        }
     }
 
     /// Responds by this reply to all whose lines are still queued. The bridge doesn't get the lines.

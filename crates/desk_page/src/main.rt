@@ -8,6 +8,8 @@ mod bridge_client;
 mod client;
 mod client_state;
 mod clients;
+mod follow;
+mod kept;
 mod markup;
 mod names_store;
 mod options;

@@ -4,21 +4,24 @@ use desk_http::Query;
 use std::io;
 use std::time::{Clock, Instant};
 
-/// How many milliseconds are between two requests with the same query at least. All browsers share a reply.
-const INTERVAL: u64 = 100;
-
 /// When the bridge may be asked a query.
 #[derive(Clone, Copy)]
 pub(crate) struct QueryTimer {
     pub(crate) query: Query,
+    /// How many milliseconds are between two requests at least. All browsers share a reply.
+    interval: u64,
     /// The next moment, in milliseconds.
     next: u64,
 }
 
 impl QueryTimer {
     /// A query that may be asked at once.
-    pub(crate) fn new(query: Query) -> Self {
-        Self { query, next: 0 }
+    pub(crate) fn new(query: Query, interval: u64) -> Self {
+        Self {
+            query,
+            interval,
+            next: 0,
+        }
     }
 
     pub(crate) fn is_due(self, now: u64) -> bool {
@@ -27,7 +30,7 @@ impl QueryTimer {
 
     /// Notes that it is asked at this moment.
     pub(crate) fn note_asked(&mut self, now: u64) {
-        self.next = now.saturating_add(INTERVAL);
+        self.next = now.saturating_add(self.interval);
     }
 
     /// Lets it be asked at once.

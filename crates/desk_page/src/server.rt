@@ -2,12 +2,14 @@
 
 use crate::bridge_client::BridgeClient;
 use crate::clients::Clients;
+use crate::follow::{BridgeState, Follow};
+use crate::kept::Kept;
 use crate::names_store::NamesStore;
 use crate::page_sockets::{LISTENER, PageSockets};
 use crate::query_timer::{QueryTimer, millis_since};
 use crate::server_config::ServerConfig;
 use crate::setup::{router_at, run_name, server_config};
-use desk_http::{Addresses, BridgeReply, DeskTexts, Query, Router, is_naming};
+use desk_http::{Addresses, BridgeReply, DeskTexts, Query, Router, is_naming, latest_line};
 use mio::net::TcpStream;
 use mio::{Interest, Token};
 use std::alloc::{AllocError, AllocGlobal, Global};
@@ -25,6 +27,10 @@ const BRIDGE: Token = Token(1);
 const FIRST_CLIENT: usize = 2;
 /// How many connections are accepted in a round at most.
 const MAX_ACCEPTS: u32 = 1_024;
+/// How many milliseconds are between two requests with the same query at least, and between two counts.
+const QUERY_INTERVAL: u64 = 100;
+
+const COUNT_INTERVAL: u64 = 1_000;
 /// How many octets are read at a time.
 const CHUNK_SIZE: usize = 16_384;
 
@@ -46,6 +52,12 @@ pub(crate) struct Server {
     history: QueryTimer,
     calls: QueryTimer,
     stats: QueryTimer,
+    /// What the browsers with the stream of events are told.
+    follow: Follow,
+    /// The answers that are right while nothing changes.
+    kept: Kept,
+    /// How often the bridge was connected to when the desk was looked at.
+    connects: u64,
     /// The buffer of all reads.
     chunk: Vec<u8>,
 }
@@ -75,10 +87,13 @@ impl Server {
             run_name: run_name(rt, alloc)?,
             clients: Clients::new(alloc, FIRST_CLIENT),
             bridge: BridgeClient::new(alloc),
-            desk: QueryTimer::new(Query::Desk),
-            history: QueryTimer::new(Query::History),
-            calls: QueryTimer::new(Query::Calls),
-            stats: QueryTimer::new(Query::Stats),
+            desk: QueryTimer::new(Query::Desk, QUERY_INTERVAL),
+            history: QueryTimer::new(Query::History, QUERY_INTERVAL),
+            calls: QueryTimer::new(Query::Calls, QUERY_INTERVAL),
+            stats: QueryTimer::new(Query::Stats, COUNT_INTERVAL),
+            follow: Follow::new(alloc),
+            kept: Kept::new(),
+            connects: 0,
             chunk: Vec::new(alloc),
         };
         let served = server.run(rt, address);
@@ -104,9 +119,12 @@ impl Server {
         self.accept(now);
         self.poll_clients(now);
         self.serve_names(rt, now)?;
+        self.serve_events(now)?;
+        self.serve_kept(now);
         // The second time sends the line of the request that the first time began.
         self.poll_bridge(rt, now)?;
         self.poll_bridge(rt, now)?;
+        self.publish(now)?;
         self.poll_clients(now);
         self.clients.remove_closed(now);
         Ok(())
@@ -129,8 +147,68 @@ impl Server {
     }
 
     fn serve_names<R: Files>(&mut self, rt: &R, now: u64) -> io::Result<()> {
+        let version = self.store.names.version;
         self.clients
-            .serve_names(rt, self.config, &self.router.site, &mut self.store, now)
+            .serve_names(rt, self.config, &self.router.site, &mut self.store, now)?;
+        if self.store.names.version != version {
+            self.note_change();
+        }
+        Ok(())
+    }
+
+    /// Begins the streams of events that browsers ask for.
+    fn serve_events(&mut self, now: u64) -> io::Result<()> {
+        let first = self.follow.hello(
+            self.config.alloc,
+            str::from_utf8(&self.run_name).unwrap_or(""),
+            self.texts.number,
+        )?;
+        self.clients
+            .serve_events(self.config, &self.router.site, &first, now);
+        Ok(())
+    }
+
+    /// Responds by answers that are still right.
+    fn serve_kept(&mut self, now: u64) {
+        if !self.is_followed() {
+            self.kept.clear();
+        }
+        if !self.follow.is_settled() {
+            return;
+        }
+        self.serve_query(Query::Desk, now);
+        self.serve_query(Query::History, now);
+        self.serve_query(Query::Calls, now);
+    }
+
+    /// Responds to all who ask a query, if its answer is kept.
+    fn serve_query(&mut self, query: Query, now: u64) {
+        if let Some(reply) = self.kept.reply(query) {
+            self.clients
+                .complete_query(self.config, &self.router.site, query, reply, now);
+        }
+    }
+
+    /// Whether a browser has the stream of events.
+    fn is_followed(&self) -> bool {
+        self.clients.streams() > 0
+    }
+
+    /// Gives browsers the events that have come.
+    fn publish(&mut self, now: u64) -> io::Result<()> {
+        self.follow.note_beat(self.config.alloc, now)?;
+        self.clients.publish(&self.follow.events, now);
+        self.follow.events.clear();
+        Ok(())
+    }
+
+    /// Notes that the desk, its history and its log may have changed: they are asked for at once.
+    fn note_change(&mut self) {
+        self.desk.reset();
+        self.history.reset();
+        self.calls.reset();
+        self.follow.note_change();
+        self.kept.clear();
     }
 
     /// Accepts the connections that are waiting.
@@ -165,10 +243,36 @@ impl Server {
     }
 
     /// The next line for the bridge: the oldest connection's call, or else a query.
-    fn next_line(&mut self, now: u64) -> Option<Vec<u8>> {
-        match self.clients.next_call() {
-            Some(line) => Some(line),
-            None => self.due_query(now),
+    fn next_line(&mut self, now: u64) -> Result<Option<Vec<u8>>, AllocError> {
+        if let Some(line) = self.clients.next_call() {
+            return Ok(Some(line));
+        }
+        if let Some(line) = self.followed_line(now)? {
+            return Ok(Some(line));
+        }
+        Ok(self.due_query(now))
+    }
+
+    /// The line that follows the desk, if one is due. Who asks the same gets its answer.
+    fn followed_line(&mut self, now: u64) -> Result<Option<Vec<u8>>, AllocError> {
+        if !self.is_followed() {
+            return Ok(None);
+        }
+        match self.follow.due_line(now) {
+            Some(line) => {
+                self.join(line);
+                Ok(Some(Vec::from_slice(self.config.alloc, line)?))
+            }
+            None => Ok(None),
+        }
+    }
+
+    /// Lets those who ask the same as this line have its answer.
+    fn join(&mut self, line: &[u8]) {
+        if line == Query::Desk.line() {
+            drop(self.clients.next_query(Query::Desk));
+        } else if line == Query::Calls.line() {
+            drop(self.clients.next_query(Query::Calls));
         }
     }
 
@@ -203,7 +307,7 @@ impl Server {
         if self.begin_naming(rt, now)? {
             return Ok(());
         }
-        if let Some(line) = self.next_line(now) {
+        if let Some(line) = self.next_line(now)? {
             let registry = self.sockets.poll.registry();
             let (alloc, address) = (self.config.alloc, self.bridge_address);
             self.bridge
@@ -226,14 +330,26 @@ impl Server {
     /// response at once, too.
     fn finish_request(&mut self, line: Vec<u8>, reply: BridgeReply, now: u64) -> io::Result<()> {
         let mut reply = reply;
+        self.note_bridge(&reply)?;
         self.note_reply(&line, &mut reply)?;
         self.complete(&line, &reply, now);
         match reply {
-            BridgeReply::Text(_) => self.refuse_unnamed(&line, &reply, now),
+            BridgeReply::Text(_) | BridgeReply::Full => self.refuse_unnamed(&line, &reply, now),
             BridgeReply::Busy => self.complete_queued(&BridgeReply::Busy, now),
             BridgeReply::Gone | BridgeReply::Lost => self.complete_queued(&BridgeReply::Gone, now),
         }
+        self.kept.keep(&line, reply);
         Ok(())
+    }
+
+    /// Notes what a reply says of the bridge. Over a new connection another bridge may answer.
+    fn note_bridge(&mut self, reply: &BridgeReply) -> Result<(), AllocError> {
+        if self.connects != self.bridge.connects {
+            self.connects = self.bridge.connects;
+            self.follow.note_change();
+            self.kept.clear();
+        }
+        self.follow.note_bridge(BridgeState::by(reply))
     }
 
     /// Responds to the next call by the answer to a name that the bridge doesn't give: without it the call isn't sent.
@@ -249,25 +365,39 @@ impl Server {
     fn note_desk(&mut self, text: &mut Vec<u8>) -> Result<(), AllocError> {
         let alloc = self.config.alloc;
         self.store.names.append_heading(alloc, text)?;
+        let run = str::from_utf8(&self.run_name).unwrap_or("");
+        self.follow.note_desk(alloc, &self.texts, run, text)?;
         self.texts.note(alloc, text)?;
         self.texts.append_state(alloc, &self.run_name, text)
     }
 
-    /// Adds the version of the names to the desk, and the state that names its text. After a call the desk, the history
-    /// and the log are asked for at once.
-    fn note_reply(&mut self, line: &[u8], reply: &mut BridgeReply) -> Result<(), AllocError> {
+    /// Takes what the bridge answered to a question. Adds the version of the names to the desk, and the state that names
+    /// its text.
+    fn note_text(&mut self, line: &[u8], text: &mut Vec<u8>) -> Result<(), AllocError> {
         if line == Query::Desk.line() {
-            if let BridgeReply::Text(text) = reply {
-                self.note_desk(text)?;
-            }
-        } else if line != Query::History.line()
-            && line != Query::Calls.line()
-            && line != Query::Stats.line()
-            && !is_naming(line)
-        {
-            self.desk.reset();
-            self.history.reset();
-            self.calls.reset();
+            self.note_desk(text)
+        } else if line == Query::Calls.line() {
+            self.follow.note_log(self.config.alloc, text)
+        } else if line == latest_line() && self.follow.note_newest(self.config.alloc, text)? {
+            self.note_change();
+            Ok(())
+        } else {
+            Ok(())
+        }
+    }
+
+    /// Takes a reply. After a call the desk, the history and the log are asked for at once.
+    fn note_reply(&mut self, line: &[u8], reply: &mut BridgeReply) -> Result<(), AllocError> {
+        if let BridgeReply::Text(text) = reply {
+            self.note_text(line, text)?;
+        }
+        let is_question = line == Query::Desk.line()
+            || line == Query::History.line()
+            || line == Query::Calls.line()
+            || line == Query::Stats.line()
+            || line == latest_line();
+        if !is_question && !is_naming(line) {
+            self.note_change();
         }
         Ok(())
     }
