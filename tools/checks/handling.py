@@ -239,7 +239,7 @@ def costs(browser, ask, ssrc):
     operator."""
     times = []
     for at in range(10):
-        browser.run("clearTimeout(timer), asking = true, true")
+        browser.run("closeStream(), clearTimeout(timer), asking = true, true")
         said = ask(f"{'un' * (at % 2)}mute {ssrc}")
         check(said.startswith("ok "), f"another operator's change is told {said}")
         browser.run(
@@ -249,7 +249,7 @@ def costs(browser, ask, ssrc):
         begun = browser.used()
         browser.run("take(got).then(() => document.body.offsetHeight)")
         times.append(browser.used() - begun)
-    browser.run("asking = false, show(), true")
+    browser.run("asking = false, openStream(), show(), true")
     return statistics.median(times[2:])
 
 

@@ -18,6 +18,8 @@ RESERVED = (
 )  # fmt: skip
 MOST_CALLS, MOST_PAST = 256, 512
 LONGEST_NAME, LONGEST_CHANGE = 800, 262_144
+# About how many octets the head of a response has.
+HEAD = 500
 
 
 def is_names(text):
@@ -40,6 +42,7 @@ class Standin:
         self.path, self.names, self.version = names and pathlib.Path(names), text, 0
         self.lock, self.is_gone, self.counted = threading.Lock(), False, None
         self.pause, self.run, self.text, self.number = 0, secrets.token_hex(16), None, 0
+        self.has_events, self.octets = True, 0
 
     def waits(self):
         """Answers late, by a pause that may end earlier."""
@@ -85,6 +88,18 @@ class Standin:
             if lines != self.text:
                 self.text, self.number = lines, self.number + 1
             return lines + [f"state {self.run}-{self.number}"]
+
+    def key(self):
+        """What the desk's text depends on."""
+        return self.log, self.log.version, self.version
+
+    def edited(self, before, after):
+        """What turns a desk's lines into others, as the program tells it to browsers."""
+        states = [lines[-1].partition(" ")[2] for lines in (before, after)]
+        old, new = ("".join(f"{line}\n" for line in lines[:-1]) for lines in (before, after))
+        start = len(os.path.commonprefix([old, new]))
+        end = len(os.path.commonprefix([old[start:][::-1], new[start:][::-1]]))
+        return f"{' '.join(states)} {start} {len(old) - start - end}\n{new[start : len(new) - end]}"
 
     def rename(self, body):
         head, _, text = body.partition("\n")
@@ -139,10 +154,45 @@ def handler_of(standin):
             for name, value in fields.items():
                 self.send_header(name, value)
             self.end_headers()
+            standin.octets += len(body) + HEAD
             self.wfile.write(body)
+
+        def event(self, name, told):
+            told = told.replace("\n", "\ndata: ")
+            event = f"event: {name}\ndata: {told}\n\n".encode()
+            standin.octets += len(event)
+            self.wfile.write(event)
+
+        def stream(self):
+            """The stream of events, until the browser closes it."""
+            self.send_response(200)
+            for name, value in {"Content-Type": "text/event-stream", "Cache-Control": "no-store"}.items():
+                self.send_header(name, value)
+            self.end_headers()
+            key, lines, told = standin.key(), standin.desk(), len(standin.logged())
+            self.event("hello", lines[-1].partition(" ")[2])
+            was_gone, beat = False, time.monotonic()
+            while True:
+                time.sleep(0.02)
+                if standin.pause:
+                    continue
+                if standin.is_gone != was_gone:
+                    was_gone = standin.is_gone
+                    self.event("bridge", "gone" if was_gone else "anew")
+                if not was_gone and standin.key() != key:
+                    told = told if key[0] is standin.log else 0
+                    for line in standin.logged()[told:]:
+                        self.event("call", line)
+                    key, before, lines, told = standin.key(), lines, standin.desk(), len(standin.logged())
+                    self.event("desk", standin.edited(before, lines))
+                if time.monotonic() - beat >= 2:
+                    beat = time.monotonic()
+                    self.event("beat", str(int(1000 * beat)))
 
         def do_GET(self):
             standin.waits()
+            if self.path == "/events" and standin.has_events:
+                return self.stream()
             if standin.file(self.path):
                 return self.tell(200, *standin.file(self.path))
             if self.path == "/names":

@@ -113,6 +113,10 @@ def shows_figures(browser):
                  "'losing over 2 percent of what it is sent'")  # fmt: skip
     said = browser.run("[...document.querySelectorAll('#detail .figures dd')].map((node) => node.textContent)")
     check(said == ["−75 dBov", "0 %", "9 ms", "29.7 %", "400 ms"], f"the details say {said}")
+    plots = "[...document.querySelectorAll('#detail .figures .plot path')].map((node) => node.getAttribute('d'))"
+    browser.wait(f"{plots}.length === 5 && {plots}.every((path) => path.includes('L'))")
+    tops = browser.run(f"{plots}.map((path) => path.split('L').at(-1).split(' ')[1])")
+    check(tops == ["20.0", "20.0", "17.0", "0.0", "0.0"], f"the plots end at the heights {tops}")
     mixed = browser.run("document.querySelector('#detail > .counted').textContent")
     check(mixed == "its mix: 29.7 percent lost, jitter 12 ms, round trip 400 ms", f"of the mix the details say {mixed}")
     browser.run("acts.close(), true")

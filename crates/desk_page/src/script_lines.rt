@@ -1,6 +1,6 @@
 //! What the page makes of the bridge's texts, and the lines that clicks send.
 //! `tools/bridge make page` writes this file, from these files of web/:
-//! advice.js, lines.js, overview.js, kept.js, levels.js, stats.js, people.js, rules.js, history.js.
+//! advice.js, lines.js, overview.js, kept.js, levels.js, stats.js, people.js, news.js, plots.js, rules.js, history.js.
 
 /// The first part of the page's script.
 pub(crate) const LINES: &[u8] = br##""use strict";
@@ -695,6 +695,73 @@ function timeOf(moment, now) {
 // Whether a call is another one's: neither this page's, nor by the name that its operator has.
 function isOthers(call, me, mine) { return call !== undefined && !mine.has(call.number) && call.name !== me; }
 
+// What the stream of events says. No function touches the page.
+
+// The most calls of the log that a page keeps.
+const MOST_LOGGED = 512;
+
+// The text of /desk.txt after an event `desk`: its data has the state before and after, where octets go, how many, and
+// those that come in their place. The text as it is where it has that state already, and null where it is another one.
+function editedText(text, told) {
+  const [head, ...lines] = told.split("\n"), [before, after, start, removed] = head.split(" ");
+  const end = text.lastIndexOf("state "), state = text.slice(end + 6).trimEnd(), from = Number(start);
+  if (state === after) return text;
+  if (state !== before) return null;
+  const desk = text.slice(0, end);
+  return `${desk.slice(0, from)}${lines.join("\n")}${desk.slice(from + Number(removed))}state ${after}\n`;
+}
+
+// Whether a text of /desk.txt is from before another one of the same run.
+function isOlderText(text, than) {
+  const stateOf = (one) => one.slice(one.lastIndexOf("state ") + 6).trimEnd().split("-");
+  const [run, number] = stateOf(text), [otherRun, otherNumber] = stateOf(than);
+  return run === otherRun && Number(number) < Number(otherNumber);
+}
+
+// The calls of the log with those of an event `call`, the last ones of all.
+function withCalls(calls, told) {
+  const all = new Map([...calls, ...callsIn(told)]);
+  for (const number of all.keys()) {
+    if (all.size <= MOST_LOGGED) break;
+    all.delete(number);
+  }
+  return all;
+}
+
+// Two minutes of a member's figures, and the lines that draw them. No function touches the page.
+
+// How far back a trace goes, in milliseconds, and the size of a plot in units of its own.
+const TRACED = 120000, PLOT_WIDTH = 120, PLOT_HEIGHT = 20;
+// What is traced, each with the lowest value and the least value that reaches the top of its plot.
+const PLOTS = [["level", -60, -10], ["lossIn", 0, 0.1], ["jitter", 0, 60], ["lossOut", 0, 0.1], ["trip", 0, 300]];
+
+// A trace with one more sample: the moment and the figures of then.
+function traced(trace, at, figures) {
+  const kept = trace.filter(([then]) => then > at - TRACED);
+  return [...kept, [at, ...PLOTS.map(([name]) => figures[name])]];
+}
+// The traces of all members, and of no other ones.
+function tracedAll(traces, desk, stats) {
+  return new Map(desk.members.map((member) =>
+    [member.member, traced(traces.get(member.member) ?? [], stats.at, figuresOf(desk, stats, member))]));
+}
+
+// The line of one figure, as a path from the left edge two minutes ago to the right edge now. Where nothing is known
+// the line has a gap, and a sample by itself is a dot.
+function plotted(trace, place, now) {
+  const [, lowest, least] = PLOTS[place], known = trace.map((sample) => sample[place + 1]);
+  const highest = Math.max(least, ...known.filter((value) => value !== null));
+  let path = "", isOn = false;
+  trace.forEach(([then], at) => {
+    const value = known[at], x = PLOT_WIDTH * (1 - (now - then) / TRACED);
+    const share = value === null ? 0 : Math.max(0, value - lowest) / (highest - lowest);
+    if (value !== null) path += `${isOn ? "L" : "M"}${x.toFixed(1)} ${(PLOT_HEIGHT * (1 - share)).toFixed(1)}`;
+    if (value !== null && !isOn) path += "h.1";
+    isOn = value !== null;
+  });
+  return path;
+}
+
 // The rules of the page: what stays in its place, when a press is meant, and who is in trouble. No function touches the
 // page.
 
@@ -983,7 +1050,8 @@ if (typeof module !== "undefined") {
     lines, dropped, free, suggested, inWords, replyInWords, parseHistory, worded, callWords, begun, wayTo, wayWords,
     callInTheWay, changes, keptText, groupsIn, parseStats, agoInWords, isSilent, isLossy, countOf, countInWords,
     streamInWords, turnedRooms, strangersIn, personWord, personName, callsIn, whoOf, timeOf, isOthers, undoOf, redoOf,
-    figuresOf, levelOf, speechAfter, levelInWords, spanInWords, objectsOfRow,
+    editedText, isOlderText, withCalls, traced, tracedAll, plotted, figuresOf, levelOf, speechAfter, levelInWords,
+    spanInWords, objectsOfRow,
     objectsOfLine, othersObjects, placeChanges, inOldPlaces, troubleOf, tallyOf, isCounted, linkOf, linkInWords };
 }
 "##;

@@ -1,6 +1,6 @@
 //! How the page shows the desk, and what is done at it.
 //! `tools/bridge make page` writes this file, from these files of web/:
-//! view.js, rows.js, page.js, taking.js, link.js, counts.js, places.js, drawing.js, hands.js.
+//! view.js, rows.js, page.js, taking.js, link.js, stream.js, counts.js, places.js, drawing.js, hands.js.
 
 /// The rest of the page's script.
 pub(crate) const VIEW: &[u8] = br##"// Drawing.
@@ -155,6 +155,17 @@ function roomCard({ model }) {
       "aria-label": `Members of ${spoken(name, "room", room)}` }));
 }
 
+// The line of a figure over two minutes. Its words are the figure's own.
+const DRAWN = "http://www.w3.org/2000/svg";
+function plotOf(path) {
+  const plot = document.createElementNS(DRAWN, "svg"), line = document.createElementNS(DRAWN, "path");
+  for (const [name, value] of [["viewBox", `0 0 ${PLOT_WIDTH} ${PLOT_HEIGHT}`], ["preserveAspectRatio", "none"],
+    ["class", "plot"], ["aria-hidden", "true"]]) plot.setAttribute(name, value);
+  line.setAttribute("d", path);
+  plot.append(line);
+  return plot;
+}
+
 // The panel of one member. Each thing has its buttons at the right, in places of their own.
 function gainRow(member, who, { ssrc, gain, label, hasLeft }) {
   const line = lines.setGain(member, ssrc, ""), off = hasLeft ? { disabled: true } : {};
@@ -201,8 +212,8 @@ function detailPanel(model) {
     el("div", { class: "soft address" }, "in ", bdi(roomLabel), `, ${model.address} ${model.codec}, mix ${model.mix}`,
       left ? `, ${left}` : ""),
     el("p", { class: "soft told", title: model.told }, model.told),
-    el("dl", { class: "figures" }, ...model.figures.flatMap(([what, text, kind, title]) =>
-      [el("dt", {}, what), el("dd", { class: kind || null, title: title || null }, text)])),
+    el("dl", { class: "figures" }, ...model.figures.flatMap(([what, text, kind, title, path]) =>
+      [el("dt", {}, what), el("dd", { class: kind || null, title: title || null }, text, plotOf(path))])),
     el("div", { class: "acts" },
       model.floor ? sends("Take floor", lines.takeFloor(room), `from ${who}`, "", `floor-of ${member}`) :
         sends("Give floor", lines.giveFloor(room, member), `to ${who}`, "", `floor-of ${member}`),
@@ -377,6 +388,7 @@ const FEW_ROOMS = 8, FEW_MEMBERS = 4, ROW_HEIGHT = 25, HEAD_HEIGHT = 34, FADES =
 const folded = new Map(), picked = new Set(), here = new Map();
 const widened = new Set(), resting = new Map(), suggestions = new Map();
 let desk = null, shownText = null, drag = null, group = [], timer = null, asking = false, opened = null, past = null;
+let isAskedAgain = false;
 let names = {}, namesVersion = -1, walked = null, stats = null, counted = -Infinity;
 // The calls of the log, who is at this page, and what a question is about that a newer change closes.
 let calls = new Map(), me = NOBODY, asked = null;
@@ -460,7 +472,7 @@ async function call(line, words = line, key = pressed) {
   }
   clearTimeout(slow);
   answered(control, version);
-  show();
+  if (!isFollowed()) show();
   return version;
 }
 
@@ -708,9 +720,12 @@ async function takeToken() {
 }
 const ANEW = "not sent: the page's program was started anew. Look, and press again.";
 
-// Asks for the desk, and shows it where it has changed.
+// Asks for the desk, and shows it where it has changed. Without a stream of events it is asked for again and again.
 async function show() {
-  if (asking) return;
+  if (asking) {
+    isAskedAgain = true;
+    return;
+  }
   asking = true;
   clearTimeout(timer);
   try {
@@ -724,7 +739,10 @@ async function show() {
   }
   judge();
   asking = false;
-  timer = setTimeout(show, EVERY);
+  clearTimeout(timer);
+  if (isAskedAgain) show();
+  else if (!isFollowed()) timer = setTimeout(show, EVERY);
+  isAskedAgain = false;
 }
 
 // What the page makes of its link. Where it is gone all can be read, and nothing is sent.
@@ -740,10 +758,17 @@ function judge() {
   document.body.classList.toggle("gone", isGone());
 }
 
-async function take(text) {
+// Texts are taken one after another, since each may have to wait for names and history.
+let taking = Promise.resolve();
+function take(text) {
+  taking = taking.catch(() => {}).then(() => takeText(text));
+  return taking;
+}
+async function takeText(text) {
   [told, lastNews, since] = ["", performance.now(), new Date().toTimeString().slice(0, 8)];
   judge();
-  if (text !== shownText && !drag) await takeDesk(text);
+  const isNew = !shownText || (text !== shownText && !isOlderText(text, shownText));
+  if (isNew && !drag) await takeDesk(text);
   if (desk && past?.version !== desk.version) await takeHistory();
 }
 
@@ -755,6 +780,7 @@ async function takeDesk(text) {
   // Another desk of the same version, or of an earlier one, is another bridge's.
   if (desk && (next.version < desk.version || (next.version === desk.version && rows.length > 0))) {
     past = null;
+    calls = new Map();
     mine.clear();
     waits.clear();
   }
@@ -802,12 +828,15 @@ function loseSliders() {
 
 // The history and the log, as the bridge tells them. Where that fails, they are asked for with the next desk.
 async function takeHistory() {
-  const [reply, logged] = await Promise.all([get("/history.txt"), get("/past.txt")]);
+  const reply = await get("/history.txt");
   if (!reply.ok) return;
   const before = past, next = parseHistory(await reply.text(), past);
-  const log = callsIn(logged.ok ? await logged.text() : "");
-  // A log from before the history lacks its newest calls.
-  calls = log.size === 0 || log.has(next.version) ? log : callsIn(await (await get("/past.txt")).text());
+  // A log from before the history lacks its newest calls. The stream of events tells calls before the desk.
+  for (let turn = 0; turn < 2 && !calls.has(next.version); turn += 1) {
+    const logged = await get("/past.txt"), log = callsIn(logged.ok ? await logged.text() : "");
+    calls = log;
+    if (log.size === 0) break;
+  }
   past = next;
   if (before) tellOthers(before);
   renderHistory();
@@ -830,10 +859,80 @@ function tellOthers(before) {
   else if (taken) tellNews(`${told ? who : "another operator"} ${is}: ${saidOf(taken.number)}${more}`);
 }
 
+// The stream of events: the page's program tells what happens, and isn't asked for it. Where no stream can be had, the
+// page asks as often as it does without one.
+
+// How long after a stream was refused another one is tried, and how long a tab that nobody sees keeps its own: browsers
+// have six connections to a host for all of their tabs.
+const RETRIED = 5000, KEPT_HIDDEN = 30000;
+let stream = null, isHeard = false, openedAt = -Infinity, hiding = null, coming = Promise.resolve();
+const isFollowed = () => isHeard && stream?.readyState === EventSource.OPEN;
+
+// News came. What the program says of its bridge stays.
+function newsCame() {
+  lastNews = performance.now();
+  if (!told) since = new Date().toTimeString().slice(0, 8);
+  judge();
+}
+const onEvent = {
+  hello: (state) => {
+    isHeard = true;
+    clearTimeout(timer);
+    if (!desk || desk.state !== state) return show();
+    told = "";
+    return newsCame();
+  },
+  desk: (edit) => {
+    const text = shownText === null || drag ? null : editedText(shownText, edit);
+    return text === null ? show() : take(text);
+  },
+  call: (line) => { calls = withCalls(calls, line); },
+  bridge: (word) => {
+    told = { gone: "bridge", busy: "seats" }[word] ?? "";
+    newsCame();
+    return told ? null : show();
+  },
+  beat: () => {
+    newsCame();
+    const isBehind = desk && shownText !== null && !told && past?.version !== desk.version;
+    return isBehind ? take(shownText) : null;
+  },
+};
+function openStream() {
+  closeStream();
+  openedAt = performance.now();
+  stream = new EventSource("/events");
+  for (const [name, take] of Object.entries(onEvent)) {
+    stream.addEventListener(name, ({ data }) => { coming = coming.then(() => take(data)).catch(console.error); });
+  }
+  stream.addEventListener("error", () => {
+    isHeard = false;
+    show();
+  });
+}
+function closeStream() {
+  stream?.close();
+  stream = null;
+  isHeard = false;
+}
+// Opens a stream again that was refused, or that says nothing any more.
+function watchStream() {
+  if (!stream || performance.now() - openedAt < RETRIED) return;
+  const isSilent = isHeard && performance.now() - lastNews > GONE;
+  if (stream.readyState === EventSource.CLOSED || isSilent) openStream();
+}
+document.addEventListener("visibilitychange", () => {
+  clearTimeout(hiding);
+  if (document.visibilityState !== "visible") hiding = setTimeout(closeStream, KEPT_HIDDEN);
+  else if (!stream) openStream();
+});
+
 
 // What the bridge counts: asking for it, and the senders that are no source.
 // How long after a count the next one is asked for, in milliseconds. An answer for many sources is long.
 const OFTEN = 1000, SELDOM = 2000, MANY_SOURCES = 256;
+// The figures of two minutes, by member.
+let traces = new Map();
 const countedEvery = () => (stats && stats.sources.size > MANY_SOURCES ? SELDOM : OFTEN);
 // Asks what the bridge counts, while somebody can see the page. Where the bridge doesn't know the question, the status
 // is no success, and nothing is shown of it.
@@ -853,6 +952,7 @@ async function count() {
 function takeStats(next) {
   const before = stats;
   stats = next;
+  traces = next && desk ? tracedAll(traces, desk, next) : new Map();
   if (!desk) return;
   if (!before) orderedAt = -Infinity;
   const turned = before || next ? turnedRooms(desk, before, next) : new Set();
@@ -1081,8 +1181,10 @@ function countedDetail(member) {
   const speech = isSpeaking ? `speaks${isMuted(desk, member.member) ? " while muted" : ""}` : "";
   const cells = cellsOf(figures).map(([, text, kind], at) => [["Loss in", "Jitter", "Loss out", "Trip"][at],
     text === "\u2013" ? text : `${text} ${["%", "ms"][at % 2]}`, kind.trim()]);
+  const trace = traces.get(member.member) ?? [], plots = PLOTS.map((_, place) => plotted(trace, place, stats?.at ?? 0));
   return { told: [STATES[troubleOf(desk, stats, member)][2], speech].filter(Boolean).join("; ") || "nothing stands out",
-    figures: [["Level", ...heard], ...cells],
+    figures: [["Level", ...heard], ...cells].map(([what, text, kind, title], place) =>
+      [what, text, kind, title, plots[place]]),
     mixed: stats && streamInWords(stats.streams.get(member.mix)) };
 }
 
@@ -1330,6 +1432,7 @@ document.addEventListener("dragend", () => {
   unmark();
   drag = null;
   shownText = null;
+  if (isFollowed()) show();
 });
 
 // Keys.
@@ -1428,7 +1531,9 @@ at("send-group").addEventListener("click", () => {
   call(line);
 });
 setInterval(judge, JUDGED_EVERY);
+setInterval(watchStream, JUDGED_EVERY);
 setInterval(count, EVERY);
 document.addEventListener("visibilitychange", count);
 show();
+openStream();
 "##;

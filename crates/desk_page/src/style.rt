@@ -155,6 +155,8 @@ button.fold { width: 24px; padding: 0; border: 0; background: none; }
 #detail .told { margin: 0; }
 #detail .told, .slot .counted, #detail > .counted { white-space: nowrap; overflow: hidden; text-overflow: ellipsis; }
 .figures dt { color: var(--soft); font-size: .92em; }
+.plot { display: block; width: 100%; height: 20px; border-bottom: 1px solid var(--line); overflow: visible; }
+.plot path { fill: none; stroke: currentColor; stroke-width: 1.2px; vector-effect: non-scaling-stroke; }
 .figures dd { margin: 0; font-variant-numeric: tabular-nums; white-space: nowrap; }
 #detail .row.slider { grid-template-columns: minmax(0, 1fr) 8rem auto; }
 #detail > .soft { margin-right: .5rem; }

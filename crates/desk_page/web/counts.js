@@ -2,6 +2,8 @@
 // What the bridge counts: asking for it, and the senders that are no source.
 // How long after a count the next one is asked for, in milliseconds. An answer for many sources is long.
 const OFTEN = 1000, SELDOM = 2000, MANY_SOURCES = 256;
+// The figures of two minutes, by member.
+let traces = new Map();
 const countedEvery = () => (stats && stats.sources.size > MANY_SOURCES ? SELDOM : OFTEN);
 // Asks what the bridge counts, while somebody can see the page. Where the bridge doesn't know the question, the status
 // is no success, and nothing is shown of it.
@@ -21,6 +23,7 @@ async function count() {
 function takeStats(next) {
   const before = stats;
   stats = next;
+  traces = next && desk ? tracedAll(traces, desk, next) : new Map();
   if (!desk) return;
   if (!before) orderedAt = -Infinity;
   const turned = before || next ? turnedRooms(desk, before, next) : new Set();

@@ -45,8 +45,10 @@ function countedDetail(member) {
   const speech = isSpeaking ? `speaks${isMuted(desk, member.member) ? " while muted" : ""}` : "";
   const cells = cellsOf(figures).map(([, text, kind], at) => [["Loss in", "Jitter", "Loss out", "Trip"][at],
     text === "\u2013" ? text : `${text} ${["%", "ms"][at % 2]}`, kind.trim()]);
+  const trace = traces.get(member.member) ?? [], plots = PLOTS.map((_, place) => plotted(trace, place, stats?.at ?? 0));
   return { told: [STATES[troubleOf(desk, stats, member)][2], speech].filter(Boolean).join("; ") || "nothing stands out",
-    figures: [["Level", ...heard], ...cells],
+    figures: [["Level", ...heard], ...cells].map(([what, text, kind, title], place) =>
+      [what, text, kind, title, plots[place]]),
     mixed: stats && streamInWords(stats.streams.get(member.mix)) };
 }
 

@@ -126,6 +126,7 @@ document.addEventListener("dragend", () => {
   unmark();
   drag = null;
   shownText = null;
+  if (isFollowed()) show();
 });
 
 // Keys.
@@ -224,6 +225,8 @@ at("send-group").addEventListener("click", () => {
   call(line);
 });
 setInterval(judge, JUDGED_EVERY);
+setInterval(watchStream, JUDGED_EVERY);
 setInterval(count, EVERY);
 document.addEventListener("visibilitychange", count);
 show();
+openStream();

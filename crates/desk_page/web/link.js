@@ -29,9 +29,12 @@ async function takeToken() {
 }
 const ANEW = "not sent: the page's program was started anew. Look, and press again.";
 
-// Asks for the desk, and shows it where it has changed.
+// Asks for the desk, and shows it where it has changed. Without a stream of events it is asked for again and again.
 async function show() {
-  if (asking) return;
+  if (asking) {
+    isAskedAgain = true;
+    return;
+  }
   asking = true;
   clearTimeout(timer);
   try {
@@ -45,7 +48,10 @@ async function show() {
   }
   judge();
   asking = false;
-  timer = setTimeout(show, EVERY);
+  clearTimeout(timer);
+  if (isAskedAgain) show();
+  else if (!isFollowed()) timer = setTimeout(show, EVERY);
+  isAskedAgain = false;
 }
 
 // What the page makes of its link. Where it is gone all can be read, and nothing is sent.
@@ -61,10 +67,17 @@ function judge() {
   document.body.classList.toggle("gone", isGone());
 }
 
-async function take(text) {
+// Texts are taken one after another, since each may have to wait for names and history.
+let taking = Promise.resolve();
+function take(text) {
+  taking = taking.catch(() => {}).then(() => takeText(text));
+  return taking;
+}
+async function takeText(text) {
   [told, lastNews, since] = ["", performance.now(), new Date().toTimeString().slice(0, 8)];
   judge();
-  if (text !== shownText && !drag) await takeDesk(text);
+  const isNew = !shownText || (text !== shownText && !isOlderText(text, shownText));
+  if (isNew && !drag) await takeDesk(text);
   if (desk && past?.version !== desk.version) await takeHistory();
 }
 
@@ -76,6 +89,7 @@ async function takeDesk(text) {
   // Another desk of the same version, or of an earlier one, is another bridge's.
   if (desk && (next.version < desk.version || (next.version === desk.version && rows.length > 0))) {
     past = null;
+    calls = new Map();
     mine.clear();
     waits.clear();
   }
@@ -123,12 +137,15 @@ function loseSliders() {
 
 // The history and the log, as the bridge tells them. Where that fails, they are asked for with the next desk.
 async function takeHistory() {
-  const [reply, logged] = await Promise.all([get("/history.txt"), get("/past.txt")]);
+  const reply = await get("/history.txt");
   if (!reply.ok) return;
   const before = past, next = parseHistory(await reply.text(), past);
-  const log = callsIn(logged.ok ? await logged.text() : "");
-  // A log from before the history lacks its newest calls.
-  calls = log.size === 0 || log.has(next.version) ? log : callsIn(await (await get("/past.txt")).text());
+  // A log from before the history lacks its newest calls. The stream of events tells calls before the desk.
+  for (let turn = 0; turn < 2 && !calls.has(next.version); turn += 1) {
+    const logged = await get("/past.txt"), log = callsIn(logged.ok ? await logged.text() : "");
+    calls = log;
+    if (log.size === 0) break;
+  }
   past = next;
   if (before) tellOthers(before);
   renderHistory();

@@ -4,6 +4,7 @@ const FEW_ROOMS = 8, FEW_MEMBERS = 4, ROW_HEIGHT = 25, HEAD_HEIGHT = 34, FADES =
 const folded = new Map(), picked = new Set(), here = new Map();
 const widened = new Set(), resting = new Map(), suggestions = new Map();
 let desk = null, shownText = null, drag = null, group = [], timer = null, asking = false, opened = null, past = null;
+let isAskedAgain = false;
 let names = {}, namesVersion = -1, walked = null, stats = null, counted = -Infinity;
 // The calls of the log, who is at this page, and what a question is about that a newer change closes.
 let calls = new Map(), me = NOBODY, asked = null;
@@ -87,7 +88,7 @@ async function call(line, words = line, key = pressed) {
   }
   clearTimeout(slow);
   answered(control, version);
-  show();
+  if (!isFollowed()) show();
   return version;
 }
 

@@ -150,6 +150,17 @@ function roomCard({ model }) {
       "aria-label": `Members of ${spoken(name, "room", room)}` }));
 }
 
+// The line of a figure over two minutes. Its words are the figure's own.
+const DRAWN = "http://www.w3.org/2000/svg";
+function plotOf(path) {
+  const plot = document.createElementNS(DRAWN, "svg"), line = document.createElementNS(DRAWN, "path");
+  for (const [name, value] of [["viewBox", `0 0 ${PLOT_WIDTH} ${PLOT_HEIGHT}`], ["preserveAspectRatio", "none"],
+    ["class", "plot"], ["aria-hidden", "true"]]) plot.setAttribute(name, value);
+  line.setAttribute("d", path);
+  plot.append(line);
+  return plot;
+}
+
 // The panel of one member. Each thing has its buttons at the right, in places of their own.
 function gainRow(member, who, { ssrc, gain, label, hasLeft }) {
   const line = lines.setGain(member, ssrc, ""), off = hasLeft ? { disabled: true } : {};
@@ -196,8 +207,8 @@ function detailPanel(model) {
     el("div", { class: "soft address" }, "in ", bdi(roomLabel), `, ${model.address} ${model.codec}, mix ${model.mix}`,
       left ? `, ${left}` : ""),
     el("p", { class: "soft told", title: model.told }, model.told),
-    el("dl", { class: "figures" }, ...model.figures.flatMap(([what, text, kind, title]) =>
-      [el("dt", {}, what), el("dd", { class: kind || null, title: title || null }, text)])),
+    el("dl", { class: "figures" }, ...model.figures.flatMap(([what, text, kind, title, path]) =>
+      [el("dt", {}, what), el("dd", { class: kind || null, title: title || null }, text, plotOf(path))])),
     el("div", { class: "acts" },
       model.floor ? sends("Take floor", lines.takeFloor(room), `from ${who}`, "", `floor-of ${member}`) :
         sends("Give floor", lines.giveFloor(room, member), `to ${who}`, "", `floor-of ${member}`),

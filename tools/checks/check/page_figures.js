@@ -142,4 +142,18 @@ same(page.overview(desk, {}, "", "number", (member) => member.member === 12).map
 same(["trouble", "speaking"].map((sort) =>
   page.overview(desk, {}, "", sort, null, (room) => -room).map(({ room }) => room)), [[2, 1], [2, 1]]);
 
+// A trace has the figures of two minutes. Its line goes from left to right, and has a gap where nothing is known.
+const sample = (level, trip = null) => ({ level, lossIn: 0.05, jitter: 30, lossOut: null, trip });
+const trace = [[0, -60], [60000, -35], [90000, null], [120000, -10]].reduce((before, [moment, level]) =>
+  page.traced(before, moment, sample(level, 600)), []);
+same(trace, [[60000, -35, 0.05, 30, null, 600], [90000, null, 0.05, 30, null, 600],
+  [120000, -10, 0.05, 30, null, 600]]);
+same([0, 1, 2, 3, 4].map((place) => page.plotted(trace, place, 120000)),
+  ["M60.0 10.0h.1M120.0 0.0h.1", "M60.0 10.0h.1L90.0 10.0L120.0 10.0", "M60.0 10.0h.1L90.0 10.0L120.0 10.0", "",
+    "M60.0 0.0h.1L90.0 0.0L120.0 0.0"]);
+same(page.plotted([[0, -90, 0.4, 0, 0, 0], [120000, -90, 0.2, 0, 0, 0]], 0, 120000), "M0.0 20.0h.1L120.0 20.0");
+same(page.plotted([[0, -90, 0.4, 0, 0, 0], [120000, -90, 0.2, 0, 0, 0]], 1, 120000), "M0.0 0.0h.1L120.0 10.0");
+const both = page.tracedAll(new Map([[10, [[ill.at - 5, null, 0, 0, 0, 0]]], [99, []]]), desk, ill);
+same([...both].map(([member, samples]) => [member, samples.length]), [[10, 2], [11, 1], [12, 1]]);
+
 console.log(`${tried} tries of what the page makes of counts, no fault`);

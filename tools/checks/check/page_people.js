@@ -22,6 +22,18 @@ const log = page.callsIn(`call ${first}\ncall ${second}\nend 2\n`);
 same([...log.keys()], [1, 2]);
 same(log.get(2), { number: 2, moment: 1764360004870, operator: 1, name: "ann", line: "group mute 1 / mute 2" });
 same(["end 0\n", "fault 1 3 UnknownWord\n", ""].map((text) => page.callsIn(text).size), [0, 0, 0]);
+// What the stream of events tells of the desk and of the log.
+const text = "room 1\nmute 5\nend 7\nnames 0\nstate ab-3\n", edit = "ab-3 ab-4 7 12\nmute 5\nmute 6\nend 8";
+same(page.editedText(text, edit), "room 1\nmute 5\nmute 6\nend 8\nnames 0\nstate ab-4\n");
+same(page.editedText(text, "ab-3 ab-4 7 7\n"), "room 1\nend 7\nnames 0\nstate ab-4\n");
+same(page.editedText(text, "ab-3 ab-4 0 0\nroom 0\n"), "room 0\nroom 1\nmute 5\nend 7\nnames 0\nstate ab-4\n");
+same(["ab-2 ab-3", "ab-2 ab-4", "cd-3 cd-4"].map((states) => page.editedText(text, `${states} 0 7\n`)),
+  [text, null, null]);
+same(["ab-2", "ab-3", "ab-10", "cd-2"].map((state) => page.isOlderText(`end 1\nstate ${state}\n`, text)),
+  [true, false, false, false]);
+same([...page.withCalls(log, "call 3 1764360009315 0 bob undo 2").keys()], [1, 2, 3]);
+const many = Array.from({ length: 600 }, (_, at) => `call ${at + 1} 1 0 - mute 1`).join("\n");
+same([page.withCalls(log, many).size, [...page.withCalls(log, many).keys()][0]], [512, 89]);
 const plain = (text) => text.replace(/[\u2068\u2069]/g, "");
 same([log.get(1), log.get(2), { operator: 3 }].map((one) => plain(page.whoOf(one))),
   ["operator 0", "ann", "operator 3"]);

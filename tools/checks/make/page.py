@@ -11,8 +11,8 @@ NEEDS = "nothing"
 WEB, SOURCES = CRATES / "desk_page/web", CRATES / "desk_page/src"
 TOKEN = "TOKEN"
 MADE = "`tools/bridge make page` writes this file, from these files of web/:\n//! {}."
-LINES = "advice.js lines.js overview.js kept.js levels.js stats.js people.js rules.js history.js"
-VIEW = "view.js rows.js page.js taking.js link.js counts.js places.js drawing.js hands.js"
+LINES = "advice.js lines.js overview.js kept.js levels.js stats.js people.js news.js plots.js rules.js history.js"
+VIEW = "view.js rows.js page.js taking.js link.js stream.js counts.js places.js drawing.js hands.js"
 # Each source with what it is, and its constants: a name, what that is, a web file, and the part of it.
 PARTS = [
     ("markup.rt", "The page in HTML, as far as its token and behind it.", [
