@@ -3,7 +3,8 @@
 An operator adds rooms, one of them for music, and members, subscribes, mutes, moves a member, reverts, undoes four
 times and does one again. After each line the page's desk is what the bridge's `show` says. A second operator's change
 is there within half a second. Bad requests are refused by name and change nothing. A silent bridge keeps nobody
-waiting, and a bridge that comes back is found again. In node, the page's functions choose the lines of clicks as they
+waiting, and a bridge that comes back is found again. A stream of events tells each change, costs the bridge no more for
+ten tabs than for one, and drops who doesn't read it. In node, the page's functions choose the lines of clicks as they
 should. In chromium, two browsers go through a call by clicks, forms and a drag: after each step both draw what `show`
 says, and the second one within half a second. Sliders, keys, names, many members at once, a bridge that is gone, a room
 of 64 and 64 rooms of 16 are tried by hand. Names are kept in a file, and bad ones are told. With --http-only neither
@@ -28,8 +29,10 @@ import tempfile
 import time
 
 from checks import standin
+from checks.costing import costs_little
 from checks.counting import shows_counts
 from checks.driving import drive, opened
+from checks.following import PlainBridge, is_followed
 from checks.handling import handle, names_things, stays_small
 from checks.lasting import finds_another, keeps_the_desk, shows_stale
 from checks.make.page import LINES, WEB
@@ -591,6 +594,7 @@ def try_by_hand(args, folder, address, bridge):
         stays(one)
         watches(one)
         tells_persons(one, two)
+        costs_little(one)
     finally:
         one.close()
         two.close()
@@ -667,6 +671,21 @@ def refuses_bad_names(args, folder):
         program.wait(timeout=600) == 4 and bad.read_text() == '{"member 10":',
         "a file without names isn't refused, or not kept",
     )
+
+
+def follows(args, folder):
+    """What the page's program tells by itself, over a bridge that counts its questions."""
+    bridge, port = PlainBridge(standin.Standin()), free_port(socket.SOCK_STREAM)
+    words = ["--bridge", f"127.0.0.1:{bridge.port}", "--listen", f"127.0.0.1:{port}"]
+    program = started("desk_page", args.page, words, args.seconds, folder)
+    try:
+        connected(program, port).close()
+        page = Page(port)
+        page.load()
+        is_followed(page, bridge)
+    finally:
+        program.terminate()
+        program.wait()
 
 
 def tried(args, folder, page, programs, words, names):
@@ -747,5 +766,6 @@ def run(args):
             by_model(args, folder)
         else:
             refuses_bad_names(args, folder)
+            follows(args, folder)
             session(args, folder)
     return 0

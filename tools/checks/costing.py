@@ -1,0 +1,95 @@
+"""What the page costs its tab at 64 rooms of 16, beside an empty page that writes a number as often in the same run."""
+
+import statistics
+import time
+
+from checks import standin
+from checks.counted import Counts
+from operators.shared import fail
+
+ROOMS, EACH = 64, 16
+# How long what goes on is watched, in seconds, and how many changes are made.
+WATCHED, CHANGES = 10, 12
+SPEAKERS = 24
+LIVE = "typeof desk !== 'undefined' && desk !== null && document.getElementById('status').textContent === 'Live'"
+EMPTY = """<!doctype html><title>Empty</title><p id="number">0</p><script>
+let count = 0; setInterval(() => { document.getElementById("number").textContent = String(count += 1); }, EVERY);
+</script>"""
+# The bounds of what is printed: the first draw and a change by the tab's processor time in milliseconds, and the share
+# of a processor beside that of the empty page.
+MOST = {"first draw": 1000, "change": 50}
+
+
+def check(holds, text):
+    if not holds:
+        fail(text)
+
+
+def share(browser, one=None):
+    """The share of a processor that the tab takes, in percent, and the octets a second that it is sent."""
+    octets, before, begun = one.octets if one else 0, browser.used(), time.monotonic()
+    time.sleep(WATCHED)
+    took = time.monotonic() - begun
+    return (browser.used() - before) / took / 10, (one.octets - octets) / took if one else 0
+
+
+def empty(browser, every):
+    """The share of an empty page that writes a number so often, in milliseconds."""
+    browser.open("about:blank")
+    browser.wait("document.readyState === 'complete'")
+    browser.run(f"document.open(), document.write({EMPTY.replace('EVERY', str(every))!r}), document.close(), true")
+    time.sleep(1)
+    return share(browser)[0]
+
+
+def first_draw(browser, port):
+    """How long the first draw took by the clock and by the tab's processor time, in milliseconds."""
+    browser.open("about:blank")
+    browser.wait("document.readyState === 'complete'")
+    before = browser.used()
+    browser.open(f"http://127.0.0.1:{port}/")
+    are_drawn = f"document.querySelectorAll('#board .room').length === {ROOMS}"
+    browser.wait(f"location.port === '{port}' && {LIVE} && {are_drawn}", 60)
+    return browser.run("performance.now()"), browser.used() - before
+
+
+def change(browser, one):
+    """What another operator's change costs the tab, in milliseconds of its processor time."""
+    times = []
+    for at in range(CHANGES):
+        before = browser.used()
+        said = one.ask(f"{'un' * (at % 2)}mute 205003")
+        check(said.startswith("ok "), f"a change is told {said}")
+        browser.wait(f"desk.version === {said[3:]} && past?.version === {said[3:]}")
+        browser.run("new Promise((done) => requestAnimationFrame(() => setTimeout(done)))")
+        times.append(browser.used() - before)
+    return statistics.median(times[2:])
+
+
+def costs_little(browser):
+    """The figures, each printed beside that of the empty page."""
+    one = standin.Standin()
+    standin.fill(one, ROOMS, EACH)
+    port = standin.serve(one).server_port
+    first_draw(browser, port)
+    clock, drawn = first_draw(browser, port)
+    changed = change(browser, one)
+    time.sleep(6)
+    idle, octets = share(browser, one)
+    sound = [source["ssrc"] for source in one.log.desk.sources if source["media"] == "audio"]
+    it = Counts(one, levels={ssrc: -30.0 for ssrc in sound[:: len(sound) // SPEAKERS][:SPEAKERS]})
+    one.counted = it.told
+    browser.wait("stats?.span && document.querySelectorAll('#sum [data-of=\"speaking\"]').length === 1", 30)
+    time.sleep(2)
+    speaking, told = share(browser, one)
+    second, every = empty(browser, 1000), empty(browser, 250)
+    print(
+        f"64 rooms of 16: first draw {clock:.0f} ms by the clock and {drawn:.0f} ms of the tab, a change {changed:.1f} "
+        f"ms of the tab\nidle {idle:.2f} percent of a processor and {octets / 1000:.2f} kB/s, and an empty page that "
+        f"writes each second {second:.2f} percent: {idle / max(second, 0.01):.1f} times\n{SPEAKERS} speak: "
+        f"{speaking:.2f} percent and {told / 1000:.0f} kB/s, and an empty page that writes each quarter of a second "
+        f"{every:.2f} percent: {speaking / max(every, 0.01):.1f} times"
+    )
+    check(drawn <= MOST["first draw"], f"the first draw takes {drawn:.0f} ms of the tab")
+    check(changed <= MOST["change"], f"a change takes {changed:.0f} ms of the tab")
+    check(octets <= 1000, f"an idle page is sent {octets:.0f} octets a second")
