@@ -50,6 +50,23 @@ def shows_counts(browser, ask, sets):
     browser.hovers(2, 2)
     browser.wait("sourceOf(desk, 777) !== undefined")
     browser.wait("document.querySelectorAll('#strangers li').length === 1")
+    adds_somebody(browser)
     sets(None)
-    browser.wait("document.getElementById('unknown').hidden")
+    browser.wait("stats === null && document.getElementById('unknown').hidden")
     is_told(browser, [(SILENT, []), (counts, [])])
+
+
+def adds_somebody(browser):
+    """A name, an address and Enter bring somebody into a room by one call, with what comes from there already."""
+    version = browser.run("at('add-person').elements.room.value = '8', desk.version")
+    for field, text in ("name", "Zoe"), ("address", "10.8.2.99:6000"):
+        browser.run(f"at('add-person').elements.{field}.focus(), true")
+        browser.types(text)
+    browser.press("Enter", 13)
+    browser.wait("memberOf(desk, sourceOf(desk, 778)?.member)?.address === '10.8.2.99:6000'")
+    browser.wait("nameOf(names, 'member', sourceOf(desk, 778).member) === 'Zoe'")
+    browser.wait("document.querySelectorAll('#strangers li').length === 0")
+    is_told(browser, [
+        ("desk.version", version + 1), ("slotsOf(desk, sourceOf(desk, 778).member).length", 1),
+        ("at('add-person').elements.address.value", ""),
+    ])  # fmt: skip

@@ -61,6 +61,12 @@ pub(crate) const HTML_AFTER: &[u8] = br##"">
     </section>
     <section aria-labelledby="add-title">
       <h2 id="add-title">Add</h2>
+      <form id="add-person" class="add" aria-label="Add somebody">
+        <label>Name <input name="name" autocomplete="off" dir="auto"></label>
+        <label>Room <select name="room" aria-label="Room of the newcomer"></select></label>
+        <label class="whole">Address <input name="address" placeholder="127.0.0.1:6000" required></label>
+        <label class="tick"><input name="sees" type="checkbox" checked> Sees a picture</label>
+        <button>Add somebody</button></form>
       <form id="add-room" class="add" aria-label="Add a room">
         <label>Room <input name="room" inputmode="numeric" required></label>
         <label class="wide">Rate <select name="rate"><option value="8000">8000 Hz, speech</option>

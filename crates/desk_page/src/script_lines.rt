@@ -641,6 +641,21 @@ function strangersIn(stats, desk) {
   return unknown.map((one) => strangerOf(desk, one));
 }
 
+// What brings somebody into a room as one group: a member with numbers of the page's choice, its sources, which are what
+// comes from its address already, and a slot if it sees a picture.
+function newcomer(desk, stats, { room, address, sees }) {
+  const own = strangersIn(stats, desk).filter((one) => one.address === address && !one.isElsewhere);
+  const unused = (least) => {
+    const number = free(desk, "ssrc", least);
+    return own.some(({ ssrc }) => ssrc === number) ? unused(number + 1) : number;
+  };
+  const member = free(desk, "member", 10), codec = codecOf(desk, { room, codec: "" });
+  const parts = [lines.addMember({ member, room, address, codec, ssrc: unused(9001) }),
+    ...own.map(({ ssrc, kind }) => lines.addSource({ ssrc, member, kind }))];
+  if (sees) parts.push(lines.addSlot({ ssrc: unused(501), member, index: 0 }));
+  return { member, parts };
+}
+
 // Who gave a call, and when. No function touches the page.
 
 // The name of somebody who has said none, how the name of a program begins, and the most octets of a name.
@@ -1050,7 +1065,7 @@ if (typeof module !== "undefined") {
     lines, dropped, free, suggested, inWords, replyInWords, parseHistory, worded, callWords, begun, wayTo, wayWords,
     callInTheWay, changes, keptText, groupsIn, parseStats, agoInWords, isSilent, isLossy, countOf, countInWords,
     streamInWords, turnedRooms, strangersIn, personWord, personName, callsIn, whoOf, timeOf, isOthers, undoOf, redoOf,
-    editedText, isOlderText, withCalls, traced, tracedAll, plotted, figuresOf, levelOf, speechAfter, levelInWords,
+    newcomer, editedText, isOlderText, withCalls, traced, tracedAll, plotted, figuresOf, levelOf, speechAfter, levelInWords,
     spanInWords, objectsOfRow,
     objectsOfLine, othersObjects, placeChanges, inOldPlaces, troubleOf, tallyOf, isCounted, linkOf, linkInWords };
 }

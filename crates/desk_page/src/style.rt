@@ -176,6 +176,8 @@ button.fold { width: 24px; padding: 0; border: 0; background: none; }
 .add .wide { flex-basis: 9rem; }
 .add .whole { flex-basis: 100%; }
 .add input, .add select { width: 100%; color: var(--ink); }
+.add .tick { display: flex; gap: .3rem; }
+.add .tick input { width: auto; }
 input[type="range"] { width: 8rem; padding: 0; }
 #strangers { list-style: none; margin: 0; padding: 0; max-height: 12rem; overflow: auto; }
 #strangers li { padding: .25rem 0; border-top: 1px solid var(--line); overflow-wrap: anywhere; }

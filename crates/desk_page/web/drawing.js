@@ -132,6 +132,7 @@ function besides(rows, row) {
 function renderForms() {
   const rooms = desk.rooms.map(roomOption);
   const people = desk.members.map(({ member }) => [member, labelled(nameOf(names, "member", member), member)]);
+  options("add-person", "room", rooms);
   options("add-member", "room", rooms);
   options("add-source", "member", people);
   options("add-slot", "member", people);

@@ -185,6 +185,15 @@ form("add-room", (f) => lines.addRoom(f.room, f.rate));
 form("add-member", (f) => lines.addMember(f, codecOf(desk, f)));
 form("add-source", lines.addSource);
 form("add-slot", lines.addSlot);
+// Somebody comes by one group, and then has a name. What comes from its address later is added from the unknown senders.
+at("add-person").addEventListener("submit", async (event) => {
+  event.preventDefault();
+  const fields = at("add-person").elements, name = cut(fields.name.value), sees = fields.sees.checked;
+  const { member, parts } = newcomer(desk, stats, { room: fields.room.value, address: fields.address.value, sees });
+  if (!await callAll(parts, `add ${name || `member ${member}`}`)) return;
+  fields.name.value = fields.address.value = "";
+  if (name) await rename("member", member, name);
+});
 at("line-form").addEventListener("submit", (event) => {
   event.preventDefault();
   call(at("line").value.trim());

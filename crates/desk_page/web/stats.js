@@ -141,3 +141,18 @@ function strangersIn(stats, desk) {
   const unknown = (stats?.strangers ?? []).filter(({ ssrc, address }) => !isOf(ssrc, address));
   return unknown.map((one) => strangerOf(desk, one));
 }
+
+// What brings somebody into a room as one group: a member with numbers of the page's choice, its sources, which are what
+// comes from its address already, and a slot if it sees a picture.
+function newcomer(desk, stats, { room, address, sees }) {
+  const own = strangersIn(stats, desk).filter((one) => one.address === address && !one.isElsewhere);
+  const unused = (least) => {
+    const number = free(desk, "ssrc", least);
+    return own.some(({ ssrc }) => ssrc === number) ? unused(number + 1) : number;
+  };
+  const member = free(desk, "member", 10), codec = codecOf(desk, { room, codec: "" });
+  const parts = [lines.addMember({ member, room, address, codec, ssrc: unused(9001) }),
+    ...own.map(({ ssrc, kind }) => lines.addSource({ ssrc, member, kind }))];
+  if (sees) parts.push(lines.addSlot({ ssrc: unused(501), member, index: 0 }));
+  return { member, parts };
+}

@@ -142,6 +142,18 @@ same(page.overview(desk, {}, "", "number", (member) => member.member === 12).map
 same(["trouble", "speaking"].map((sort) =>
   page.overview(desk, {}, "", sort, null, (room) => -room).map(({ room }) => room)), [[2, 1], [2, 1]]);
 
+// Somebody comes by one group: what comes from the address already is its, and no number is used twice.
+const guest = { room: 1, address: "127.0.0.1:9", sees: true };
+const own = { address: "127.0.0.1:9", ssrc: 777, payload_type: 0, packets: 3 };
+const comes = (strangers, more) =>
+  page.newcomer(desk, page.parseStats(JSON.stringify({ strangers })), { ...guest, ...more });
+same(comes([own]), { member: 13,
+  parts: ["add-member 13 1 127.0.0.1:9 pcmu 9004 0 0", "add-source 777 13 audio", "add-slot 504 13 0 0 0"] });
+same(comes([{ ...own, ssrc: 504, payload_type: 96 }]).parts.slice(1),
+  ["add-source 504 13 video", "add-slot 505 13 0 0 0"]);
+same(comes([{ ...own, address: "127.0.0.1:8" }, { ...own, ssrc: 201 }], { sees: false }).parts.length, 1);
+same(page.newcomer(desk, null, { ...guest, sees: false }).parts.length, 1);
+
 // A trace has the figures of two minutes. Its line goes from left to right, and has a gap where nothing is known.
 const sample = (level, trip = null) => ({ level, lossIn: 0.05, jitter: 30, lossOut: null, trip });
 const trace = [[0, -60], [60000, -35], [90000, null], [120000, -10]].reduce((before, [moment, level]) =>
