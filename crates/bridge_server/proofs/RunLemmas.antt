@@ -3,6 +3,7 @@ use Rattle.std.proofs.Common.{◌≡◌, ◌∙◌, ◌<◌, ℕ, Bool, true, ze
 use Rattle.std.proofs.Common.{slice_get}
 use mathlib.Core.List.{IsPrefix}
 use Rattle.std.proofs.Common.{refl, ap, sym, subst, arith}
+use Rattle.std.specs.List.{AllByRecursion}
 use Rattle.std.proofs.lemmas.List.{get_or-map, length-map}
 use Rattle.logbook.specs.Pages.{Book}
 use Rattle.desk_rows.specs.Desk.{Desk, good}
@@ -26,8 +27,11 @@ use Rattle.event_loop.specs.Shapes.{AreRounds}
 use Rattle.event_loop.specs.Runs.{front_at}
 use Rattle.whole_laws.specs.Given.{given_by_turns}
 use Rattle.whole_laws.specs.Whole.{LaneLeft, Left, sent_in, HasDoneNothing, AreRenewed, IsFrontRun, AreLanesRun}
-use Rattle.whole_laws.specs.Whole.{IsWhole}
+use Rattle.whole_laws.specs.Whole.{IsAsked, IsWhole}
+use Rattle.std.specs.declared.alloc.Global.{Global}
+use Rattle.bridge_core.specs.declared.egress.Egress.{Egress}
 use Rattle.lane_wire.specs.Logs.{taken_list}
+use Rattle.lane_wire.specs.Sinks.{AskedForAll}
 use Rattle.lane_wire.specs.declared.wire_sink.LaneSent.{LaneSent}
 use Rattle.bridge_server.specs.OneRun.{HaveBegun, IsOneRun, sent_into}
 use Rattle.bridge_server.specs.WholeRun.{lanes_left, left_by}
@@ -85,14 +89,19 @@ as_many_ends answers taken [] (e ∷ es) ended = absurd ended
 as_many_ends answers taken (p ∷ ps) [] ended = absurd ended
 as_many_ends answers taken (p ∷ ps) (e ∷ es) ended = ap suc (as_many_ends answers taken ps es ended.1)
 
--- what the sinks tell of themselves is what they took
-told_took : {N S : Type 0} (taken : Taking S) (told : S → LaneSent)
-    → ((sink : S) → taken_list (told sink).taken ≡ taken sink) → (ends : List (LaneEnd N S))
-    → sent_into (map (λ (end : LaneEnd N S). told end.sink) ends) ≡ sent_by taken ends
-told_took taken told is [] = refl
-told_took {N} {S} taken told is (e ∷ es) =
-    ap (λ all. map sent_of all ∷ sent_into (map (λ (end : LaneEnd N S). told end.sink) es)) (is e.sink)
-    ∙ ap (λ (xs : List (List Sent)). map sent_of (taken e.sink) ∷ xs) (told_took taken told is es)
+-- what lanes left is what their sinks took
+took_all : {N S : Type 0} (taken : Taking S) (sent : List LaneSent) (ends : List (LaneEnd N S))
+    → map (λ (lane : LaneSent). taken_list lane.taken) sent ≡ map (λ (end : LaneEnd N S). taken end.sink) ends
+    → sent_into sent ≡ sent_by taken ends
+took_all taken [] [] same = refl
+took_all taken [] (e ∷ es) same = absurd (cc (same))
+took_all taken (s ∷ ss) [] same = absurd (cc (same))
+took_all {N} {S} taken (s ∷ ss) (e ∷ es) same =
+    let head : taken_list s.taken ≡ taken e.sink = cc (same) in
+    let rest : map (λ (lane : LaneSent). taken_list lane.taken) ss ≡ map (λ (end : LaneEnd N S). taken end.sink) es =
+    cc (same) in
+    ap (λ (all : List (Egress Global)). map sent_of all ∷ sent_into ss) head
+    ∙ ap (λ (xs : List (List Sent)). map sent_of (taken e.sink) ∷ xs) (took_all taken ss es rest)
 
 -- as many lanes have ended as began
 pub as_many : {N P S : Type 0} (answers : P → ℕ → Bool → Type 0) (taken : Taking S) (who : Asker) (many : ℕ)
@@ -146,10 +155,10 @@ ended_after answers taken who many start publisher log last feed ends begun firs
     }
 
 -- what the headline says of lanes that knew no more than the notice of the log
-pub one_run : {N P S : Type 0} (answers : P → ℕ → Bool → Type 0) (taken : Taking S) (told : S → LaneSent)
-    → ((sink : S) → taken_list (told sink).taken ≡ taken sink)
-    → (who : Asker) (many : ℕ) (start : Desk) (publisher : Book) (log : List EntryOf) (last : NoticeOf)
+pub one_run : {N P S : Type 0} (answers : P → ℕ → Bool → Type 0) (taken : Taking S) (sent : List LaneSent)
+    (who : Asker) (many : ℕ) (start : Desk) (publisher : Book) (log : List EntryOf) (last : NoticeOf)
     (feed : List (FedLane P S)) (ends : List (LaneEnd N S))
+    → map (λ (lane : LaneSent). taken_list lane.taken) sent ≡ map (λ (end : LaneEnd N S). taken end.sink) ends
     → HaveBegun who many start publisher (lanes_in feed) → good start ≡ true → IsLegal start log
     → Tells start publisher log last
     → (ended : AllEnded answers taken (ports_in feed) ends)
@@ -158,13 +167,13 @@ pub one_run : {N P S : Type 0} (answers : P → ℕ → Bool → Type 0) (taken 
     → IsOneList (h.new).0 (length (ports_in feed)) start (calls_of log) (sent_by taken ends) (merged h))
     → (EndedAfter answers taken start log (ports_in feed) ends
     → SendByVersions start (calls_of log) (sent_by taken ends))
-    → IsOneRun who start (calls_of log) (sent_into (map (λ (end : LaneEnd N S). told end.sink) ends))
-one_run {N} {P} {S} answers taken told is who many start publisher log last feed ends begun first legal tells ended seen
-    holds sends =
+    → IsOneRun who start (calls_of log) (sent_into sent)
+one_run {N} {P} {S} answers taken sent who many start publisher log last feed ends are begun first legal tells ended
+    seen holds sends =
     let h : EndedAfter answers taken start log (ports_in feed) ends =
     ended_after answers taken who many start publisher log last feed ends begun first legal tells ended seen in
     let events = merged h in
-    let took = sym (told_took taken told is ends) in
+    let took = sym (took_all taken sent ends are) in
     let places = sym (as_many_ends answers taken (ports_in feed) ends ended) in
     record {
       events = events;
@@ -191,17 +200,24 @@ sent_left (d ∷ ds) [] same = absurd (cc (same))
 sent_left (d ∷ ds) (s ∷ ss) same =
     ap (λ (xs : List (List Sent)). map sent_of (taken_list s.taken) ∷ xs) (sent_left ds ss (cc (same)))
 
+-- what was asked of each lane's wire
+asked_left : (dropped : List ℕ) (sent : List LaneSent) → AllByRecursion AskedForAll sent
+    → AllByRecursion IsAsked (lanes_left dropped sent)
+asked_left [] sent all = tt
+asked_left (d ∷ ds) [] all = tt
+asked_left (d ∷ ds) (s ∷ ss) all = (all.0, asked_left ds ss all.1)
+
 known_at_end : (last : NoticeOf) (reader other : ReaderOf) → IsPrefix reader.lists last.lists
     → ◌≡◌ {A = Option ReaderOf} (Some reader) (Some other) → IsPrefix other.lists last.lists
 known_at_end last reader other known at_end =
     let same : reader ≡ other = cc (at_end) in subst (λ (r : ReaderOf). IsPrefix r.lists last.lists) same known
 
 -- what the laws say of a front that did whole rounds, and of its lanes
-pub whole_run : {N P S : Type 0} (answers : P → ℕ → Bool → Type 0) (taken : Taking S) (told : S → LaneSent)
-    → ((sink : S) → taken_list (told sink).taken ≡ taken sink)
-    → (who : Asker) (many : ℕ) (start : Desk) (publisher : Book) (log : List EntryOf) (last : NoticeOf)
+pub whole_run : {N P S : Type 0} (answers : P → ℕ → Bool → Type 0) (taken : Taking S) (sent : List LaneSent)
+    (who : Asker) (many : ℕ) (start : Desk) (publisher : Book) (log : List EntryOf) (last : NoticeOf)
     (front : FrontOf P S) (ends : List (LaneEnd N S))
-    → HaveBegun who many start publisher (lanes_in front.feed) → good start ≡ true → IsLegal start log
+    → map (λ (lane : LaneSent). taken_list lane.taken) sent ≡ map (λ (end : LaneEnd N S). taken end.sink) ends
+    → AllByRecursion AskedForAll sent → HaveBegun who many start publisher (lanes_in front.feed) → good start ≡ true → IsLegal start log
     → Tells start publisher log last
     → (ended : AllEnded answers taken (ports_in front.feed) ends)
     → AllSeen last.lists answers taken (ports_in front.feed) ends ended
@@ -216,12 +232,12 @@ pub whole_run : {N P S : Type 0} (answers : P → ℕ → Bool → Type 0) (take
     (h : EndedAfter answers taken start log (ports_in ((has.last).front).feed) ends) (lanes : List LaneLeft)
     → AreRenewed ((has.first).history.front).feed
     → map (λ (l : LaneLeft). l.dropped) lanes ≡ map (λ (x : FedLane P S). x.dropped) ((has.last).front).feed
-    → sent_in lanes ≡ sent_by taken ends
+    → sent_in lanes ≡ sent_by taken ends → AllByRecursion IsAsked lanes
     → AreLanesRun (h.new).0 start (calls_of log)
     (Input.renew ∷ given_by_turns turns (has.first).history has.last done) lanes)
-    → IsWhole P S who start log (left_by left dropped (map (λ (end : LaneEnd N S). told end.sink) ends))
-whole_run {N} {P} {S} answers taken told is who many start publisher log last front ends begun first legal tells ended
-    seen reader left has known dropped drops front_law lanes_law =
+    → IsWhole P S who start log (left_by left dropped sent)
+whole_run {N} {P} {S} answers taken sent who many start publisher log last front ends are asked begun first legal tells
+    ended seen reader left has known dropped drops front_law lanes_law =
     let moved = subst
     (λ (f : FrontOf P S).
     HaveBegun who many start publisher (lanes_in f.feed)
@@ -232,13 +248,15 @@ whole_run {N} {P} {S} answers taken told is who many start publisher log last fr
     let feed = ((has.last).front).feed in
     let h : EndedAfter answers taken start log (ports_in feed) ends =
     ended_after answers taken who many start publisher log last feed ends moved.0 first legal tells moved.1 moved.2 in
-    let sent = map (λ (end : LaneEnd N S). told end.sink) ends in
     let lanes = lanes_left dropped sent in
+    let many_sent : length sent ≡ length ends =
+    sym (length-map sent (λ (lane : LaneSent). taken_list lane.taken))
+    ∙ (ap length are ∙ length-map ends (λ (end : LaneEnd N S). taken end.sink)) in
     let counts = as_many answers taken who many start publisher feed ends moved.0 moved.1 in
     let same : length dropped ≡ length sent =
     ap length moved.3
     ∙ (length-map feed (λ (x : FedLane P S). x.dropped)
-    ∙ (counts.0 ∙ sym (length-map ends (λ (end : LaneEnd N S). told end.sink) ∙ counts.1))) in
+    ∙ (counts.0 ∙ sym (many_sent ∙ counts.1))) in
     let nothing = (has.fresh).nothing in
     let turns = (has.ran).0 in
     let done = (has.ran).1 in
@@ -254,5 +272,5 @@ whole_run {N} {P} {S} answers taken told is who many start publisher log last fr
       desks = tells.1;
       knew = λ other at_end. known_at_end last reader other known at_end;
       lanes = lanes_law turns done h lanes (has.fresh).feed (drops_left dropped sent same ∙ moved.3)
-          (sent_left dropped sent same ∙ told_took taken told is ends);
+          (sent_left dropped sent same ∙ took_all taken sent ends are) (asked_left dropped sent asked);
     }

@@ -11,7 +11,7 @@ ghost use Rattle.operator_desk.specs.LegalLogs.{IsLegal, calls_of as calls_in};
 ghost use Rattle.lane_laws.specs.Learnt.{HaveEnded, HaveKnown};
 ghost use Rattle.media_front.specs.FedLanes.{FedLane};
 ghost use Rattle.media_workers.specs.declared.signal.SleepPace.{SleepPace as Sleeps};
-ghost use Rattle.lane_wire.specs.declared.wire_sink.WireSink.{WireSink as SinkOf};
+ghost use Rattle.lane_wire.specs.Sinks.{SinkOf};
 ghost use Rattle.whole_laws.specs.Whole.{IsWhole};
 ghost use Rattle.bridge_server.specs.Counts.{counts_by};
 ghost use Rattle.bridge_server.specs.Ends.{ended_by_log};
@@ -29,7 +29,7 @@ use crate::stopped::{DeskEnd, FrontLeft, MediaEnd};
 use bridge_monitor::Teller;
 use event_loop::FrontState;
 use lane_laws::{lanes_saw_what_they_know, none_knew_more, the_running_headline};
-use lane_wire::{LaneSent, LaneWire, WireSink};
+use lane_wire::{WireSink, sent_of};
 use media_front::{PublisherOf, fault_of};
 use media_workers::{LaneEnd, Pace, PublisherName, Sink, SleepPace};
 use operator_desk::{DeskBrand, GatherFault};
@@ -228,18 +228,4 @@ where
         dropped.push(media.dropped(lane))?;
     }
     Ok(dropped)
-}
-
-/// What each lane sent.
-fn sent_of<N: PublisherName, W: LaneWire + Drop>(
-    alloc: Global,
-    ends: Vec<LaneEnd<N, WireSink<W>>>,
-) -> Result<Vec<LaneSent>, AllocError>
-    ensures { IfOk result (λ sent. sent.items ≡ map (λ end. end.sink.sent) ends.items) }
-{
-    let mut sent = Vec::new(alloc);
-    for end in ends {
-        sent.push(end.sink.into_sent())?;
-    }
-    Ok(sent)
 }

@@ -7,7 +7,6 @@ ghost use Rattle.published_desk.specs.Published.{ReaderOf, new_reader};
 ghost use Rattle.bridge_core.specs.Calls.{most_lanes};
 ghost use Rattle.operator_desk.specs.LegalLogs.{IsLegal, calls_of as calls_in};
 ghost use Rattle.operator_desk.specs.Opening.{most_operators};
-ghost use Rattle.lane_wire.specs.Logs.{taken_list};
 ghost use Rattle.bridge_server.specs.Counts.{counts_by};
 ghost use Rattle.bridge_server.specs.OneRun.{IsSetUp, IsOneRun, signer, sent_into};
 ghost use Rattle.bridge_server.specs.WholeRun.{IsWholeRun};
@@ -181,7 +180,7 @@ where
     requires lanes { vec_len readers ≡ H.lanes }
     requires who { signer settings.now ≡ H.who }
     requires many { vec_len sinks ≡ vec_len readers }
-    requires untaken { All (λ sink. taken_list sink.sent.taken ≡ []) sinks.items }
+    requires untaken { All (λ sink. sink.taken ≡ []) sinks.items }
     ensures set_up { IfOk result (λ media. IsSetUp H.who H.lanes H.start H.publisher media) }
     ensures new { IfOk result (λ media. IsNewMedia media) }
 {

@@ -5,7 +5,6 @@
 ghost use Rattle.std.specs.Prelude.{◌≡◌, [], length, All, IfOk, vec_len};
 ghost use Rattle.bridge_stats.specs.Stats.{no_stats};
 ghost use Rattle.event_loop.specs.Logs.{read_list, tried_list};
-ghost use Rattle.lane_wire.specs.Logs.{taken_list};
 
 use crate::front::Front;
 use crate::listener::OperatorListener;
@@ -102,7 +101,7 @@ fn traced_sinks(
     AllocError,
 >
     ensures len { IfOk result (λ r. vec_len r.2 ≡ length counts.now) }
-    ensures untaken { IfOk result (λ r. All (λ sink. taken_list sink.sent.taken ≡ []) r.2.items) }
+    ensures untaken { IfOk result (λ r. All (λ sink. sink.taken ≡ []) r.2.items) }
 {
     let (trace, mut tracer) = tracing(alloc, settings, stream, teller)?;
     let sinks = sinks_for(alloc, socket, counts, &mut tracer, settings)?;
@@ -121,7 +120,7 @@ pub(crate) fn records_of(
 ) -> Result<(Records, Vec<WireSink<LaneSocket>>), AllocError>
     ensures fresh { IfOk result (λ r. (r.0).stats ≡ no_stats) }
     ensures len { IfOk result (λ r. vec_len r.1 ≡ lanes) }
-    ensures untaken { IfOk result (λ r. All (λ sink. taken_list sink.sent.taken ≡ []) r.1.items) }
+    ensures untaken { IfOk result (λ r. All (λ sink. sink.taken ≡ []) r.1.items) }
 {
     let (lanes, stats) = fresh_counts(alloc, lanes)?;
     let (trace, tracer, sinks) = traced_sinks(

@@ -1,7 +1,7 @@
 //! The sinks of lanes, which all send from the one socket for datagrams.
 
 ghost use Rattle.std.specs.Prelude.{◌≡◌, [], length, All, IfOk, vec_len};
-ghost use Rattle.lane_wire.specs.Logs.{taken_list};
+ghost use Rattle.lane_wire.specs.Logs.{step_list};
 ghost use Rattle.lane_wire.specs.Handlings.{HasAll};
 
 use crate::system_socket::SystemSocket;
@@ -56,16 +56,21 @@ impl LaneWire for LaneSocket {
         self.parker.park_timeout(rt, Duration::from_millis(PAUSE));
         self.log.note_pause();
     }
+
+    fn into_log(self) -> WireLog {
+        self.log
+    }
 }
 
-/// A sink over a wire, which shows its counts, and hands on what its lane handles, if there is a trace.
+/// A sink over a wire on which nothing was done, which shows its counts, and hands on what its lane handles, if there is a trace.
 fn sink_of(
     wire: LaneSocket,
     shown: Arc<SharedCounts, Global>,
     trace: Option<LaneTrace>,
 ) -> WireSink<LaneSocket>
-    requires { HasAll [] trace }
-    ensures { taken_list result.sent.taken ≡ [] }
+    requires trace { HasAll [] trace }
+    requires unused { step_list wire.log ≡ [] }
+    ensures { result.taken ≡ [] }
 {
     match trace {
         None => WireSink::new(wire, shown),
@@ -83,7 +88,7 @@ pub(crate) fn sinks_for(
     settings: &Settings,
 ) -> Result<Vec<WireSink<LaneSocket>>, AllocError>
     ensures len { IfOk result (λ sinks. vec_len sinks ≡ length counts.now) }
-    ensures untaken { IfOk result (λ sinks. All (λ sink. taken_list sink.sent.taken ≡ []) sinks.items) }
+    ensures untaken { IfOk result (λ sinks. All (λ sink. sink.taken ≡ []) sinks.items) }
 {
     let mut sinks = Vec::with_capacity(alloc, counts.len())?;
     for shown in counts {

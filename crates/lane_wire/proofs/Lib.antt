@@ -1,3 +1,4 @@
 pub mod Places
 pub mod SentLemmas
+mod EndedLemmas
 pub mod HandledLemmas

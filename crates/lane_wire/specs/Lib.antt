@@ -3,6 +3,7 @@ pub mod Counted
 pub mod Logs
 pub mod OnSocket
 pub mod Sendings
+pub mod Sinks
 pub mod Streams
 pub mod Tries
 pub mod inner

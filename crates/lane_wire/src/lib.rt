@@ -1,8 +1,9 @@
 //! A lane's sink that sends over a wire, and waits where the wire isn't ready.
 //!
 //! Begin with [`WireSink::new`], of a [`LaneWire`] such as a socket, and hand it to `Bridge::start` of media_workers.
-//! When the lane has ended, [`WireSink::into_sent`] tells what it took and how much of that was sent. Meanwhile
-//! [`SharedCounts::read`] tells the latter. [`SharedCounts::copy_streams`] tells how much was sent of each stream, and
+//! When the lane has ended, [`WireSink::into_sent`] tells what it took, how much of that was sent, and what was done on
+//! the wire: just what sends each datagram that it took once, in order. Of many lanes [`sent_of`] tells it. Meanwhile
+//! [`SharedCounts::read`] tells the counts. [`SharedCounts::copy_streams`] tells how much was sent of each stream, and
 //! what its receiver reported last.
 //!
 //! Contracts see a sink as the list of what it took, and a wire as the list of what was done on it: each try to send a
@@ -21,6 +22,7 @@
 #![tactic(auto)]
 
 mod counts;
+mod ended;
 mod fault;
 mod handled;
 mod kept_streams;
@@ -35,6 +37,7 @@ mod wire_log;
 mod wire_sink;
 
 pub use self::counts::SendCounts;
+pub use self::ended::sent_of;
 pub use self::fault::SendFault;
 pub use self::handled::{Handled, HandledLog};
 pub use self::lane_trace::{LaneHandled, LaneTrace};

@@ -6,6 +6,7 @@ ghost use Rattle.lane_wire.specs.Tries.{all_tried, unready};
 ghost use Rattle.lane_wire.specs.Sendings.{patience, is_unready};
 
 use crate::fault::SendFault;
+use crate::wire_log::WireLog;
 use bridge_core::Egress;
 use std::sync::Wait;
 
@@ -17,6 +18,7 @@ const MOST_PAUSES: u32 = 20;
 pub trait LaneWire {
     ghost use Rattle.std.specs.Prelude.{◌≡◌, [], ◌∷◌, ◌++◌, List};
     ghost use Rattle.udp_wire.specs.Attempts.{datagrams_of};
+    ghost use Rattle.lane_wire.specs.Logs.{step_list};
     ghost use Rattle.lane_wire.specs.Tries.{WireStep, paused, all_tried};
 
     /// What was done on it so far.
@@ -29,6 +31,10 @@ pub trait LaneWire {
     /// Waits for about a millisecond, in which it may become ready.
     fn pause<R: Wait>(&mut self, rt: &R)
         ensures { steps self.new ≡ steps self.old ++ paused ∷ [] };
+
+    /// What was done on it, in proofs alone.
+    fn into_log(self) -> WireLog
+        ensures { step_list result ≡ steps self };
 }
 
 /// How many pauses are made for a datagram at most: none where the one before it was given up. So a wire that is never

@@ -18,6 +18,9 @@ use Rattle.bridge_core.specs.Sent.{Sent, sent_of}
 use Rattle.bridge_core.specs.declared.egress.Egress.{Egress}
 use Rattle.std.specs.declared.alloc.Global.{Global}
 use Rattle.udp_wire.specs.Attempts.{Attempt, tried_of}
+use Rattle.lane_wire.specs.declared.counts.SendCounts.{SendCounts}
+use Rattle.lane_wire.specs.Sinks.{WasAsked}
+use Rattle.lane_wire.specs.Tries.{WireStep}
 use Rattle.bridge_stats.specs.Stats.{no_stats}
 use Rattle.media_workers.specs.LaneRuns.{Versioned}
 use Rattle.lane_laws.specs.Merges.{merge}
@@ -31,10 +34,13 @@ use Rattle.event_loop.specs.Runs.{FrontAt}
 use Rattle.event_loop.specs.Tries.{Try, AreMeant, came_in, moments_in}
 use Rattle.whole_laws.specs.Given.{given_by_turns, Fed, kept, drops_among}
 
--- what a lane left behind: how many items were dropped for it, and what its sink took
+-- what a lane left behind: how many items were dropped for it, what its sink took, what was done on its wire, and how
+-- much was sent
 pub record LaneLeft : Type 0 where
   pub dropped : ℕ
   pub taken : List (Egress Global)
+  pub asked : List WireStep
+  pub counts : SendCounts
 
 -- what a bridge left behind: what its inlet read, what its watch told, what its front's wire tried, and its lanes
 pub record Left : Type 0 where
@@ -42,6 +48,10 @@ pub record Left : Type 0 where
   pub told : List ℕ
   pub tried : List Attempt
   pub lanes : List LaneLeft
+
+-- What a lane's wire was asked to send is what its sink took: each datagram once, in order, and nothing else.
+abbrev pub IsAsked : LaneLeft → Type 0
+IsAsked lane = WasAsked lane.taken lane.asked lane.counts
 
 -- what each lane sent: what its sink took
 abbrev pub sent_in : List LaneLeft → List (List Sent)
@@ -90,13 +100,15 @@ pub record IsFrontRun {P S : Type 0} (first last : FrontAt P S) (turns : List Tu
   pub tried : map tried_of left.tried ≡ map (λ t. t.what) tries
 
 -- What its lanes did: each handled a beginning of what the turns gave it, and one list of these calls and of just these
--- items gives all that they sent. Each packet goes where the desk of its version has it go.
+-- items gives all that they sent. Each packet goes where the desk of its version has it go. And each lane's wire was
+-- asked to send just that.
 pub record AreLanesRun (who : Asker) (start : Desk) (calls : List Call) (given : List Input) (lanes : List LaneLeft)
     : Type 0 where
   pub items : List (List Versioned)
   pub handled : AllZip (λ (l : LaneLeft) (own : List Versioned). HandledBeginning given l.dropped own) lanes items
   pub one : IsOneList who (length lanes) start calls (sent_in lanes) (merge calls items)
   pub by_versions : SendByVersions start calls (sent_in lanes)
+  pub asked : AllByRecursion IsAsked lanes
 
 -- From the datagrams that were read to those that were sent: a bridge of this name ran from this desk on, beside a desk
 -- that accepted the calls of this log. Each desk that its front read is that of a beginning of the log.

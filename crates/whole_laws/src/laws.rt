@@ -1,7 +1,7 @@
 //! Laws on what lanes were given and handled, and on a bridge from its beginning to its end.
 
 ghost use Rattle.std.specs.Prelude.{◌≡◌, ◌∷◌, List, Some, map};
-ghost use Rattle.std.specs.List.{AllZip};
+ghost use Rattle.std.specs.List.{AllByRecursion, AllZip};
 ghost use mathlib.Core.List.{IsPrefix};
 ghost use Rattle.media_workers.specs.LaneRuns.{Versioned, versioned};
 ghost use Rattle.media_workers.specs.Ports.{PortOf};
@@ -19,7 +19,7 @@ ghost use Rattle.media_workers.specs.declared.lane_end.LaneEnd.{LaneEnd as End};
 ghost use Rattle.event_loop.specs.Turns.{Turn, History, HaveDone};
 ghost use Rattle.whole_laws.specs.Given.{given_by_turns, HasKept, inputs_of};
 ghost use Rattle.whole_laws.specs.Whole.{HandledBeginning, AreRenewed, HasDoneNothing, Left, LaneLeft, sent_in};
-ghost use Rattle.whole_laws.specs.Whole.{IsFrontRun, AreLanesRun};
+ghost use Rattle.whole_laws.specs.Whole.{IsAsked, IsFrontRun, AreLanesRun};
 
 use event_loop::{all_that_came_is_in_turns, all_that_is_tried_is_meant};
 use lane_laws::the_running_headline;
@@ -60,14 +60,14 @@ pub fn fronts_that_ran<P: Pace, S: Sink>()
 }
 
 /// The lanes of a bridge that ended beside a log: each handled a beginning of what the turns gave it, and one list of
-/// the log's calls and of just these items gives all that they sent.
+/// the log's calls and of just these items gives all that they sent. So it is what their wires were asked to send.
 pub fn lanes_that_ran<N: PublisherName, P: Pace, S: Sink>()
     ensures { (turns : List Turn) (first last : History P S) (done : HaveDone turns first last) (start : Desk)
         (log : List EntryOf) (ends : List (End N S))
         (h : EndedAfter P.answers S.taken start log (ports_in last.front.feed) ends) (lanes : List LaneLeft) →
         AreRenewed first.front.feed →
         map (λ (l : LaneLeft). l.dropped) lanes ≡ map (λ (x : FedLane P S). x.dropped) last.front.feed →
-        sent_in lanes ≡ sent_by S.taken ends →
+        sent_in lanes ≡ sent_by S.taken ends → AllByRecursion IsAsked lanes →
         AreLanesRun (h.new).0 start (calls_of log) (Input.renew ∷ given_by_turns turns first last done) lanes }
 {
     the_running_headline::<N, P, S>();

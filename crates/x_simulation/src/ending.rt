@@ -78,7 +78,7 @@ where
             tally.note(Err(Difference::Fault(lane)));
         }
         let own = model.lanes.get(lane).map(|own| own.datagrams);
-        if own != Some(counted(&end.sink.sent.counts)) {
+        if own != Some(counted(&end.sink.counts())) {
             tally.note(Err(Difference::Counts(lane)));
         }
     }

@@ -5,7 +5,6 @@ ghost use Rattle.ingress.specs.Names.{is_name};
 ghost use Rattle.desk_rows.specs.Desk.{blank as no_rows};
 ghost use Rattle.published_desk.specs.Published.{ReaderOf, new_reader};
 ghost use Rattle.bridge_core.specs.Calls.{most_lanes};
-ghost use Rattle.lane_wire.specs.Logs.{taken_list};
 
 use crate::act::{MOST_LANES, Plan};
 use crate::difference::Difference;
@@ -236,7 +235,7 @@ where
     requires few { vec_len readers ≤ most_lanes }
     requires name { is_name settings.cname ≡ true }
     requires many { vec_len sinks ≡ vec_len readers }
-    requires untaken { All (λ sink. taken_list sink.sent.taken ≡ []) sinks.items }
+    requires untaken { All (λ sink. sink.taken ≡ []) sinks.items }
 {
     let ingress = Ingress::new(alloc, settings.try_clone()?)?;
     let limiter = RateLimiter::new(alloc)?;

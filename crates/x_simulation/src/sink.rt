@@ -1,7 +1,6 @@
 //! The sinks of lanes, over wires that a script answers for, with a gate behind each datagram.
 
 ghost use Rattle.std.specs.Prelude.{◌≡◌, [], All, IfOk};
-ghost use Rattle.lane_wire.specs.Logs.{taken_list};
 
 use crate::datagram::Datagram;
 use crate::fate::{Fate, fate_of};
@@ -101,6 +100,10 @@ impl<R: Wait + Drop> LaneWire for FatedWire<R> {
         self.tries.pauses = self.tries.pauses.saturating_add(1);
         self.log.note_pause();
     }
+
+    fn into_log(self) -> WireLog {
+        self.log
+    }
 }
 
 /// How many datagrams were counted: as sent, or by why they were not.
@@ -131,7 +134,7 @@ pub fn sinks_for<R: Wait + Copy + Drop>(
     gates: &[Arc<Gate, Global>],
     seed: u64,
 ) -> Result<Vec<FatedSink<R>>, AllocError>
-    ensures { IfOk result (λ sinks. All (λ sink. taken_list sink.sent.taken ≡ []) sinks.items) }
+    ensures { IfOk result (λ sinks. All (λ sink. sink.taken ≡ []) sinks.items) }
 {
     let mut sinks = Vec::new(alloc);
     for gate in gates {

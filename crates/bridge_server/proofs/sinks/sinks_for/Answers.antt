@@ -1,6 +1,5 @@
 use Rattle.std.proofs.Common.{◌≡◌, ◌∙◌, ◌<◌, ℕ, zero, suc, List, [], ◌∷◌, All, refl, sym, subst, arith}
 use Rattle.std.proofs.lemmas.List.Elements.{All-append}
-use Rattle.lane_wire.specs.Logs.{taken_list}
 use Rattle.bridge_server.proofs.sinks.sinks_for.Goals as goal
 
 All_one : {X : Type 0} (P : X → Type 0) (x : X) → P x → All P (x ∷ [])
@@ -13,7 +12,7 @@ loop-shown-preserved c =
     record {
       many = omega (arith, c.push_reserved.ensures.len, k.many);
       capacity = c.push_reserved.ensures.capacity ∙ k.capacity;
-      untaken = subst (All (λ sink. taken_list sink.sent.taken ≡ [])) (sym c.push_reserved.ensures.items)
-          (All-append (λ sink. taken_list sink.sent.taken ≡ []) c.loop-shown.sinks.items _ k.untaken
-          (All_one (λ sink. taken_list sink.sent.taken ≡ []) _ c.sink_of-sink.ensures));
+      untaken = subst (All (λ sink. sink.taken ≡ [])) (sym c.push_reserved.ensures.items)
+          (All-append (λ sink. sink.taken ≡ []) c.loop-shown.sinks.items _ k.untaken
+          (All_one (λ sink. sink.taken ≡ []) _ c.sink_of-sink.ensures));
     }

@@ -14,7 +14,7 @@ use Rattle.whole_laws.proofs.WholeLemmas.{zip_by}
 use Rattle.whole_laws.proofs.laws.lanes_that_ran.Goals as goal
 
 pub returns : goal.returns
-returns g c turns first last done start log ends h lanes renewed dropped sent =
+returns g c turns first last done start log ends h lanes renewed dropped sent asked =
     let answers = g.P.Pace.answers in
     let taken = g.S.Sink.taken in
     let feed = last.front.feed in
@@ -38,4 +38,5 @@ returns g c turns first last done start log ends h lanes renewed dropped sent =
       by_versions =
           subst (SendByVersions start (calls_of log)) (sym sent)
           (c.the_running_headline.ensures.sent start log (ports_in feed) ends h);
+      asked = asked;
     }

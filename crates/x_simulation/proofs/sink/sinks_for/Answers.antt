@@ -1,10 +1,9 @@
 use Rattle.std.proofs.Common.{◌≡◌, [], All, sym, subst}
 use Rattle.std.proofs.lemmas.List.Elements.{All-push}
-use Rattle.lane_wire.specs.Logs.{taken_list}
 use Rattle.x_simulation.proofs.sink.sinks_for.Goals as goal
 
 pub loop-gate-preserved : goal.loop-gate-preserved
 loop-gate-preserved g c =
-    subst (All (λ sink. taken_list sink.sent.taken ≡ [])) (sym c.in_ok-push.ensures.items)
-    (All-push (λ sink. taken_list sink.sent.taken ≡ []) c.loop-gate.sinks.items _
+    subst (All (λ sink. sink.taken ≡ [])) (sym c.in_ok-push.ensures.items)
+    (All-push (λ sink. sink.taken ≡ []) c.loop-gate.sinks.items _
     c.loop-gate.invariant c.new-sink.ensures.taken)
