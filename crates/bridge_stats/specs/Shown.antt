@@ -1,5 +1,5 @@
 -- What is shown of what a bridge counts (own), and its lines.
-use Rattle.std.specs.Prelude.{◌≡◌, ℕ, ◌-◌, ◌/◌, List, [], ◌∷◌, ◌++◌, map, codes, Option, None, Some, ℤ, All}
+use Rattle.std.specs.Prelude.{◌≡◌, ℕ, ◌-◌, ◌/◌, List, [], ◌∷◌, ◌++◌, map, codes, Option, None, Some, ℤ, All, nat_eq, if◌then◌else◌}
 use Rattle.std.specs.List.{flat_map}
 use Rattle.rtp_codec.specs.declared.address.Address.{Address}
 use Rattle.ingress.specs.inner.Holding.{IngressOf}
@@ -63,6 +63,10 @@ abbrev pub kind_line : KindRow → List ℕ
 kind_line row =
     line_text (codes "datagrams")
     (number row.datagrams ∷ words (codes "octets") ∷ number row.octets ∷ words (kind_name row.kind) ∷ [])
+
+-- the line of an outcome, if a datagram had it
+abbrev pub kind_text : KindRow → List ℕ
+kind_text row = if nat_eq row.datagrams 0 then [] else kind_line row
 
 -- a source: its address and SSRC, its counts, and how many packets were lost since it was initialised: those expected
 -- less those received, none where more came
@@ -174,7 +178,7 @@ left_out_text shown others =
 -- all that is counted: the outcomes, sources, senders that are no source, what was left out, and what others count
 abbrev pub stats_text : StatsShown → OthersShown → List ℕ
 stats_text shown others =
-    flat_map kind_line shown.kinds.items ++ (flat_map source_line shown.sources.items
+    flat_map kind_text shown.kinds.items ++ (flat_map source_line shown.sources.items
     ++ (flat_map stranger_line shown.strangers.items
     ++ (left_out_text shown others ++ others_text others)))
 

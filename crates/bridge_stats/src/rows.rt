@@ -1,10 +1,10 @@
 //! The rows of what is counted.
 
 ghost use Rattle.std.specs.Prelude.{◌≡◌};
-ghost use Rattle.bridge_stats.specs.Shown.{sender_address, kind_line, source_line, stranger_line};
+ghost use Rattle.bridge_stats.specs.Shown.{sender_address, kind_line, kind_text, source_line, stranger_line};
 ghost use Rattle.bridge_stats.specs.inner.Growing.{buffer_of, Grows};
 
-use crate::appending::{LineField, append_line, append_longest_line};
+use crate::appending::{LineField, append, append_line, append_longest_line};
 use crate::lines::StatLine;
 use crate::numbers::SourceNumbers;
 use crate::received::reception_fields;
@@ -58,17 +58,28 @@ pub(crate) fn sender_address(sender: &Sender) -> Address
     }
 }
 
+/// Appends the line of an outcome.
+fn append_kind<A: Allocator>(row: &KindRow, out: &mut Vec<u8, A>) -> Result<(), AllocError>
+    ensures { Grows (buffer_of out.old) (buffer_of out.new) (kind_line row.now) result }
+{
+    let fields = [
+        LineField::Number(row.datagrams),
+        LineField::Words(b"octets"),
+        LineField::Number(row.octets),
+        LineField::Words(row.kind.name()),
+    ];
+    append_line(b"datagrams", &fields, out)
+}
+
 impl StatLine for KindRow {
-    ghost line = { kind_line };
+    ghost line = { kind_text };
 
     fn append<A: Allocator>(&self, out: &mut Vec<u8, A>) -> Result<(), AllocError> {
-        let fields = [
-            LineField::Number(self.datagrams),
-            LineField::Words(b"octets"),
-            LineField::Number(self.octets),
-            LineField::Words(self.kind.name()),
-        ];
-        append_line(b"datagrams", &fields, out)
+        if self.datagrams == 0 {
+            append(b"", out)
+        } else {
+            append_kind(self, out)
+        }
     }
 }
 

@@ -2,7 +2,7 @@
 
 ghost use Rattle.std.specs.Prelude.{◌≡◌, ◌+◌, ◌<◌, ◌++◌, [], codes, length, IfOk, OnOk, OnErr, vec_len, vec_capacity};
 ghost use Rattle.std.specs.List.{flat_map};
-ghost use Rattle.bridge_stats.specs.Shown.{kind_line, source_line, stranger_line, left_out_line, stream_line};
+ghost use Rattle.bridge_stats.specs.Shown.{kind_text, source_line, stranger_line, left_out_line, stream_line};
 ghost use Rattle.bridge_stats.specs.Shown.{lane_line, limited_line, socket_line, seats_line};
 ghost use Rattle.bridge_stats.specs.Shown.{left_out_text, others_text, stats_text};
 ghost use Rattle.bridge_stats.specs.inner.Growing.{buffer_of, Grows};

@@ -8,6 +8,7 @@ The streams that the members get have no gap, and each hears the other's tone. N
 
 import random
 import time
+from collections import Counter
 
 from checks.bridges import check
 from checks.check.call import SETUP, Call, check_mixes, connected_bridge, counted, has_more
@@ -67,7 +68,8 @@ def looked(call):
     lines = call.desk.shown("stats")
     check(lines[-1] == "end", "the answer to `stats` has no end")
     words = [line.split() for line in lines]
-    outcomes = {" ".join(line[4:]): int(line[1]) for line in words if line[0] == "datagrams"}
+    # An outcome that no datagram had has no line.
+    outcomes = Counter({" ".join(line[4:]): int(line[1]) for line in words if line[0] == "datagrams"})
     sources = {line[2]: int(line[4]) for line in words if line[0] == "source"}
     strangers = {(line[1], line[2]): (line[4], int(line[6])) for line in words if line[0] == "stranger"}
     streams = {line[1]: int(line[line.index("packets") + 1]) for line in words if line[0] == "stream"}
