@@ -1,6 +1,7 @@
-"""The rows of a desk as groups that make them again: `tools/bridge keep` prints them, and a fleet keeps a room's.
+"""The rows of a room as groups that make them again: so a fleet keeps them.
 
-What `tools/bridge restore` reads of a file, and an agent of etcd, is checked before a bridge gets a line of it.
+What `tools/bridge restore` reads of a file, and an agent of etcd, is checked before a bridge gets a line of it; so are
+the groups of a whole desk that a bridge tells `tools/bridge keep`.
 """
 
 import re

@@ -8,8 +8,8 @@ receivers don't take new packets for old ones. Each group is all or nothing, and
 the last line say how many there are. It takes a seat for a moment. The status is 2 where the bridge is gone or busy,
 and nothing is printed then.
 
-The groups are those that the bridge tells by its line `groups`. An older bridge doesn't know that line. Then they are
-made of its rows, and a line on standard error says so.
+The groups are those that the bridge tells by its line `groups`. A bridge that is too old to know that line is refused
+with status 2: the `keep` that came with it keeps its desk, in a file of the same form.
 """
 
 import contextlib
@@ -21,7 +21,7 @@ from operators.shared import ROOT
 
 sys.path.insert(0, str(ROOT / "examples/fleet"))
 
-from kept import FURTHER, Unmade, commands_of, groups_of, makings  # noqa: E402
+from kept import FURTHER, Unmade, makings  # noqa: E402
 from made import further  # noqa: E402
 from printable import printable  # noqa: E402
 
@@ -48,9 +48,6 @@ def options(parser):
 
 class Seat(Operator):
     """An operator's connection to the bridge at an address. Where no answer comes it raises Trouble."""
-
-    # Whether the bridge is one that doesn't know `groups`.
-    is_older = False
 
     def __init__(self, address):
         self.address = address if ":" in address else f"127.0.0.1:{address}"
@@ -121,11 +118,9 @@ class Seat(Operator):
         # A line that a bridge doesn't know, as the first of a connection, would close that.
         self.version()
         told = self.told("groups", "groups")
-        self.is_older = told is None
-        if told:
-            return [further(group) for group in groups_told(told[0], self.address)], told[1]
-        rows, version = self.rows()
-        return groups_of(made_by(rows, self.address)), version
+        if not told:
+            raise Trouble(f"the bridge at {self.address} {OLDER}", 2)
+        return [further(group) for group in groups_told(told[0], self.address)], told[1]
 
     def close(self):
         with contextlib.suppress(OSError):
@@ -150,16 +145,8 @@ def groups_told(lines, address):
     return lines
 
 
-def made_by(rows, address):
-    """The commands that make the rows of a bridge."""
-    try:
-        return commands_of(rows)
-    except Unmade as row:
-        raise Trouble(f"{address} is no bridge: `{str(row)[:80]}` is no row", 2) from None
-
-
 MOVED = f"FIRST_SEQ of each stream is {FURTHER} further on, as streams begin anew"
-OLDER = "this bridge is an older one, without the line `groups`: its groups are made of its rows"
+OLDER = "is an older one, which doesn't know the line `groups`: the `keep` that came with it keeps its desk"
 
 
 def count_in(groups):
@@ -181,7 +168,5 @@ def run(args):
         print(f"tools/bridge keep: {why}", file=sys.stderr)
         return why.status
     print(text_of(groups, version), end="")
-    if seat.is_older:
-        print(f"tools/bridge keep: {OLDER}", file=sys.stderr)
     print(f"tools/bridge keep: {count_in(groups)} rows in {len(groups)} groups; {MOVED}", file=sys.stderr)
     return 0

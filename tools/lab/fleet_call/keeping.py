@@ -129,9 +129,9 @@ class Keeping:
             self.check(good, f"a bridge that says {text} as a group: status 2, in printable octets", (status, said))
         said, status = self.kept_of(b"hello\nend 1\n")
         self.check(status == 2 and "it says `hello`" in said, "what is no bridge: status 2", (status, said))
-        said, status = self.kept_of(b"end 2\n", b"fault 1 3 UnknownWord\n", b"room 7\nend 2\n")
-        good = status == 0 and "\ngroup add-room 7\n" in said and "this bridge is an older one" in said
-        self.check(good, "an older bridge without `groups` is kept by its rows, and that is said", (status, said))
+        said, status = self.kept_of(b"end 2\n", b"fault 1 3 UnknownWord\n")
+        good = status == 2 and "is an older one, which doesn't know the line `groups`" in said
+        self.check(good, "an older bridge without `groups`: status 2, and that is said", (status, said))
 
     def kept_of(self, *answers):
         """What `keep` says of a program that answers its lines so in a bridge's place, and its status."""
