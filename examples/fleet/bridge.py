@@ -8,8 +8,7 @@ import threading
 import time
 
 from desk import GONE
-from kept import ROW, by_room, change_of, commands_of, groups_of, whole_of
-from made import further
+from kept import ROW, by_room, change_of, commands_of, further, groups_of, whole_of
 from past import LOOKED_AT, MEMBERS, MOVING, History, Past, Pasts, added_by, lines_of
 from printable import printable
 from refused import Refused

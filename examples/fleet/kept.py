@@ -46,11 +46,27 @@ class Unmade(Exception):
     """A line that makes no rows, and so isn't given to a bridge."""
 
 
+def parts_of(call):
+    """The commands of a call."""
+    return call.removeprefix("group ").split(" / ")
+
+
+def further(call):
+    """A call whose streams begin further on, as those of kept rows do."""
+    parts = parts_of(call)
+    for at, part in enumerate(parts):
+        words = part.split(" ")
+        if words[0] in ("add-member", "add-slot"):
+            words[-2] = str((int(words[-2]) + FURTHER) % 2**16)
+            parts[at] = " ".join(words)
+    return ("group " if call.startswith("group ") else "") + " / ".join(parts)
+
+
 def makings(group):
     """The commands of a group, each as its words. Raises Unmade where a command of it does anything but make a row."""
     if not isinstance(group, str) or len(group) > MOST_OCTETS or not group.startswith("group "):
         raise Unmade
-    commands = group.removeprefix("group ").split(" / ")
+    commands = parts_of(group)
     if len(commands) > MOST_COMMANDS or not all(map(MAKES.fullmatch, commands)):
         raise Unmade
     return [command.split(" ") for command in commands]

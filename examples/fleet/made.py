@@ -7,7 +7,7 @@ is for the bridge to say: limits and what other rooms have aren't looked at here
 import contextlib
 import re
 
-from kept import FURTHER, MADE, MOST_COMMANDS, MOST_OCTETS, NAMED, NUMBER, WORDS, Unmade
+from kept import MADE, MOST_COMMANDS, MOST_OCTETS, NAMED, NUMBER, WORDS, Unmade, parts_of
 
 # The commands that take what another one has made.
 TAKING = {
@@ -31,11 +31,6 @@ class Cannot(Exception):
     """A command that a desk would refuse."""
 
 
-def parts_of(call):
-    """The commands of a call."""
-    return call.removeprefix("group ").split(" / ")
-
-
 def is_within(call):
     """Whether a call is one command, or a group, of those that stay within a room."""
     parts = parts_of(call)
@@ -55,17 +50,6 @@ def named_by(command):
         made = TAKING[word]
         return [(MADE.get(made) or NAMED[made][0][0], given[0])]
     return [(kind, given[place - 1]) for kind, place in NAMED[word]]
-
-
-def further(call):
-    """A call whose streams begin further on, as those of kept rows do."""
-    parts = parts_of(call)
-    for at, part in enumerate(parts):
-        words = part.split(" ")
-        if words[0] in ("add-member", "add-slot"):
-            words[-2] = str((int(words[-2]) + FURTHER) % 2**16)
-            parts[at] = " ".join(words)
-    return ("group " if call.startswith("group ") else "") + " / ".join(parts)
 
 
 class Rows:

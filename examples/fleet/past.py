@@ -10,8 +10,8 @@ import itertools
 import re
 
 from fleet_rooms import LEAST
-from kept import CALL, Unmade, commands_of, groups_of, room_made
-from made import MAKER, TAKING, Cannot, after, further, is_within, key_of, named_by, order_of, parts_of
+from kept import CALL, Unmade, commands_of, further, groups_of, parts_of, room_made
+from made import MAKER, TAKING, Cannot, after, is_within, key_of, named_by, order_of
 
 # How many calls of a room are kept, and how many octets they have. A room with more rows keeps none.
 MOST_CALLS, MOST_CALL_OCTETS, MOST_ROWS = 64, 8192, 8192

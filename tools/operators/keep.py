@@ -21,8 +21,7 @@ from operators.shared import ROOT
 
 sys.path.insert(0, str(ROOT / "examples/fleet"))
 
-from kept import FURTHER, Unmade, makings  # noqa: E402
-from made import further  # noqa: E402
+from kept import FURTHER, Unmade, further, makings  # noqa: E402
 from printable import printable  # noqa: E402
 
 NEEDS = "a bridge that runs"

@@ -5,9 +5,9 @@ import random
 from lab.fleet_call.parts import by_room, commands_of, groups_of
 from operators.models.desk import Log, made_line
 
-from kept import MOST_OCTETS, change_of, lines_in, whole_of, with_changes  # noqa: E402
+from kept import MOST_OCTETS, change_of, further, lines_in, whole_of, with_changes  # noqa: E402
 from known import restored_of  # noqa: E402
-from made import after, further  # noqa: E402
+from made import after  # noqa: E402
 from past import LOOKED_AT, MOST_CALL_OCTETS, MOST_CALLS, MOVING, History, Pasts, lines_of  # noqa: E402
 from past import restored, settled  # noqa: E402
 
