@@ -261,8 +261,8 @@ NAMED = [
 ]  # fmt: skip
 LISTED = ["call 1 1800000000001 0 - add-room 1 8000", "call 2 1800000000002 1 mute add-room 2 44100"]
 HELP = [
-    "mute SOURCE", "pin ROOM SOURCE", "undo LAST", "group COMMAND / COMMAND ..", "show", "history [N]", "calls [N]",
-    "stats", "levels", "watch [names]", "as NAME", "why", "help [WORD]", "quit", "stop",
+    "mute SOURCE", "pin ROOM SOURCE", "undo LAST", "group COMMAND / COMMAND ..", "show", "groups", "history [N]",
+    "calls [N]", "stats", "levels", "watch [names]", "as NAME", "why", "help [WORD]", "quit", "stop",
 ]  # fmt: skip
 HELP_OF_MUTE = [
     "mute SOURCE", "SOURCE: the SSRC of a source, 0 to 4294967295", "refused 10 Already nothing to do",
@@ -282,10 +282,15 @@ STATS = [
     "left-out sources 0 strangers 0 streams 0 reports 0", "limited nacks 4 blocks 0 plis 1", "seats 2 of 4",
 ]  # fmt: skip
 LEVELS = ["level 127.0.0.1:6000 201 8000 7626100"]
+# The groups that make some rows again.
+GROUPS = [
+    "group add-room 1 8000 / add-member 10 1 127.0.0.1:6000 pcmu 9001 0 0 / add-source 201 10 audio",
+    "group mute 201 / set-gain 10 201 128",
+]  # fmt: skip
 # What an operator asks that is no call, and the rows of the answer.
 ASKED = {
-    "calls": LISTED, "calls 2": LISTED, "help": HELP, "help mute": HELP_OF_MUTE, "why": WHY, "stats": STATS,
-    "levels": LEVELS,
+    "groups": GROUPS, "calls": LISTED, "calls 2": LISTED, "help": HELP, "help mute": HELP_OF_MUTE, "why": WHY,
+    "stats": STATS, "levels": LEVELS,
 }  # fmt: skip
 
 
@@ -311,8 +316,8 @@ def check_asked():
         ("why", [*WHY, "end"]), ("why not", ["fault 2 5 ExtraWord"]), ("revert 7", ["no 12 23 NotInForce"]),
         ("why", [*WHY_REFUSED, "end"]), ("help", [*HELP, "end"]), ("help mute", [*HELP_OF_MUTE, "end"]),
         ("stats", [*STATS, "end"]), ("levels", [*LEVELS, "end"]), ("show", [*ROWS, "end 12"]),
-        ("watch names", ["end 12"]), ("mute 201", ["ok 13", NAMED[0]]), ("calls 2", [*LISTED, "end 2"]),
-        ("history", [*HISTORY, "end 6"]),
+        ("groups", [*GROUPS, "end 12"]), ("watch names", ["end 12"]), ("mute 201", ["ok 13", NAMED[0]]),
+        ("calls 2", [*LISTED, "end 2"]), ("history", [*HISTORY, "end 6"]),
     ]  # fmt: skip
     for has_syn in True, False:
         wanted = [(line, answer[-1] if line != "mute 201" else "ok 13") for line, answer in asked]
@@ -335,6 +340,9 @@ def check_rows():
         others += [[([question], [*rows, "end 2"])] for question, rows in ASKED.items()]
         others += [[(["watch names"], ["end 12"]), ([], NAMED)]]
         others += [[(["undo"], ["fault 2 4 MissingWord"]), (["why"], WHY)]]
+        # What a bridge tells as groups, behind one of an operator, and from the middle on; and one that isn't answered.
+        others += [[(["group add-room 1 / mute 201"], ["ok 1"]), (["groups"], [*GROUPS, "end 1"])]]
+        others += [[([], GROUPS), ([], ["end 1"]), (["groups"], [*GROUPS, "end 1"])], [(["group add-room 1"], [])]]
         for pairs in others:
             it = explained(io.BytesIO(written(talk(pairs, has_syn))))
             asked = {call.text for call in it.calls if call.client}

@@ -21,8 +21,9 @@ ANSWER = re.compile(
 # A line of HTTP. What the page tells browsers are lines of a desk, too.
 HTTP = re.compile(r"[A-Z]{3,7} \S+ HTTP/1\.[01]|HTTP/1\.[01] [0-9]{3}\b.*", re.ASCII)
 # The calls that are spelled as rows of a desk are. Lines that are no calls stand in an answer of `help`, too, and the
-# answer to `as` is spelled as the line is: what says surely who is the bridge counts as so many of these.
-ROWS, SURE = ("mute ", "pin "), 100
+# answer to `as` is spelled as the line is: what says surely who is the bridge counts as so many of these. A group is
+# an operator's call, or stands in an answer of `groups`.
+ROWS, SURE, GROUP = ("mute ", "pin "), 100, "group "
 # The header of RTP, in octets.
 HEADER = 12
 # A capture may have packets out of order by so much, in nanoseconds.
@@ -69,16 +70,18 @@ def is_port_of(address, named):
 
 def bridge_end(lines, listens):
     """The end of a connection that is a bridge, by its lines: the one that listens, or that answers, or to which go
-    lines that are no rows. None where nothing says it."""
+    lines that are no rows; groups, where nothing else says it. None where nothing does."""
     if listens:
         return listens
-    told = collections.Counter()
+    told, groups = collections.Counter(), collections.Counter()
     for line in lines:
         if ANSWER.fullmatch(line.text):
             told[line.source] += SURE
+        elif is_good(line.text) and line.text.startswith(GROUP):
+            groups[line.target] += 1
         elif is_good(line.text) and not line.text.startswith(ROWS):
             told[line.target] += 1 if line.text.split(" ")[0] in ALONE else SURE
-    (end, count), (_, other) = [*told.most_common(2), (None, 0), (None, 0)][:2]
+    (end, count), (_, other) = [*(told or groups).most_common(2), (None, 0), (None, 0)][:2]
     return end if count > other else None
 
 
