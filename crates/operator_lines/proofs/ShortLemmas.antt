@@ -12,7 +12,8 @@ use Rattle.desk_edit.specs.declared.command.Command.{Command}
 use Rattle.desk_edit.specs.declared.command.Command.TheVariants as commands
 use Rattle.desk_edit.specs.Asked.CallOf.{Group}
 use Rattle.desk_groups.specs.Making.{made_limit, are_sized}
-use Rattle.desk_text.specs.Addresses.{address_text, IsAddress}
+use Rattle.rtp_codec.specs.Address.{address_text}
+use Rattle.desk_text.specs.Addresses.{IsAddress}
 use Rattle.desk_text.specs.Kinds.{codec_text, media_text}
 use Rattle.desk_text.specs.Values.{value_text}
 use Rattle.desk_text.specs.Calls.{name_text, fields_of, command_words, IsCommand, slash, group_words, AreCommands}
