@@ -211,6 +211,15 @@ const BRIDGE: &[Family] = &[
         unit: Unit::One,
     },
     Family {
+        name: "confbridge_socket_drops_total",
+        help: "Datagrams that the system dropped at the socket, as where its receive buffer was full.",
+        kind: "counter",
+        line: "socket",
+        labels: Labels::Nothing,
+        value: WordPlace::Behind("drops", 1),
+        unit: Unit::One,
+    },
+    Family {
         name: "confbridge_seats_used",
         help: "Seats of operators that are in use.",
         kind: "gauge",

@@ -73,7 +73,7 @@ pub(crate) const LIMITED: [RowField; 3] = [
     },
 ];
 
-pub(crate) const SOCKET: [RowField; 2] = [
+pub(crate) const SOCKET: [RowField; 3] = [
     RowField {
         name: "receive_buffer",
         place: WordPlace::Behind("receive-buffer", 1),
@@ -81,6 +81,10 @@ pub(crate) const SOCKET: [RowField; 2] = [
     RowField {
         name: "send_buffer",
         place: WordPlace::Behind("send-buffer", 1),
+    },
+    RowField {
+        name: "drops",
+        place: WordPlace::Behind("drops", 1),
     },
 ];
 
