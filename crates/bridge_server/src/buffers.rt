@@ -1,5 +1,8 @@
-//! The buffers of the socket for datagrams.
+//! The buffers of the socket for datagrams, and what the system dropped there.
 
+ghost use Rattle.std.specs.Prelude.{◌≡◌};
+
+use crate::drops::{drops_at, inode_of};
 use bridge_stats::SocketRow;
 use front_settings::FrontSettings;
 use libc::net as c;
@@ -51,12 +54,42 @@ fn send_buffer(fd: RawFd) -> u32 {
     number_in(&value) / 2
 }
 
+/// The buffers that the system gave the socket for datagrams, and by what it names that socket.
+#[derive(Clone, Copy)]
+pub(crate) struct SocketBuffers {
+    /// How many octets of datagrams wait at most until they are read.
+    pub(crate) receive: u32,
+    /// How many octets of datagrams wait at most until they leave.
+    pub(crate) send: u32,
+    /// The socket's inode, if the system tells it.
+    inode: Option<u64>,
+}
+
+impl SocketBuffers {
+    /// The socket with these buffers, and what the system has dropped there until now.
+    pub(crate) fn row(&self) -> SocketRow
+        ensures receive { result.receive_buffer ≡ self.now.receive }
+        ensures send { result.send_buffer ≡ self.now.send }
+    {
+        let drops = match self.inode {
+            None => None,
+            Some(inode) => drops_at(inode),
+        };
+        SocketRow {
+            receive_buffer: self.receive,
+            send_buffer: self.send,
+            drops,
+        }
+    }
+}
+
 /// Asks the system for the buffers that the settings name. Returns those that it gives.
-pub(crate) fn buffers_of(udp: &UdpSocket, settings: &FrontSettings) -> SocketRow {
+pub(crate) fn buffers_of(udp: &UdpSocket, settings: &FrontSettings) -> SocketBuffers {
     let fd = udp.as_raw_fd();
     ask(fd, settings.receive_buffer, settings.send_buffer);
-    SocketRow {
-        receive_buffer: receive_buffer(fd),
-        send_buffer: send_buffer(fd),
+    SocketBuffers {
+        receive: receive_buffer(fd),
+        send: send_buffer(fd),
+        inode: inode_of(fd),
     }
 }

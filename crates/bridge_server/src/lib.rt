@@ -24,6 +24,7 @@
 mod buffers;
 mod calls;
 mod causes;
+mod drops;
 mod ending;
 mod front;
 mod listener;

@@ -2,10 +2,11 @@
 
 ghost use Rattle.std.specs.Prelude.{◌≡◌, IfOk};
 
+use crate::buffers::SocketBuffers;
 use crate::causes::started;
 use crate::front::{Front, WAKER};
 use bridge_monitor::{StatsDesk, Teller};
-use bridge_stats::{Seats, SocketRow};
+use bridge_stats::Seats;
 use event_lines::{Event, ServerPart, WhyFailed};
 use mio::Waker;
 use operator_threads::Wake;
@@ -22,7 +23,7 @@ pub(crate) struct FrontWaker {
     /// Where the front is asked what the bridge counts.
     pub(crate) stats: Arc<StatsDesk, Global>,
     /// The buffers of the socket for datagrams.
-    pub(crate) socket: SocketRow,
+    pub(crate) socket: SocketBuffers,
     /// How many operators' seats there are.
     pub(crate) seats: u32,
     /// Where the trace goes to, if there is one.
@@ -104,10 +105,11 @@ impl CallerWaker {
 }
 
 impl Wake for CallerWaker {
-    ghost use Rattle.bridge_monitor.specs.Told.{TellsCounts, TellsLevels};
+    ghost use Rattle.bridge_monitor.specs.Told.{TellsLevels};
+    ghost use Rattle.bridge_server.specs.Asked.{TellsCountsNow};
 
-    ghost counts = { λ waker used text.
-        TellsCounts waker.front.socket (record { used = used; all = waker.front.seats }) text };
+    ghost counts = { λ waker used text. TellsCountsNow waker.front.socket.receive waker.front.socket.send
+        (record { used = used; all = waker.front.seats }) text };
 
     ghost levels = { λ waker text. TellsLevels text };
 
@@ -129,8 +131,9 @@ impl Wake for CallerWaker {
     ) -> Result<(), AllocError> {
         self.ask(rt);
         let all = self.front.seats;
+        let row = self.front.socket.row();
         let desk = &self.front.stats;
-        desk.print(rt, self.front.socket, Seats { used, all }, out)
+        desk.print(rt, row, Seats { used, all }, out)
     }
 
     fn tell_levels<R: Wait>(

@@ -151,12 +151,17 @@ limited_line limited =
     (words (codes "nacks") ∷ number limited.nacks ∷ words (codes "blocks") ∷ number limited.blocks
     ∷ words (codes "plis") ∷ number limited.plis ∷ [])
 
--- the buffers of the socket for datagrams
+-- the drops at a socket, or a mark that the system doesn't tell them
+abbrev pub drops_part : Option ℕ → LinePart
+drops_part None = no_word
+drops_part (Some drops) = number drops
+
+-- the socket for datagrams: its buffers, and what the system dropped there
 abbrev pub socket_line : SocketRow → List ℕ
 socket_line row =
     line_text (codes "socket")
     (words (codes "receive-buffer") ∷ number row.receive_buffer ∷ words (codes "send-buffer") ∷ number row.send_buffer
-    ∷ [])
+    ∷ words (codes "drops") ∷ drops_part row.drops ∷ [])
 
 abbrev pub seats_line : Seats → List ℕ
 seats_line seats = line_text (codes "seats") (number seats.used ∷ words (codes "of") ∷ number seats.all ∷ [])

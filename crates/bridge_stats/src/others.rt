@@ -2,7 +2,7 @@
 
 ghost use Rattle.std.specs.Prelude.{◌≡◌, ◌∷◌, [], map};
 ghost use Rattle.bridge_stats.specs.Shown.{fraction_part, lost_part, highest_of, highest_parts, path_in};
-ghost use Rattle.bridge_stats.specs.Shown.{stream_parts, stream_line, lane_line};
+ghost use Rattle.bridge_stats.specs.Shown.{stream_parts, stream_line, lane_line, drops_part};
 ghost use Rattle.bridge_stats.specs.Paths.{path_jitter_part, trip_part, round_trip_part, path_parts};
 ghost use Rattle.bridge_stats.specs.inner.Said.{said};
 ghost use Rattle.bridge_stats.specs.inner.Growing.{buffer_of, Grows};
@@ -82,13 +82,16 @@ pub struct Limited {
     pub plis: u64,
 }
 
-/// The buffers that the system gives the socket for datagrams.
+/// The socket for datagrams: the buffers that the system gives it, and what it dropped there.
 #[derive(Clone, Copy)]
 pub struct SocketRow {
     /// How many octets of datagrams wait at most until they are read.
     pub receive_buffer: u32,
     /// How many octets of datagrams wait at most until they leave.
     pub send_buffer: u32,
+    /// How many datagrams the system dropped since the socket was opened, as where the receive buffer was full. `None`
+    /// where it doesn't tell.
+    pub drops: Option<u64>,
 }
 
 /// The operators' seats.
@@ -111,7 +114,7 @@ pub struct OthersShown<'a> {
     pub lanes: &'a [LaneRow],
     /// What the rate limiter left out.
     pub limited: Limited,
-    /// The buffers of the socket for datagrams.
+    /// The socket for datagrams.
     pub socket: SocketRow,
     /// The operators' seats.
     pub seats: Seats,
@@ -160,6 +163,16 @@ fn trip_field<'a>(trip: Option<u32>) -> LineField<'a>
     match trip {
         None => LineField::Words(NO_WORD),
         Some(trip) => LineField::Number(u64::from(trip) * 1_000 / TRIP_UNITS),
+    }
+}
+
+/// The drops at a socket, or a mark that the system doesn't tell them.
+pub(crate) fn drops_field<'a>(drops: Option<u64>) -> LineField<'a>
+    ensures { said result ≡ drops_part drops }
+{
+    match drops {
+        None => LineField::Words(NO_WORD),
+        Some(drops) => LineField::Number(drops),
     }
 }
 

@@ -10,7 +10,7 @@ ghost use Rattle.bridge_stats.specs.inner.Growing.{buffer_of, Grows};
 use crate::appending::{LineField, append, append_line};
 use crate::kind::KINDS;
 use crate::lines::append_lines;
-use crate::others::{Limited, OthersShown, Seats, SocketRow};
+use crate::others::{Limited, OthersShown, Seats, SocketRow, drops_field};
 use crate::rows::{KindRow, SourceRow, StrangerRow};
 use crate::source_table::MOST_SOURCES;
 use crate::stranger::MOST_STRANGERS;
@@ -101,6 +101,8 @@ fn append_socket<A: Allocator>(socket: &SocketRow, out: &mut Vec<u8, A>) -> Resu
         LineField::Number(u64::from(socket.receive_buffer)),
         LineField::Words(b"send-buffer"),
         LineField::Number(u64::from(socket.send_buffer)),
+        LineField::Words(b"drops"),
+        drops_field(socket.drops),
     ];
     append_line(b"socket", &fields, out)
 }

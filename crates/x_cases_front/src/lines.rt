@@ -1,7 +1,8 @@
-//! What the lines of a case say of members, operators and settings.
+//! What the lines of a case say of members, operators, settings and the table of sockets.
 
 use crate::setting::answer;
 use crate::stage::{Stage, turns};
+use crate::table::of_table;
 use crate::text::{digits, numbered, spoken};
 use std::alloc::Global;
 use std::net::{Net, TcpStream};
@@ -160,6 +161,7 @@ pub fn carry_out<R: Net<Stream = TcpStream> + Clock + Wait>(
         "stopped" => stage.stopped(rt),
         "left" => stage.left(rt, rest),
         "settings" => of_settings(stage.alloc, rest),
+        "table" => of_table(stage.alloc, rest),
         _ => of_number(stage, rt, verb, rest),
     }
 }

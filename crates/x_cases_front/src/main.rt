@@ -6,6 +6,8 @@
 //! - `** TEXT`: what the lines behind it show.
 //! - `settings TEXT > ANSWER`: the settings of a text, where `\n` is an LF, or their fault. Settings are
 //!   `udp ADDRESS and tcp ADDRESS LANES OPERATORS SSRC CNAME`.
+//! - `table INODE PIECE TEXT > ANSWER`: the drops that a text tells of the socket that has this inode, or why it tells
+//!   none. The text is read as the system's table of UDP sockets, in pieces of so many octets.
 //! - `bridge SEATS [LANES [SETTINGS]]`: a new bridge with so many seats for operators, so many lanes, and these further
 //!   settings. All sockets around the one before are closed, and it is stopped.
 //! - `opens N`: operator N connects.
@@ -16,7 +18,8 @@
 //! - `octets N HEX`: it sends these octets.
 //! - `repeats N TIMES TEXT`: it sends a line so many times and reads nothing, until the bridge takes no more.
 //! - `floods N TIMES`: it sends so many times 8,192 octets without an LF.
-//! - `told N TEXT`: the next line that it is told, where the word `#` stands for any number or address.
+//! - `told N TEXT`: the next line that it is told, where the word `#` stands for any number or address, and `#-` for
+//!   one or a `-`.
 //! - `closed N`: it is told nothing more, and the bridge closes its connection.
 //! - `ends N`: it is told nothing more, and the bridge, which is stopped, closes its connection within 2 s.
 //! - `cut N`: it goes on sending and reads nothing, until the bridge closes its connection.
@@ -42,6 +45,7 @@ mod pace;
 mod running;
 mod setting;
 mod stage;
+mod table;
 mod talking;
 mod text;
 

@@ -61,18 +61,24 @@ pub fn are_like(alloc: Global, octets: &[u8], wanted: &str) -> Option<bool> {
     Some(had.len() == wanted.len() && pairs.all(|(is, like)| is_like(is, like)))
 }
 
-/// Whether a word is what another one stands for: `#` for any number or address.
-fn is_word(is: &[u8], like: &str) -> bool {
-    if like == "#" {
-        return !is.is_empty()
-            && is
-                .iter()
-                .all(|octet| matches!(*octet, b'0'..=b'9' | b'.' | b':'));
-    }
-    is == like.as_bytes()
+/// Whether a word is a number or an address.
+fn is_number(word: &[u8]) -> bool {
+    !word.is_empty()
+        && word
+            .iter()
+            .all(|octet| matches!(*octet, b'0'..=b'9' | b'.' | b':'))
 }
 
-/// Whether a line has these words, where `#` stands for any number or address.
+/// Whether a word is what another one stands for: `#` for any number or address, `#-` for one or a `-`.
+fn is_word(is: &[u8], like: &str) -> bool {
+    match like {
+        "#" => is_number(is),
+        "#-" => is_number(is) || is == b"-",
+        like => is == like.as_bytes(),
+    }
+}
+
+/// Whether a line has these words, where `#` stands for any number or address, and `#-` for one or a `-`.
 pub fn is_line(line: &[u8], wanted: &str) -> bool {
     let mut words = line.split(|octet| *octet == b' ');
     for like in wanted.split(' ') {

@@ -5,7 +5,8 @@ An operator mutes a source, unsubscribes a slot and undoes both. The checks: eac
 member hears the other's tone and not its own; a NACK is answered; lost packets are asked for; a PLI is passed on;
 reports come. `stats` counts of each stream what its member got, and has what it reported, of a slot and of a mix, with
 the jitter and the round trip. It has the samples and the energy of each tone, and `levels` has them too. The bridge's
-socket of the operator waits for no acknowledgement before it sends an answer's end.
+socket of the operator waits for no acknowledgement before it sends an answer's end. Where another bridge stands still
+for 0.8 s, the system drops datagrams at its socket, and `stats` tells as many, as `drops` and as `lost`.
 """
 
 import contextlib
@@ -19,6 +20,7 @@ import tempfile
 import time
 
 from checks.bridges import check, seconds_of
+from checks.overflowing import check_drops
 from operators.packets import has_no_gap, is_rtp_of, nack, pli, rtp, seq_of
 from operators.serving import Operator, come_to, free_port, port_of, settings, udp_socket
 from operators.shared import CRATES, add_program_or_build, fail, found_program, try_command
@@ -374,4 +376,5 @@ def run(args):
         check_idle(bridge)
         hold(Call(connection, udp))
         check_delay(bridge, connection)
+    check_drops(found_program(args.binary))
     return 0

@@ -43,7 +43,7 @@ lane 0 items 5012 dropped 4 packets 4010 octets 520112 waited 6 not-ready 1 deni
 too-long 0 other 2 waiting 3
 tomorrow 7 of 9
 limited nacks 4 blocks 0 plis 1
-socket receive-buffer 212992 send-buffer 4194304
+socket receive-buffer 212992 send-buffer 4194304 drops 15
 seats 2 of 4
 end
 """
@@ -76,6 +76,7 @@ SAMPLES = {
     'confbridge_limited_feedback_total{kind="nacks"}': 4,
     "confbridge_socket_receive_buffer_bytes": 212992,
     "confbridge_socket_send_buffer_bytes": 4194304,
+    "confbridge_socket_drops_total": 15,
     "confbridge_seats_used": 2,
     "confbridge_seats": 4,
 }  # fmt: skip
@@ -226,6 +227,10 @@ def agrees(page, operator):
         name = f'confbridge_datagrams_total{{outcome="{outcome}"}}'
         check(found.get(name) == number, f"{name} is {found.get(name)}, and the bridge counts {number}")
     check({row["outcome"]: row["datagrams"] for row in told["datagrams"]} == given, "/stats has other datagrams")
+    drops = next(line for line in lines if line[0] == "socket")[-1]
+    drops = None if drops == "-" else int(drops)
+    check(told["socket"]["drops"] == drops, f"/stats has {told['socket']}, and the bridge tells {drops} drops")
+    check(found.get("confbridge_socket_drops_total") == drops, f"/metrics hasn't the {drops} drops")
     return {"confbridge_seats_used": told["seats"]["used"], "confbridge_seats": told["seats"]["of"]}
 
 

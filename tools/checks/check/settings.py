@@ -188,8 +188,9 @@ def check_buffers(program, path):
             with socket.create_connection(("127.0.0.1", port), timeout=20) as connection:
                 operator = Operator(connection)
                 told = next(line for line in operator.shown("stats") if line.startswith("socket "))
-                line = "socket receive-buffer {} send-buffer {}".format(*given)
-                check(told == line, f"of buffers `stats` tells {told!r}, not {line!r}")
+                line = "socket receive-buffer {} send-buffer {} drops ".format(*given)
+                drops = told.removeprefix(line)
+                check(drops in ("0", "-"), f"of buffers `stats` tells {told!r}, not {line + '0'!r}")
                 operator.ask("stop")
 
         check_start(program, path, stop)

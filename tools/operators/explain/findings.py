@@ -359,7 +359,7 @@ class Findings:
             if one.begin > self.explained.run.settled and self.is_within(one.begin):
                 when = f"around {self.seconds(one.begin):.2f} s"
                 text = f"the bridge passed nothing on of {', '.join(map(str, one.sources))} {when}"
-                why = "its receive buffer ran over (`nstat -az UdpRcvbufErrors`), or its machine stood still"
+                why = "its receive buffer ran over (`stats`: `drops` of `socket`), or its machine stood still"
                 self.add("overrun", None, f"{text}, though packets came: {why}")
 
     def is_within(self, moment):
