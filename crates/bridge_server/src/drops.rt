@@ -1,6 +1,7 @@
 //! What the system dropped at a socket, by its table of UDP sockets.
 
-use libc::types::{statx, statx_timestamp};
+use arrayvec::ArrayVec;
+use itoa::Buffer;
 use std::os::fd::RawFd;
 use udp_table::TableReader;
 
@@ -11,53 +12,29 @@ const PIECE: usize = 4_096;
 /// How many pieces of it are read at most. A million sockets have less.
 const MOST_PIECES: u32 = 65_536;
 
-/// No moment.
-fn no_moment() -> statx_timestamp {
-    statx_timestamp {
-        tv_sec: 0,
-        tv_nsec: 0,
-        __reserved: 0,
-    }
-}
+/// Where Linux tells what the descriptors of this process are (proc_pid_fd(5)).
+const DESCRIPTORS: &[u8] = b"/proc/self/fd/";
+/// How many octets there are for the path to one of them, which has up to 24.
+const PATH: usize = 32;
+/// How many octets there are for what a descriptor of a socket is, which has up to 29.
+const LINK: usize = 64;
 
-/// What is known of a file before the system is asked.
-fn nothing_known() -> statx {
-    statx {
-        stx_mask: 0,
-        stx_blksize: 0,
-        stx_attributes: 0,
-        stx_nlink: 0,
-        stx_uid: 0,
-        stx_gid: 0,
-        stx_mode: 0,
-        __spare0: [0; 1],
-        stx_ino: 0,
-        stx_size: 0,
-        stx_blocks: 0,
-        stx_attributes_mask: 0,
-        stx_atime: no_moment(),
-        stx_btime: no_moment(),
-        stx_ctime: no_moment(),
-        stx_mtime: no_moment(),
-        stx_rdev_major: 0,
-        stx_rdev_minor: 0,
-        stx_dev_major: 0,
-        stx_dev_minor: 0,
-        stx_mnt_id: 0,
-        stx_dio_mem_align: 0,
-        stx_dio_offset_align: 0,
-        __spare3: [0; 12],
-    }
+/// The inode in what the system says that a descriptor of a socket is, `socket:[INODE]`.
+fn inode_in(link: &[u8]) -> Option<u64> {
+    let inode = link.strip_prefix(b"socket:[")?.strip_suffix(b"]")?;
+    u64::from_str_radix(std::str::from_utf8(inode).ok()?, 10).ok()
 }
 
 /// The inode of a socket, by which the table names it.
 pub(crate) fn inode_of(fd: RawFd) -> Option<u64> {
-    let mut known = nothing_known();
-    if os::statx(fd, b"", libc::AT_EMPTY_PATH, &mut known) == 0 {
-        Some(known.stx_ino)
-    } else {
-        None
-    }
+    let mut path: ArrayVec<u8, PATH> = ArrayVec::new();
+    let mut digits = Buffer::new();
+    path.try_extend_from_slice(DESCRIPTORS).ok()?;
+    path.try_extend_from_slice(digits.format(fd).as_bytes())
+        .ok()?;
+    let mut link = [0u8; LINK];
+    let len = usize::try_from(os::readlink(&path, &mut link)).ok()?;
+    inode_in(link.get(..len)?)
 }
 
 /// Feeds a file to its reader until the socket's drops are told, or the file ends.
