@@ -73,7 +73,7 @@ fn is_number(word: &[u8]) -> bool {
 fn is_word(is: &[u8], like: &str) -> bool {
     match like {
         "#" => is_number(is),
-        "#-" => is_number(is) || is == b"-",
+        "#-" => is_number(is) || is == b"-".as_slice(),
         like => is == like.as_bytes(),
     }
 }
