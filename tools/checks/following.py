@@ -16,6 +16,8 @@ MOST_STREAMS, MOST = 24, 32
 # How long questions are counted, in seconds.
 COUNTED = 4
 TABS = 10
+# The longest wait for an event, in seconds.
+LONGEST = 20
 # How often all rows change for a browser that doesn't read.
 TURNS = 24
 
@@ -26,10 +28,11 @@ def check(holds, text):
 
 
 class PlainBridge:
-    """A plain desk that operators connect to."""
+    """A plain desk that operators connect to. Another operator's line of `meanwhile` comes right before a question is
+    answered, once."""
 
     def __init__(self, one):
-        self.one, self.asked, self.lock = one, [], threading.Lock()
+        self.one, self.asked, self.meanwhile, self.lock = one, [], {}, threading.Lock()
         bridge = self
 
         class Operator(socketserver.StreamRequestHandler):
@@ -40,6 +43,8 @@ class PlainBridge:
 
         self.server = socketserver.ThreadingTCPServer(("127.0.0.1", 0), Operator)
         self.server.daemon_threads = True
+        # The page closes its connection where it ends.
+        self.server.handle_error = lambda *_: None
         self.port = self.server.server_address[1]
         threading.Thread(target=self.server.serve_forever, daemon=True).start()
 
@@ -47,6 +52,9 @@ class PlainBridge:
         """The answer to a line, which is counted."""
         with self.lock:
             self.asked.append(line)
+            meanwhile = self.meanwhile.pop(line, None)
+        if meanwhile:
+            self.one.ask(meanwhile)
         if line.startswith("as "):
             return [line]
         if line == "show":
@@ -92,12 +100,13 @@ class Stream:
         return lines[0][7:], "\n".join(line[6:] for line in lines[1:])
 
     def next(self, name):
-        """The data of the next event of this name, and how long it took."""
+        """The data of the next event of this name, and how long it took. Beats alone don't keep a reader waiting."""
         begun = time.monotonic()
-        while True:
+        while time.monotonic() - begun < LONGEST:
             found, told = self.event()
             if found == name:
                 return told, time.monotonic() - begun
+        return fail(f"in {LONGEST} s the stream has no event `{name}`")
 
     def close(self):
         self.file.close()
@@ -119,9 +128,7 @@ def tells_changes(page, ask):
         check((status, *kind) == (200, "text/event-stream", "no-store"), f"the stream begins by {status} {fields}")
         check("default-src 'none'" in fields.get("content-security-policy", ""), "the stream has no strict policy")
         hello, _ = one.next("hello")
-        _, _, whole = page.ask("GET", "/desk.txt")
-        text, _, state = whole.rstrip("\n").rpartition("\n")
-        state, text, slowest = state[6:], f"{text}\n", 0
+        (text, state), slowest = loaded(page), 0
         check(hello.rpartition("-")[0] == state.rpartition("-")[0], f"the stream begins by {hello}, and not by {state}")
         for line in "add-room 41", "add-room 42 44100", "remove-room 41", "group add-room 43 / remove-room 42":
             said = ask(line)
@@ -145,11 +152,42 @@ def tells_changes(page, ask):
     return slowest
 
 
+def loaded(page):
+    """The desk's text without its state, and that state."""
+    text, _, state = page.ask("GET", "/desk.txt")[2].rstrip("\n").rpartition("\n")
+    return f"{text}\n", state[6:]
+
+
+def tells_calls_first(page, bridge):
+    """A call that comes between two of the program's questions is told before the desk that it made."""
+    with contextlib.closing(Stream(page.port)) as one:
+        one.head()
+        one.next("hello")
+        (text, state), last = loaded(page), 0
+        for at, question in enumerate(("show", "calls 512")):
+            bridge.meanwhile[question] = f"add-room {61 + at}"
+            bridge.one.ask(f"add-room {71 + at}")
+            end = time.monotonic() + LONGEST
+            while f"room {61 + at}\n" not in text:
+                check(time.monotonic() < end, f"a change before `{question}` is answered isn't told")
+                name, told = one.event()
+                if name == "call":
+                    last = int(told.split(" ")[1])
+                if name != "desk" or told.split(" ")[0] != state:
+                    continue
+                text, _, state = edited(text, told)
+                version = int(text.rpartition("\nend ")[2].split("\n")[0])
+                check(version <= last, f"the desk of version {version} is told before its call")
+
+
 def costs_one(page, bridge):
     """Ten tabs that have the stream and count cost the bridge no more than one, and load the desk by one question."""
     counts = []
     for tabs in 1, TABS:
         streams = [Stream(page.port) for _ in range(tabs)]
+        for stream in streams:
+            stream.head()
+            stream.next("hello")
         stop = threading.Event()
 
         def counts_on(at, stop=stop):
@@ -163,7 +201,6 @@ def costs_one(page, bridge):
         bridge.counted(0)
         bridge.one.ask(f"add-room {50 + tabs}")
         for stream in streams:
-            stream.head()
             stream.next("desk")
             page.ask("GET", "/history.txt")
         counts.append(bridge.counted(COUNTED))
@@ -230,6 +267,7 @@ def drops_slow(page, bridge):
 def is_followed(page, bridge):
     """All that is said of the stream."""
     slowest = tells_changes(page, bridge.one.ask)
+    tells_calls_first(page, bridge)
     one, many = costs_one(page, bridge)
     bounds(page)
     told = drops_slow(page, bridge)

@@ -1,7 +1,8 @@
 //! Following the desk for all browsers with the stream of events: what the bridge is asked, and what they are told.
 //!
-//! A short question finds out whether anything was changed. Only then the log and the desk are asked for, once for all
-//! browsers. So ten browsers cost the bridge no more than one.
+//! A short question finds out whether anything was changed. Only then the desk and the log are asked for, once for all
+//! browsers. So ten browsers cost the bridge no more than one. A log that is asked for behind the desk has all of its
+//! calls, so that calls are told before the desk that they made.
 
 use desk_http::{
     BridgeReply, DeskTexts, Query, answer_lines, append_event, edit_between, known_lines,
@@ -54,10 +55,12 @@ pub(crate) struct Follow {
     newest: Vec<u8>,
     /// The last calls of the log.
     log: Vec<u8>,
-    /// Calls were accepted since the log, or since the desk.
-    wants_log: bool,
+    /// Calls were accepted since the desk, or since the log.
     wants_desk: bool,
+    wants_log: bool,
     state: BridgeState,
+    /// What became of the desk since the log.
+    edits: Vec<u8>,
     /// The events that no browser has yet.
     pub(crate) events: Vec<u8>,
 }
@@ -104,21 +107,22 @@ impl Follow {
             next_beat: 0,
             newest: Vec::new(alloc),
             log: Vec::new(alloc),
-            wants_log: true,
             wants_desk: true,
+            wants_log: true,
             state: BridgeState::There,
+            edits: Vec::new(alloc),
             events: Vec::new(alloc),
         }
     }
 
     /// The line that is to be asked now, if there is one.
     pub(crate) fn due_line(&mut self, now: u64) -> Option<&'static [u8]> {
-        if self.wants_log {
-            self.wants_log = false;
-            Some(Query::Calls.line())
-        } else if self.wants_desk {
+        if self.wants_desk {
             self.wants_desk = false;
             Some(Query::Desk.line())
+        } else if self.wants_log {
+            self.wants_log = false;
+            Some(Query::Calls.line())
         } else if now >= self.next_look {
             self.next_look = now.saturating_add(LOOK_INTERVAL);
             Some(latest_line())
@@ -127,10 +131,16 @@ impl Follow {
         }
     }
 
-    /// Notes that calls may have been accepted: the log and the desk are asked for.
+    /// Notes that calls may have been accepted: the desk and the log are asked for.
     pub(crate) fn note_change(&mut self) {
-        self.wants_log = true;
         self.wants_desk = true;
+        self.wants_log = true;
+    }
+
+    /// Drops the events that no browser has yet: nobody has the stream.
+    pub(crate) fn clear(&mut self) {
+        self.events.clear();
+        self.edits.clear();
     }
 
     /// Whether all that was asked of the desk is still right, as far as is known.
@@ -148,7 +158,7 @@ impl Follow {
         Ok(true)
     }
 
-    /// Takes the log, and tells the calls that are new in it.
+    /// Takes the log. Tells the calls that are new in it, and then the edits of the desk before it.
     pub(crate) fn note_log(&mut self, alloc: Global, text: &[u8]) -> Result<(), AllocError> {
         if let (false, Ok(before), Ok(after)) = (
             self.log.is_empty(),
@@ -158,11 +168,13 @@ impl Follow {
             append_calls(alloc, before, after, &mut self.events)?;
         }
         self.log = Vec::from_slice(alloc, text)?;
+        self.events.extend_from_slice(&self.edits)?;
+        self.edits.clear();
         Ok(())
     }
 
-    /// Takes the desk's text, and tells what turns the one before into it: both states, where octets go, how many, and
-    /// those that come in their place.
+    /// Takes the desk's text. What turns the one before into it is told with the next log: both states, where octets
+    /// go, how many, and those that come in their place.
     pub(crate) fn note_desk(
         &mut self,
         alloc: Global,
@@ -181,7 +193,8 @@ impl Follow {
         if let Some(inserted) = text.get(start..start.saturating_add(edit.inserted)) {
             told.extend_from_slice(inserted)?;
         }
-        append_event(&mut self.events, b"desk", &told)
+        self.wants_log = true;
+        append_event(&mut self.edits, b"desk", &told)
     }
 
     /// Takes what a reply says of the bridge, and tells it where it is another state than before.

@@ -199,6 +199,9 @@ impl Server {
         self.follow.note_beat(self.config.alloc, now)?;
         self.clients.publish(&self.follow.events, now);
         self.follow.events.clear();
+        if !self.is_followed() {
+            self.follow.clear();
+        }
         Ok(())
     }
 
@@ -371,8 +374,8 @@ impl Server {
         self.texts.append_state(alloc, &self.run_name, text)
     }
 
-    /// Takes what the bridge answered to a question. Adds the version of the names to the desk, and the state that names
-    /// its text.
+    /// Takes what the bridge answered to a question. Adds the version of the names to the desk, and the state that
+    /// names its text.
     fn note_text(&mut self, line: &[u8], text: &mut Vec<u8>) -> Result<(), AllocError> {
         if line == Query::Desk.line() {
             self.note_desk(text)
