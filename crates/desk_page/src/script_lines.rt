@@ -492,6 +492,8 @@ function levelInWords(level, isSpeaking = false, isMuted = false) {
   if (!isSpeaking) return dbov;
   return `${isMuted ? "speaks while muted" : "speaks"}, ${dbov}`;
 }
+// A gain of 256ths in words.
+const gainInWords = (q8) => `x${(q8 / 256).toFixed(2)}`;
 // The span of two counts in words.
 function spanInWords(ms) {
   return ms === null || ms > LONGEST_SPAN ? "" : `last ${Math.max(1, Math.round(ms / 1000))} s`;
@@ -641,8 +643,8 @@ function strangersIn(stats, desk) {
   return unknown.map((one) => strangerOf(desk, one));
 }
 
-// What brings somebody into a room as one group: a member with numbers of the page's choice, its sources, which are what
-// comes from its address already, and a slot if it sees a picture.
+// What brings somebody into a room as one group: a member with numbers of the page's choice, its sources, which are
+// what comes from its address already, and a slot if it sees a picture.
 function newcomer(desk, stats, { room, address, sees }) {
   const own = strangersIn(stats, desk).filter((one) => one.address === address && !one.isElsewhere);
   const unused = (least) => {
@@ -1065,8 +1067,8 @@ if (typeof module !== "undefined") {
     lines, dropped, free, suggested, inWords, replyInWords, parseHistory, worded, callWords, begun, wayTo, wayWords,
     callInTheWay, changes, keptText, groupsIn, parseStats, agoInWords, isSilent, isLossy, countOf, countInWords,
     streamInWords, turnedRooms, strangersIn, personWord, personName, callsIn, whoOf, timeOf, isOthers, undoOf, redoOf,
-    newcomer, editedText, isOlderText, withCalls, traced, tracedAll, plotted, figuresOf, levelOf, speechAfter, levelInWords,
-    spanInWords, objectsOfRow,
-    objectsOfLine, othersObjects, placeChanges, inOldPlaces, troubleOf, tallyOf, isCounted, linkOf, linkInWords };
+    newcomer, editedText, isOlderText, withCalls, traced, tracedAll, plotted, figuresOf, levelOf, speechAfter,
+    levelInWords, gainInWords, spanInWords, objectsOfRow, objectsOfLine, othersObjects, placeChanges, inOldPlaces,
+    troubleOf, tallyOf, isCounted, linkOf, linkInWords };
 }
 "##;

@@ -170,9 +170,10 @@ function plotOf(path) {
 function gainRow(member, who, { ssrc, gain, label, hasLeft }) {
   const line = lines.setGain(member, ssrc, ""), off = hasLeft ? { disabled: true } : {};
   return el("div", { class: `row slider${hasLeft ? " left" : ""}`, "data-key": `gain row ${ssrc}` },
-    el("span", { class: "what" }, bdi(label), soft(` x${(gain / 256).toFixed(2)}`)),
+    el("span", { class: "what" }, bdi(label), soft(` ${gainInWords(gain)}`)),
     el("input", { type: "range", min: 0, max: 1024, step: 32, value: gain, "data-key": `gain ${member} ${ssrc}`,
-      "data-gain": line, "aria-label": `Gain of ${label} for ${who}`, title: `${line}${gain}`, ...off }),
+      "data-gain": line, "aria-label": `Gain of ${label} for ${who}`, "aria-valuetext": gainInWords(gain),
+      title: `${line}${gain}`, ...off }),
     sends("Reset", lines.setGain(member, ssrc, 256), `the gain of ${label} for ${who}`));
 }
 function sourceRow(room, source) {
@@ -819,9 +820,9 @@ function loseSliders() {
     clearTimeout(resting.get(key));
     one.isLost = true;
     if (node) node.value = gain;
-    const times = (q8) => `x${(q8 / 256).toFixed(2)}`, whose = sourceLabel(Number(ssrc));
-    notice(`Gain of ${whose} for member ${member}: another operator set ${times(gain)} while you held the slider. `
-      + `Your ${times(held)} was not sent.`);
+    const whose = sourceLabel(Number(ssrc));
+    notice(`Gain of ${whose} for member ${member}: another operator set ${gainInWords(gain)} while you held the `
+      + `slider. Your ${gainInWords(held)} was not sent.`);
     if (!one.isDown) touched.delete(key);
   }
 }
@@ -1384,7 +1385,8 @@ document.addEventListener("input", ({ target }) => {
     resting.delete(key);
     return;
   }
-  target.parentNode.querySelector(".soft").textContent = ` x${(target.value / 256).toFixed(2)}`;
+  target.ariaValueText = gainInWords(target.value);
+  target.parentNode.querySelector(".soft").textContent = ` ${target.ariaValueText}`;
   resting.set(key, setTimeout(async () => {
     resting.delete(key);
     one.sent = Number(target.value);
@@ -1492,7 +1494,8 @@ form("add-room", (f) => lines.addRoom(f.room, f.rate));
 form("add-member", (f) => lines.addMember(f, codecOf(desk, f)));
 form("add-source", lines.addSource);
 form("add-slot", lines.addSlot);
-// Somebody comes by one group, and then has a name. What comes from its address later is added from the unknown senders.
+// Somebody comes by one group, and then has a name. What comes from its address later is added from the unknown
+// senders.
 at("add-person").addEventListener("submit", async (event) => {
   event.preventDefault();
   const fields = at("add-person").elements, name = cut(fields.name.value), sees = fields.sees.checked;

@@ -77,7 +77,8 @@ document.addEventListener("input", ({ target }) => {
     resting.delete(key);
     return;
   }
-  target.parentNode.querySelector(".soft").textContent = ` x${(target.value / 256).toFixed(2)}`;
+  target.ariaValueText = gainInWords(target.value);
+  target.parentNode.querySelector(".soft").textContent = ` ${target.ariaValueText}`;
   resting.set(key, setTimeout(async () => {
     resting.delete(key);
     one.sent = Number(target.value);
@@ -185,7 +186,8 @@ form("add-room", (f) => lines.addRoom(f.room, f.rate));
 form("add-member", (f) => lines.addMember(f, codecOf(desk, f)));
 form("add-source", lines.addSource);
 form("add-slot", lines.addSlot);
-// Somebody comes by one group, and then has a name. What comes from its address later is added from the unknown senders.
+// Somebody comes by one group, and then has a name. What comes from its address later is added from the unknown
+// senders.
 at("add-person").addEventListener("submit", async (event) => {
   event.preventDefault();
   const fields = at("add-person").elements, name = cut(fields.name.value), sees = fields.sees.checked;

@@ -141,7 +141,7 @@ if (typeof module !== "undefined") {
     lines, dropped, free, suggested, inWords, replyInWords, parseHistory, worded, callWords, begun, wayTo, wayWords,
     callInTheWay, changes, keptText, groupsIn, parseStats, agoInWords, isSilent, isLossy, countOf, countInWords,
     streamInWords, turnedRooms, strangersIn, personWord, personName, callsIn, whoOf, timeOf, isOthers, undoOf, redoOf,
-    newcomer, editedText, isOlderText, withCalls, traced, tracedAll, plotted, figuresOf, levelOf, speechAfter, levelInWords,
-    spanInWords, objectsOfRow,
-    objectsOfLine, othersObjects, placeChanges, inOldPlaces, troubleOf, tallyOf, isCounted, linkOf, linkInWords };
+    newcomer, editedText, isOlderText, withCalls, traced, tracedAll, plotted, figuresOf, levelOf, speechAfter,
+    levelInWords, gainInWords, spanInWords, objectsOfRow, objectsOfLine, othersObjects, placeChanges, inOldPlaces,
+    troubleOf, tallyOf, isCounted, linkOf, linkInWords };
 }

@@ -41,6 +41,8 @@ function levelInWords(level, isSpeaking = false, isMuted = false) {
   if (!isSpeaking) return dbov;
   return `${isMuted ? "speaks while muted" : "speaks"}, ${dbov}`;
 }
+// A gain of 256ths in words.
+const gainInWords = (q8) => `x${(q8 / 256).toFixed(2)}`;
 // The span of two counts in words.
 function spanInWords(ms) {
   return ms === null || ms > LONGEST_SPAN ? "" : `last ${Math.max(1, Math.round(ms / 1000))} s`;

@@ -128,9 +128,9 @@ function loseSliders() {
     clearTimeout(resting.get(key));
     one.isLost = true;
     if (node) node.value = gain;
-    const times = (q8) => `x${(q8 / 256).toFixed(2)}`, whose = sourceLabel(Number(ssrc));
-    notice(`Gain of ${whose} for member ${member}: another operator set ${times(gain)} while you held the slider. `
-      + `Your ${times(held)} was not sent.`);
+    const whose = sourceLabel(Number(ssrc));
+    notice(`Gain of ${whose} for member ${member}: another operator set ${gainInWords(gain)} while you held the `
+      + `slider. Your ${gainInWords(held)} was not sent.`);
     if (!one.isDown) touched.delete(key);
   }
 }

@@ -142,8 +142,8 @@ function strangersIn(stats, desk) {
   return unknown.map((one) => strangerOf(desk, one));
 }
 
-// What brings somebody into a room as one group: a member with numbers of the page's choice, its sources, which are what
-// comes from its address already, and a slot if it sees a picture.
+// What brings somebody into a room as one group: a member with numbers of the page's choice, its sources, which are
+// what comes from its address already, and a slot if it sees a picture.
 function newcomer(desk, stats, { room, address, sees }) {
   const own = strangersIn(stats, desk).filter((one) => one.address === address && !one.isElsewhere);
   const unused = (least) => {

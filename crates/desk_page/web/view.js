@@ -165,9 +165,10 @@ function plotOf(path) {
 function gainRow(member, who, { ssrc, gain, label, hasLeft }) {
   const line = lines.setGain(member, ssrc, ""), off = hasLeft ? { disabled: true } : {};
   return el("div", { class: `row slider${hasLeft ? " left" : ""}`, "data-key": `gain row ${ssrc}` },
-    el("span", { class: "what" }, bdi(label), soft(` x${(gain / 256).toFixed(2)}`)),
+    el("span", { class: "what" }, bdi(label), soft(` ${gainInWords(gain)}`)),
     el("input", { type: "range", min: 0, max: 1024, step: 32, value: gain, "data-key": `gain ${member} ${ssrc}`,
-      "data-gain": line, "aria-label": `Gain of ${label} for ${who}`, title: `${line}${gain}`, ...off }),
+      "data-gain": line, "aria-label": `Gain of ${label} for ${who}`, "aria-valuetext": gainInWords(gain),
+      title: `${line}${gain}`, ...off }),
     sends("Reset", lines.setGain(member, ssrc, 256), `the gain of ${label} for ${who}`));
 }
 function sourceRow(room, source) {

@@ -7,7 +7,7 @@ waiting, and a bridge that comes back is found again. A stream of events tells e
 ten tabs than for one, and drops who doesn't read it. In node, the page's functions choose the lines of clicks as they
 should. In chromium, two browsers go through a call by clicks, forms and a drag: after each step both draw what `show`
 says, and the second one within half a second. Sliders, keys, names, many members at once, a bridge that is gone, a room
-of 64 and 64 rooms of 16 are tried by hand. Names are kept in a file, and bad ones are told. With --http-only neither
+of 64 and 64 rooms of 16 are tried by hand. The browser's accessibility tree has a name for each control. Names are kept in a file, and bad ones are told. With --http-only neither
 node nor chromium is needed, and nothing tries the page's script. With --model no program is needed: the page is served
 over the plain desk of the models, and what a bridge counts is handed to it, too.
 """
@@ -29,6 +29,7 @@ import tempfile
 import time
 
 from checks import standin
+from checks.aloud import reads_aloud
 from checks.costing import costs_little
 from checks.counting import shows_counts
 from checks.driving import drive, opened
@@ -594,6 +595,7 @@ def try_by_hand(args, folder, address, bridge):
         stays(one)
         watches(one)
         tells_persons(one, two)
+        reads_aloud(one)
         costs_little(one)
     finally:
         one.close()

@@ -97,6 +97,7 @@ const loud = (quarters) => sound([1, 2, 3].slice(0, quarters).reduce((before, on
 same([1, 2, 3].map(loud), [[null, false], ["-45.0", false], ["-45.0", true]]);
 same([[null], [-127], [-30.4], [-30.4, true], [-30.4, true, true]].map((one) => page.levelInWords(...one)),
   ["level not known", "no sound", "−30 dBov", "speaks, −30 dBov", "speaks while muted, −30 dBov"]);
+same([0, 255, 384].map(page.gainInWords), ["x0.00", "x1.00", "x1.50"]);
 same([null, 1000, 2040, 5000, 5001].map(page.spanInWords), ["", "last 1 s", "last 2 s", "last 5 s", ""]);
 
 // The figures of a member are the worst of its sources that aren't silent, and of the streams to it.
