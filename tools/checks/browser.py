@@ -103,16 +103,21 @@ class Browser:
             if first & 0x80:
                 return json.loads(whole)
 
-    def ask(self, method, **values):
-        """What a command of the debugging protocol is answered."""
+    def answered(self, method, **values):
+        """The answer to a command of the debugging protocol, whether it was done or not."""
         self.count += 1
         self.send(json.dumps({"id": self.count, "method": method, "params": values}))
         while True:
             told = self.receive()
             if told.get("id") == self.count:
-                if "error" in told:
-                    fail(f"{method}: {told['error']}")
-                return told["result"]
+                return told
+
+    def ask(self, method, **values):
+        """What a command of the debugging protocol is answered."""
+        told = self.answered(method, **values)
+        if "error" in told:
+            fail(f"{method}: {told['error']}")
+        return told["result"]
 
     def run(self, script):
         """The value of a script in the page."""
@@ -184,6 +189,16 @@ class Browser:
         self.ask("Page.enable")
         self.ask("Performance.enable", timeDomain="threadTicks")
         self.ask("Page.navigate", url=address)
+
+    def reload(self):
+        """Loads the page anew. Waits until the old one is gone, while no script may have an answer."""
+        self.run("window.isOld = true")
+        self.ask("Page.reload")
+        script, end = "!window.isOld && document.readyState === 'complete'", time.monotonic() + 60
+        while not self.answered("Runtime.evaluate", expression=script).get("result", {}).get("result", {}).get("value"):
+            if time.monotonic() > end:
+                fail("after 60 s the page isn't loaded anew")
+            time.sleep(0.02)
 
     def wait(self, script, seconds=10):
         """Waits until a script is true. How long it took."""

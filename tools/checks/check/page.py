@@ -7,9 +7,10 @@ waiting, and a bridge that comes back is found again. A stream of events tells e
 ten tabs than for one, and drops who doesn't read it. In node, the page's functions choose the lines of clicks as they
 should. In chromium, two browsers go through a call by clicks, forms and a drag: after each step both draw what `show`
 says, and the second one within half a second. Sliders, keys, names, many members at once, a bridge that is gone, a room
-of 64 and 64 rooms of 16 are tried by hand. The browser's accessibility tree has a name for each control. Names are kept in a file, and bad ones are told. With --http-only neither
-node nor chromium is needed, and nothing tries the page's script. With --model no program is needed: the page is served
-over the plain desk of the models, and what a bridge counts is handed to it, too.
+of 64 and 64 rooms of 16 are tried by hand. The browser's accessibility tree has a name for each control. One
+session is an operator's shift. Names are kept in a file, and bad ones are told. With --http-only neither node nor
+chromium is needed, and nothing tries the page's script. With --model no program is needed: the page is served over the
+plain desk of the models, and what a bridge counts is handed to it, too.
 """
 
 import concurrent.futures
@@ -39,6 +40,7 @@ from checks.lasting import finds_another, keeps_the_desk, shows_stale
 from checks.make.page import LINES, WEB
 from checks.page_plants import PLANTS
 from checks.persons import tells_persons
+from checks.shift import works_a_shift
 from checks.showing import take_pictures
 from checks.staying import stays
 from checks.watching import watches
@@ -64,6 +66,8 @@ CALLS = [
     "add-room 3 44100",
     "add-member 12 3 127.0.0.1:6004 l16 9003 0 0",
 ]
+# After so many seconds a bridge that was told to stop has ended, on a busy machine and without proofs, too.
+ENDS = 120
 # How many browsers ask at once.
 MANY = 32
 # Calls that the bridge refuses, with the number and the name of each refusal.
@@ -470,6 +474,8 @@ def serves_many(page, operator):
 
 def stands_silence(page, bridge, version):
     """A bridge that says nothing keeps nobody else waiting, and a call is sent once."""
+    # The connection has the page's name then, and the next call goes to the bridge with no other line before it.
+    check(page.call("mute 999")[1].startswith(f"no {version} "), "a mute of no source isn't refused")
     signal_all(bridge, signal.SIGSTOP)
     try:
         with concurrent.futures.ThreadPoolExecutor() as pool:
@@ -596,6 +602,7 @@ def try_by_hand(args, folder, address, bridge):
         watches(one)
         tells_persons(one, two)
         reads_aloud(one)
+        works_a_shift(one)
         costs_little(one)
     finally:
         one.close()
@@ -703,7 +710,7 @@ def tried(args, folder, page, programs, words, names):
 
     def other():
         it[0].tell("stop")
-        programs[-1].wait(timeout=30)
+        programs[-1].wait(timeout=ENDS)
         programs.append(started("confbridge", args.binary, words, args.seconds, folder))
         it[0] = seated(programs[-1], port)
         for line in OTHER:
@@ -741,7 +748,7 @@ def session(args, folder):
         serves_many(page, operator)
         stands_silence(page, programs[0], version)
         operator.tell("stop")
-        programs[0].wait(timeout=30)
+        programs[0].wait(timeout=ENDS)
         status, _, text = page.ask("GET", "/desk")
         check(status == 502 and text.startswith("Gone"), f"without a bridge the desk is {status} {text}")
         programs.append(started("confbridge", args.binary, words, args.seconds, folder))
