@@ -12,18 +12,20 @@ import traceback
 from copied import Copy
 from desk import BUSY
 from etcd import ANY, GONE, PATIENCE
+from guard import Guard
 from keeping import Keeping, log
 from known import FLEET, NEW, Store
 from leader import AT_ONCE, EMPTY, Leader
 from leased import Lease
+from past import names_in, rooms_of
 from refused import FAILED, Refused, words_of
 
 # The seconds between two looks where nothing happens, and where something is wrong.
 PAUSE, TROUBLED = 1, 0.25
 # For how many seconds an agent that begins waits for etcd, before it says that there is none.
 BEGINS = 5
-# How many calls that were lost are remembered.
-LOST = 64
+# How many calls that were taken back are remembered, and how many that were lost.
+TAKEN, LOST = 64, 64
 
 
 class Agent(Keeping):
@@ -34,10 +36,11 @@ class Agent(Keeping):
         self.copy, self.troubles, self.spoiled = Copy(self.store), {}, set()
         self.lease = Lease(self.store, self.lasts, self.begins, log)
         self.leader = Leader(self)
-        # Calls of operators that were lost, since their rooms had gone elsewhere.
-        self.lost = collections.deque(maxlen=LOST)
+        # Calls of operators that were taken back since their rooms might have gone elsewhere, and those that were lost.
+        self.taken, self.lost = collections.deque(maxlen=TAKEN), collections.deque(maxlen=LOST)
         self.closed = threading.Event()
         self.copy.heard.append(self.hears)
+        self.guards = {one.name: Guard(one, self.lease, self.rooms, self.tells) for one in bridges}
         for bridge in bridges:
             bridge.remembered = self.remembers
 
@@ -47,6 +50,7 @@ class Agent(Keeping):
         self.copy.until(lambda known: True, BEGINS)
         for name, bridge in self.bridges.items():
             self.starts(self.again, name, bridge.desk.waits, self.tend, bridge)
+            self.starts(self.guards[name].run)
         self.starts(self.again, "the fleet", self.leader.woken.wait, self.leader.settle)
         self.starts(self.again, "bridges without agents", self.leader.late.wait, self.leader.ask_late)
 
@@ -58,6 +62,8 @@ class Agent(Keeping):
         self.closed.set()
         self.copy.closed.set()
         self.lease.closed.set()
+        for guard in self.guards.values():
+            guard.closed.set()
         with contextlib.suppress(Refused):
             if self.copy.known.leader == self.url:
                 self.copy.swap([(f"{FLEET}leader", None, ANY)], None, self.leader.only_if())
@@ -111,8 +117,18 @@ class Agent(Keeping):
             return why
         names = ", ".join(name for name, bridge in self.bridges.items() if bridge.is_there)
         words = f"{GONE.partition('. ')[0]}. This agent has had no word of its fleet for {lost:.0f} s."
-        rooms = f" The rooms of {names} may be on others by now, and calls at that desk may be lost." if names else ""
+        rooms = f" The rooms of {names} may be on others by now, and calls at that desk are taken back." if names else ""
         return Refused(f"{words}{rooms} Ask another agent.")
+
+    def rooms(self):
+        """The numbers of the fleet's rooms, as far as is known."""
+        with self.copy.lock:
+            return {*self.copy.known.rooms}
+
+    def tells(self, is_taken, words):
+        """Says what has become of an operator's call: it was taken back, or may be lost."""
+        (self.taken if is_taken else self.lost).append(words)
+        log(words)
 
     def tell_of(self, spoiled):
         """Says of keys that they hold what no agent has put there."""
@@ -125,7 +141,7 @@ class Agent(Keeping):
     def tend(self, bridge):
         """Does what the records ask of a bridge, and keeps the rows of its rooms."""
         with bridge.lock:
-            self.fence(bridge)
+            bridge.desk.hears()
             self.copy.current()
             try:
                 bridge.see()
@@ -157,14 +173,6 @@ class Agent(Keeping):
             known = self.copy.known
             return {room: known.rooms[room] for room in known.rooms_of(bridge.name)}
 
-    def fence(self, bridge):
-        """Sees whether others may have given a bridge's rooms away, since this agent has lost them."""
-        bridge.desk.hears()
-        if not bridge.is_cut and bridge.is_there and not self.lease.is_good():
-            bridge.is_cut, bridge.left = True, set()
-            bridge.desk.others.clear()
-            log(f"{bridge.name} is cut off: its rooms may go elsewhere, and what operators do there may be lost")
-
     def loses(self, bridge):
         """A bridge has ended: its rooms go elsewhere."""
         with self.copy.lock:
@@ -180,23 +188,34 @@ class Agent(Keeping):
         with self.copy.lock:
             known = self.copy.known
             found = {room: (known.rooms.get(room, (None, 0))[0], known.revision(room)) for room in bridge.rooms}
+        leaving = {}
         for room, (record, revision) in found.items():
             if record is None:
                 added[room] = NEW | {"on": bridge.name}, revision
             elif bridge.name not in (record["on"], record["to"]):
-                log(f"room {room} leaves {bridge.name}: it is on {record['on']}")
-                bridge.remove(room)
-                bridge.left.add(room)
+                leaving[room] = record["on"]
+        if leaving:
+            self.remove(bridge, leaving)
         # If a number is taken by now, the next look removes the room.
         self.put(bridge, added)
-        if bridge.is_cut and self.lease.is_good():
-            bridge.is_cut = False
-            log(f"{bridge.name} is back: {len(bridge.left)} of its rooms had gone elsewhere")
-            others = [one for one in bridge.desk.others if int(one[0]) not in bridge.desk.own]
-            for number, operator, call in others if bridge.left else ():
-                words = f"call {number} of operator {operator} at {bridge.name} may be lost, since rooms had gone: {call}"
-                self.lost.append(words)
-                log(words)
+        guard = self.guards[bridge.name]
+        if guard.is_cut and self.lease.is_good():
+            guard.end()
+            log(f"{bridge.name} is back: {bridge.left} of its rooms had gone elsewhere")
+        bridge.left = bridge.left if guard.is_cut else 0
+
+    def remove(self, bridge, rooms):
+        """Removes rooms that are on other bridges, and says which calls of operators these don't have."""
+        names, sure = names_in(bridge.rooms), {room: bridge.sure.get(room, 0) for room in rooms}
+        for room, on in rooms.items():
+            log(f"room {room} leaves {bridge.name}: it is on {on}")
+            bridge.remove(room)
+            bridge.left += 1
+        for call in bridge.desk.calls_after(min(sure.values()))[0]:
+            of = {room for room in rooms_of(call.words, names) if room is None or room in rooms}
+            late = [room for room in of if call.number > sure.get(room, min(sure.values()))]
+            if late and call.is_persons() and call.number not in self.guards[bridge.name].taken:
+                self.tells(False, f"{call.who()} at {bridge.name} may be lost, since rooms had gone: {call.words}")
 
     def end_drain(self, bridge):
         """Stops a bridge that is drained. What etcd says of a drain stops none: somebody has to ask this agent."""

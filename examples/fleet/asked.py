@@ -288,4 +288,5 @@ class ForFleet(Handler):
             known = copy.current(READING)
             rooms = {room: record for room, (record, _) in known.rooms.items()}
             told = {"bridges": known.bridges, "draining": known.draining, "agents": [*known.agents]}
-            return told | {"leader": known.leader, "lost": [*agent.lost], "rooms": rooms}
+            told |= {"leader": known.leader, "taken_back": [*agent.taken], "lost": [*agent.lost]}
+            return told | {"rooms": rooms}

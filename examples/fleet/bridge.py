@@ -12,7 +12,7 @@ from kept import ROW, by_room, change_of, commands_of, further, groups_of, whole
 from past import LOOKED_AT, MEMBERS, MOVING, History, Past, Pasts, added_by, lines_of
 from printable import printable
 from refused import Refused
-from seat import Seat
+from seat import Seat, is_end
 
 # After how many seconds a bridge that has told nothing is asked.
 HEARTBEAT = 1
@@ -34,10 +34,6 @@ def firsts():
     return f"{secrets.randbits(15)} {drawn()}"
 
 
-def is_end(line):
-    return line.startswith("end ")
-
-
 class Bridge:
     def __init__(self, name, settings):
         self.name, self.settings, self.lock = name, settings, threading.Lock()
@@ -53,8 +49,8 @@ class Bridge:
         self.doubtful = set()
         # Since when rooms have no member; and whether somebody who may has asked this agent for a drain.
         self.empty, self.may_stop = {}, False
-        # Whether the agent has lost the others, and which rooms have gone elsewhere since.
-        self.is_cut, self.left = False, set()
+        # Up to which version of the desk etcd has each room, and how many rooms have left for other bridges.
+        self.sure, self.left = {}, 0
         # What operators did last, and what tells of that at the first look: it takes the bridge, and answers what etcd
         # has of its rooms.
         self.pasts, self.remembered = Pasts(self.desk), lambda bridge: {}
@@ -68,7 +64,7 @@ class Bridge:
             self.look()
         elif time.monotonic() - self.seen > HEARTBEAT:
             # Its last line says how many calls there were.
-            version = int(self.desk.ask("history 0", is_end)[-1][4:])
+            version = self.desk.version()
             self.seen = time.monotonic()
             if version != self.version:
                 self.look()
@@ -98,12 +94,13 @@ class Bridge:
     def follow(self, rooms, version):
         """Sees which calls of operators have led to these rows."""
         if version < self.version:
-            self.is_anew, self.kept, self.rooms, self.pasts.of = True, {}, {}, {}
+            self.is_anew, self.kept, self.rooms, self.sure, self.pasts.of = True, {}, {}, {}, {}
         if self.remembered:
             self.pasts.of, self.remembered = self.remembered(self), None
         calls = None if version < self.version else self.desk.taken(self.version, version)
         history = None
-        if calls is None or any(call.startswith(MOVING) for _, _, call in calls):
+        if calls is None or self.desk.has_turned or any(call.startswith(MOVING) for _, _, call in calls):
+            self.desk.has_turned = False
             history = History(self.desk.ask(f"history {LOOKED_AT}", is_end), version)
         self.pasts.follow(self.rooms, rooms, calls, history)
 
@@ -193,7 +190,7 @@ class Bridge:
 
     def remove(self, room):
         self.desk.group([f"remove-room {room}"])
-        for one in self.rooms, self.kept, self.empty, self.pasts.of:
+        for one in self.rooms, self.kept, self.sure, self.empty, self.pasts.of:
             one.pop(room, None)
 
     def seconds_empty(self, room):

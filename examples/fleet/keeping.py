@@ -33,6 +33,8 @@ class Keeping:
                 self.misses(bridge, room, record, revision)
             elif record["ready"] != ready or not bridge.is_kept(room):
                 later[room] = record | {"ready": ready}, revision
+            else:
+                bridge.sure[room] = bridge.version
         self.put(bridge, later)
 
     def misses(self, bridge, room, record, revision):
@@ -60,6 +62,7 @@ class Keeping:
         for part in portions(changes):
             done |= self.swapped(part, changes)
         bridge.kept |= {room: one for room, one in kept.items() if room in done}
+        bridge.sure |= dict.fromkeys(kept.keys() & done, bridge.version)
         return done
 
     def swapped(self, rooms, changes):

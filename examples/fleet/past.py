@@ -11,7 +11,7 @@ import re
 
 from fleet_rooms import LEAST
 from kept import CALL, Unmade, commands_of, further, groups_of, parts_of, room_made
-from made import MAKER, TAKING, Cannot, after, is_within, key_of, named_by, order_of
+from made import MAKER, TAKING, WITHIN, Cannot, after, is_within, key_of, named_by, order_of
 
 # How many calls of a room are kept, and how many octets they have. A room with more rows keeps none.
 MOST_CALLS, MOST_CALL_OCTETS, MOST_ROWS = 64, 8192, 8192
@@ -162,6 +162,24 @@ def room_of(call, names):
             names.setdefault((kind, number), room)
         found |= {room, *more}
     return found.pop() if len(found) == 1 else None
+
+
+def rooms_of(call, names):
+    """The rooms that a call of any kind is about: None among them where that isn't known. What it adds is known by its
+    name from then on."""
+    found = set()
+    for part in parts_of(call):
+        word, *given = part.split(" ")
+        if word in ("add-room", "remove-room"):
+            rooms = {int(given[0])}
+        elif word == "move-member":
+            rooms = {names.get(("member", given[0])), names.get(("room", given[1]))}
+        else:
+            rooms = {names.get(one) for one in named_by(part)} if WITHIN.fullmatch(part) else {None}
+        # Of what adds a room, a member, a source or a slot that is one room.
+        names |= {(kind, given[0]): min(rooms) for kind, maker in MAKER.items() if maker == word}
+        found |= rooms
+    return found
 
 
 def added_by(call):

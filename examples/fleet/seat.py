@@ -9,12 +9,30 @@ import threading
 from desk import BUSY, GONE, Desk
 from refused import Refused
 
-# How many octets are taken at once. How many calls are remembered: others', those that wait to be looked at, and the
-# numbers of the agent's own.
-OCTETS, CALLS, FRESH, OWN = 65536, 64, 1024, 16384
+# How many octets are taken at once. How many calls are remembered: those that wait to be looked at, and the numbers of
+# the agent's own. How many are asked for at once: a bridge closes a connection on which over 4 MB wait.
+OCTETS, FRESH, OWN, ASKED = 65536, 1024, 16384, 512
 # The name of its connections. And the one that operators' calls have where an agent makes them again: the page takes
 # them for a person's, so that its Undo takes them back.
 NAME, ELSEWHERE = "agent-fleet", "elsewhere"
+# How a program's name begins.
+PROGRAM = "agent-"
+
+
+class Call(collections.namedtuple("Call", "number operator name words")):
+    """A call of somebody else, as `calls` has it."""
+
+    def is_persons(self):
+        """Whether a person has made it here, and not a program."""
+        return not self.name.startswith(PROGRAM) and self.name != ELSEWHERE
+
+    def who(self):
+        """Its number and who has made it, in words."""
+        return f"call {self.number} of operator {self.operator}{'' if self.name == '-' else f' ({self.name})'}"
+
+
+def is_end(line):
+    return line.startswith("end ")
 
 
 class Seat(Desk):
@@ -22,10 +40,9 @@ class Seat(Desk):
 
     def __init__(self, address):
         self.address, self.lock, self.stream, self.octets, self.is_new = address, threading.Lock(), None, b"", False
-        # The number of the last call that was told, and the last ones that others made: their numbers, operators and
-        # words. All that nobody has looked at yet, and the numbers of those that the agent made itself.
-        self.told, self.others = 0, collections.deque(maxlen=CALLS)
-        self.fresh, self.own = collections.deque(maxlen=FRESH), set()
+        # The number of the last call that was told. All that nobody has looked at yet: their numbers, operators and
+        # words. The numbers of those that the agent made itself; and whether some of these took others' back.
+        self.told, self.fresh, self.own, self.has_turned = 0, collections.deque(maxlen=FRESH), set(), False
         # What wakes who waits for a call.
         self.bell, self.rope = socket.socketpair()
         self.bell.setblocking(False)
@@ -47,8 +64,27 @@ class Seat(Desk):
 
     def ask_again(self, calls):
         """What the bridge answers to calls that operators made elsewhere."""
-        lines = [f"as {ELSEWHERE}", *calls, f"as {NAME}"]
+        return self.ask_as(ELSEWHERE, calls)
+
+    def ask_as(self, name, calls):
+        """What the bridge answers to calls that are given under another name."""
+        lines = [f"as {name}", *calls, f"as {NAME}"]
         return self.ask("\n".join(lines), count=len(lines))[1:-1] if calls else []
+
+    def version(self):
+        """How many calls there were."""
+        return int(self.ask("history 0", is_end)[-1][4:])
+
+    def calls_after(self, version):
+        """What others have called since a version, the last ones of very many; and the version now."""
+        now, asked = self.version(), -1
+        while asked < min(now - version, ASKED):
+            asked = min(now - version, ASKED)
+            *lines, end = self.ask(f"calls {asked}", is_end)
+            now = int(end[4:])
+        found = [line.split(" ", 5) for line in lines]
+        calls = [Call(int(number), int(operator), name, words) for _, number, _, operator, name, words in found]
+        return [one for one in calls if one.number > version and one.number not in self.own], now
 
     def connect(self):
         self.stream, self.octets = socket.create_connection(self.address, 10), b""
@@ -84,14 +120,12 @@ class Seat(Desk):
         return line.decode("ascii", "backslashreplace").strip()
 
     def is_call(self, line):
-        """Whether a line tells of a call."""
+        """Whether a line tells of a call. Those of an answer to `calls` have a further number."""
         word, *more = line.split(" ", 3)
-        if word != "call" or len(more) != 3 or not (more[0] + more[1]).isdigit():
+        if word != "call" or len(more) != 3 or not (more[0] + more[1]).isdigit() or more[2][:1].isdigit():
             return False
         self.told = max(self.told, int(more[0]))
         self.fresh.append((int(more[0]), int(more[1]), more[2]))
-        if int(more[0]) not in self.own:
-            self.others.append(more)
         return True
 
     def taken(self, after, version):

@@ -231,6 +231,12 @@ class Size:
         self.check(good, words, (len(came), came.count(None), over - killed))
         lasts = f"{LEASE * self.slower:.0f} s of this machine"
         print(f"  the lease of {lasts} ended {over - killed:.1f} s after that was killed")
+        if there:
+            gone = max(self.seen.went.get(f"bridges/{name}", 0.0) for name in dead.bridges)
+            given = max(self.seen.given.get(room, 0.0) for room in lost)
+            steps = {"its bridges were gone": gone, "their rooms had others": given, "all were there": max(came)}
+            took = {text: self.clock.at(moment) - self.clock.at(over) for text, moment in steps.items()}
+            print("  of it", ", ".join(f"{seconds:.1f} s until {text}" for text, seconds in took.items()))
         doubled = twice(found)
         self.check(not doubled, f"{text}: no room is on two desks at any moment", doubled[:20])
 

@@ -8,6 +8,7 @@ from checks.bridges import together
 from lab.fleet_call.dispatcher import Dispatched, Sink
 from lab.fleet_call.failing import Failing
 from lab.fleet_call.gateways import Gatewayed
+from lab.fleet_call.guarding import Guarded
 from lab.fleet_call.operated import Operated
 from lab.fleet_call.parts import LEASE, ROOMS, AgentPart, BridgePart, EtcdPart, commands_of, groups_of, until
 from lab.fleet_call.strangers import Strangers
@@ -32,7 +33,7 @@ def without_firsts(rows):
     return told
 
 
-class Fleet(Dispatched, Failing, Gatewayed, Operated, Strangers):
+class Fleet(Dispatched, Failing, Gatewayed, Guarded, Operated, Strangers):
     """A fleet of bridges."""
 
     without_firsts = staticmethod(without_firsts)

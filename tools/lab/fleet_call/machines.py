@@ -99,7 +99,8 @@ class Observer(Copy):
 
     def __init__(self, store):
         super().__init__(store)
-        self.changes, self.went = 0, {}
+        # When keys went, and when a room was last given a bridge to go to.
+        self.changes, self.went, self.given = 0, {}, {}
         self.heard.append(self.hears)
         threading.Thread(target=self.run, daemon=True).start()
 
@@ -109,6 +110,10 @@ class Observer(Copy):
         self.changes += 1
         if key not in self.known.revisions:
             self.went[key] = time.monotonic()
+        elif key.startswith("rooms/"):
+            record, _ = self.known.rooms.get(int(key[6:]), (None, 0))
+            if record and record["to"]:
+                self.given[int(key[6:])] = time.monotonic()
 
     def rooms(self):
         """The record of each room, as far as etcd tells in this moment."""

@@ -115,6 +115,9 @@ class Desk:
         if line.startswith("history "):
             calls = list(self.calls)[-int(line[8:]) :] if line != "history 0" else []
             return "\n".join([*calls, f"end {self.version}"])
+        if line.startswith("calls "):
+            calls = [one.split(" ", 2) for one in list(self.calls)[-int(line[6:]) :]] if line != "calls 0" else []
+            return "\n".join([*(f"call {no} 0 {op} - {call}" for no, op, call in calls), f"end {self.version}"])
         return self.shown() if line == "show" else self.call(line)
 
     async def serve(self, reader, writer):
