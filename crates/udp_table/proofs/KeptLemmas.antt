@@ -49,7 +49,7 @@ pub fed : (before octets : List ℕ) (k : Kept) → HasRead k before
     → HasRead (fold kept_with k octets) (before ++ octets)
 fed before octets k s = rw (fold-append with_octet uncut before octets) (steps octets (cut before) k s)
 
-inode_of : Kept → ℕ
+abbrev inode_of : Kept → ℕ
 inode_of k = k.inode
 
 of_both : (is_end : Bool) (k one other : Kept) → one.inode ≡ k.inode → other.inode ≡ k.inode

@@ -46,7 +46,7 @@ impl TableReader {
     {
         match self.told {
             Some(told) => Some(told),
-            None => line_tells(self.inode, &self.line),
+            None => line_tells(self.inode, self.line.as_slice()),
         }
     }
 
@@ -57,9 +57,8 @@ impl TableReader {
         if octet == b'\n' {
             self.told = self.told();
             self.line.clear();
-        } else {
-            // Octets that there is no room for make a line too long.
-            let _ = self.line.try_push(octet);
+        } else if self.line.len() < KEPT {
+            self.line.push(octet);
         }
     }
 

@@ -1,4 +1,4 @@
-use Rattle.std.proofs.Common.{◌≡◌, ◌∙◌, sym, ap}
+use Rattle.std.proofs.Common.{◌∙◌, sym, ap, get_or}
 use Rattle.std.specs.Prelude.{fold}
 use Rattle.std.proofs.lemmas.List.{take_all}
 use Rattle.std.proofs.lemmas.List.Sums.{fold_more}
@@ -10,7 +10,7 @@ use Rattle.udp_table.proofs.reader.TableReader.feed.Goals as goal
 pub loop-octet-preserved : goal.loop-octet-preserved
 loop-octet-preserved c =
     c.take.ensures
-    ∙ (ap (λ k. kept_with k _) c.loop-octet.invariant
+    ∙ (ap (λ k. kept_with k (get_or c.args.octets.now c.loop-octet.octet-index 0)) c.loop-octet.invariant
     ∙ sym (fold_more kept_with c.args.self.now c.args.octets.now c.loop-octet.octet-index 0 c.loop-octet-test.true))
 
 pub returns-clause-inode : goal.returns-clause-inode
