@@ -217,8 +217,8 @@ pub whole_run : {N P S : Type 0} (answers : P → ℕ → Bool → Type 0) (take
     (who : Asker) (many : ℕ) (start : Desk) (publisher : Book) (log : List EntryOf) (last : NoticeOf)
     (front : FrontOf P S) (ends : List (LaneEnd N S))
     → map (λ (lane : LaneSent). taken_list lane.taken) sent ≡ map (λ (end : LaneEnd N S). taken end.sink) ends
-    → AllByRecursion AskedForAll sent → HaveBegun who many start publisher (lanes_in front.feed) → good start ≡ true → IsLegal start log
-    → Tells start publisher log last
+    → AllByRecursion AskedForAll sent → HaveBegun who many start publisher (lanes_in front.feed)
+    → good start ≡ true → IsLegal start log → Tells start publisher log last
     → (ended : AllEnded answers taken (ports_in front.feed) ends)
     → AllSeen last.lists answers taken (ports_in front.feed) ends ended
     → (reader : ReaderOf) (left : FrontLeft) (has : HasLeft who start publisher front reader left)

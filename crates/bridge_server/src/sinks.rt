@@ -62,7 +62,8 @@ impl LaneWire for LaneSocket {
     }
 }
 
-/// A sink over a wire on which nothing was done, which shows its counts, and hands on what its lane handles, if there is a trace.
+/// A sink over a wire on which nothing was done. It shows its counts, and hands on what its lane handles, if there is a
+/// trace.
 fn sink_of(
     wire: LaneSocket,
     shown: Arc<SharedCounts, Global>,

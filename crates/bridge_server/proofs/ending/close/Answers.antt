@@ -73,5 +73,6 @@ returns-clause-sent g c =
     let ends = c.close-ends.result.items in
     let sent = c.in_ok-sent.sent in
     sent.ok.0 ∙ (sym (length-map sent.items (λ (lane : LaneSent). taken_list lane.taken))
-    ∙ (ap length c.in_ok-sent.ensures.taken ∙ (length-map ends (λ end. end.sink.taken) ∙ (as_many _ (λ s. s.taken) g.H.Setup.who g.H.Setup.lanes g.H.DeskBrand.start
-    g.H.DeskBrand.publisher feed ends c.parts_of-media.ensures.set_up.begun c.close-ends.ensures.ended).1)))
+    ∙ (ap length c.in_ok-sent.ensures.taken ∙ (length-map ends (λ end. end.sink.taken)
+    ∙ (as_many _ (λ s. s.taken) g.H.Setup.who g.H.Setup.lanes g.H.DeskBrand.start g.H.DeskBrand.publisher feed ends
+    c.parts_of-media.ensures.set_up.begun c.close-ends.ensures.ended).1)))

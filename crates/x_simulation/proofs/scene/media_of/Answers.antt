@@ -14,7 +14,7 @@ pub start-requires-send-S : goal.start-requires-send-S
 start-requires-send-S g c κs within =
     let R = copied 1 g.row.R in
     let W = FatedWire.the_row R in
-    param_send 2 _ (arg_send _ yes (WireSink.the_row W) (sink_send W (wire_send R c.type_bounds.send-R)))
+    param_send 2 _ (arg_send _ yes (WireSink.the_row W _) (sink_send W _ (wire_send R c.type_bounds.send-R)))
 
 pub start-requires-clause-publisher : goal.start-requires-clause-publisher
 start-requires-clause-publisher g c κs within k d low =
