@@ -42,6 +42,24 @@ def empty(browser, every):
     return share(browser)[0]
 
 
+def empty_costs(browser):
+    """What an empty page costs its tab in milliseconds of its processor time: its first draw, and a number that it
+    writes, each looked at as those of the page are."""
+    browser.open("about:blank")
+    browser.wait("document.readyState === 'complete'")
+    before = browser.used()
+    browser.open("data:text/html,<!doctype html><title>Empty</title><p id=number>0</p>")
+    browser.wait("document.title === 'Empty' && document.readyState === 'complete'", 60)
+    drawn, times = browser.used() - before, []
+    for at in range(CHANGES):
+        before = browser.used()
+        browser.run(f"document.getElementById('number').textContent = '{at + 1}', true")
+        browser.wait(f"document.getElementById('number').textContent === '{at + 1}'")
+        browser.run("new Promise((done) => requestAnimationFrame(() => setTimeout(done)))")
+        times.append(browser.used() - before)
+    return drawn, statistics.median(times[2:])
+
+
 def first_draw(browser, port):
     """How long the first draw took by the clock and by the tab's processor time, in milliseconds."""
     browser.open("about:blank")
@@ -71,6 +89,7 @@ def costs_little(browser):
     one = standin.Standin()
     standin.fill(one, ROOMS, EACH)
     port = standin.serve(one).server_port
+    empty_drawn, empty_changed = empty_costs(browser)
     first_draw(browser, port)
     clock, drawn = first_draw(browser, port)
     changed = change(browser, one)
@@ -84,8 +103,9 @@ def costs_little(browser):
     speaking, told = share(browser, one)
     second, every = empty(browser, 1000), empty(browser, 250)
     print(
-        f"64 rooms of 16: first draw {clock:.0f} ms by the clock and {drawn:.0f} ms of the tab, a change {changed:.1f} "
-        f"ms of the tab\nidle {idle:.2f} percent of a processor and {octets / 1000:.2f} kB/s, and an empty page that "
+        f"64 rooms of 16: first draw {clock:.0f} ms by the clock and {drawn:.0f} ms of the tab, and an empty page "
+        f"{empty_drawn:.1f} ms: {drawn / max(empty_drawn, 0.1):.0f} times\na change {changed:.1f} ms of the tab, and "
+        f"a number of an empty page {empty_changed:.2f} ms: {changed / max(empty_changed, 0.01):.0f} times\nidle {idle:.2f} percent of a processor and {octets / 1000:.2f} kB/s, and an empty page that "
         f"writes each second {second:.2f} percent: {idle / max(second, 0.01):.1f} times\n{SPEAKERS} speak: "
         f"{speaking:.2f} percent and {told / 1000:.0f} kB/s, and an empty page that writes each quarter of a second "
         f"{every:.2f} percent: {speaking / max(every, 0.01):.1f} times"

@@ -74,6 +74,6 @@ def works_a_shift(browser):
     browser.run("localStorage.removeItem('person'), true")
     check(took <= FOUND, f"the three ill members stand there after {took:.1f} s")
     print(
-        f"an operator finds three ill members of 1,022 in {took:.1f} s, mutes one, takes that back beside two who came, "
-        "and says who did what"
+        f"an operator finds three ill members of 1,022 in {took:.1f} s, mutes one, takes that back beside two who "
+        "came, and says who did what"
     )
