@@ -7,10 +7,11 @@ waiting, and a bridge that comes back is found again. A stream of events tells e
 ten tabs than for one, and drops who doesn't read it. In node, the page's functions choose the lines of clicks as they
 should. In chromium, two browsers go through a call by clicks, forms and a drag: after each step both draw what `show`
 says, and the second one within half a second. Sliders, keys, names, many members at once, a bridge that is gone, a room
-of 64 and 64 rooms of 16 are tried by hand. The browser's accessibility tree has a name for each control. One
-session is an operator's shift. Names are kept in a file, and bad ones are told. With --http-only neither node nor
-chromium is needed, and nothing tries the page's script. With --model no program is needed: the page is served over the
-plain desk of the models, and what a bridge counts is handed to it, too.
+of 64 and 64 rooms of 16 are tried by hand. The browser's accessibility tree has a name for each control. One session is
+an operator's shift. What a member's packets lack on their way to the bridge is told as lost, and shown. Names are kept
+in a file, and bad ones are told. With --http-only neither node nor chromium is needed, and nothing tries the page's
+script. With --model no program is needed: the page is served over the plain desk of the models, and what a bridge
+counts is handed to it, too.
 """
 
 import concurrent.futures
@@ -37,6 +38,7 @@ from checks.driving import drive, opened
 from checks.following import PlainBridge, is_followed
 from checks.handling import handle, names_things, stays_small
 from checks.lasting import finds_another, keeps_the_desk, shows_stale
+from checks.losing import shows_loss, tells_loss
 from checks.make.page import LINES, WEB
 from checks.page_plants import PLANTS
 from checks.persons import tells_persons
@@ -697,8 +699,9 @@ def follows(args, folder):
         program.wait()
 
 
-def tried(args, folder, page, programs, words, names):
-    """Browsers at the page of a bridge that runs. Where the bridge is replaced, it is the last of the programs."""
+def tried(args, folder, page, programs, words, names, udp):
+    """Browsers at the page of a bridge that runs. Where the bridge is replaced, it is the last of the programs, at the
+    same port for media."""
     port = page.bridge
     it = [seated(programs[-1], port)]
 
@@ -722,7 +725,10 @@ def tried(args, folder, page, programs, words, names):
     browse(args, folder, page, it[0])
     clean(ask, lambda: shown(it[0]))
     bridge = Bridge(ask, lambda: shown(it[0]), told, signals(signal.SIGSTOP), signals(signal.SIGCONT), other, names)
-    try_by_hand(args, folder, f"http://127.0.0.1:{page.port}/", bridge)
+    address = f"http://127.0.0.1:{page.port}/"
+    try_by_hand(args, folder, address, bridge)
+    with contextlib.closing(opened(args.browser, folder, address)) as browser:
+        shows_loss(browser, ask, udp)
     it[0].tell("quit")
 
 
@@ -746,6 +752,7 @@ def session(args, folder):
         takes_others(page, operator, version)
         version = knows_its_state(page, operator.ask, version)
         serves_many(page, operator)
+        version += tells_loss(page, operator.ask, udp)
         stands_silence(page, programs[0], version)
         operator.tell("stop")
         programs[0].wait(timeout=ENDS)
@@ -754,7 +761,7 @@ def session(args, folder):
         programs.append(started("confbridge", args.binary, words, args.seconds, folder))
         finds_seats(page, programs[-1], tcp)
         if not args.http_only:
-            tried(args, folder, page, programs, words, names)
+            tried(args, folder, page, programs, words, names, udp)
         check(page.call("add-room 9")[1].startswith("ok "), "the page doesn't find the bridge that came back")
     finally:
         # `rt try` ends the program that it runs once it is asked to end, and leaves it behind where it is killed.
