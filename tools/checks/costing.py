@@ -105,10 +105,11 @@ def costs_little(browser):
     print(
         f"64 rooms of 16: first draw {clock:.0f} ms by the clock and {drawn:.0f} ms of the tab, and an empty page "
         f"{empty_drawn:.1f} ms: {drawn / max(empty_drawn, 0.1):.0f} times\na change {changed:.1f} ms of the tab, and "
-        f"a number of an empty page {empty_changed:.2f} ms: {changed / max(empty_changed, 0.01):.0f} times\nidle {idle:.2f} percent of a processor and {octets / 1000:.2f} kB/s, and an empty page that "
-        f"writes each second {second:.2f} percent: {idle / max(second, 0.01):.1f} times\n{SPEAKERS} speak: "
-        f"{speaking:.2f} percent and {told / 1000:.0f} kB/s, and an empty page that writes each quarter of a second "
-        f"{every:.2f} percent: {speaking / max(every, 0.01):.1f} times"
+        f"a number of an empty page {empty_changed:.2f} ms: {changed / max(empty_changed, 0.01):.0f} times\n"
+        f"idle {idle:.2f} percent of a processor and {octets / 1000:.2f} kB/s, and an empty page that writes each "
+        f"second {second:.2f} percent: {idle / max(second, 0.01):.1f} times\n{SPEAKERS} speak: {speaking:.2f} percent "
+        f"and {told / 1000:.0f} kB/s, and an empty page that writes each quarter of a second {every:.2f} percent: "
+        f"{speaking / max(every, 0.01):.1f} times"
     )
     check(drawn <= MOST["first draw"], f"the first draw takes {drawn:.0f} ms of the tab")
     check(changed <= MOST["change"], f"a change takes {changed:.0f} ms of the tab")

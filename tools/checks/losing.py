@@ -81,7 +81,8 @@ def tells_loss(page, ask, port):
     for (packets, expected, lost), (least, most) in zip(counts, SHARES, strict=True):
         check(packets + lost == expected, f"packets and losses don't add up: {counts}")
         check(least <= lost / expected <= most, f"of {expected} packets {lost} are lost, not {least} to {most} of them")
-    print(f"of the packets of two members the page tells {', '.join(f'{one[2]} of {one[1]}' for one in counts)} as lost")
+    told = ", ".join(f"{lost} of {expected}" for _, expected, lost in counts)
+    print(f"of the packets of two members the page tells {told} as lost")
     return len(calls)
 
 
