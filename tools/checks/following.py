@@ -3,6 +3,7 @@
 The bridge is a plain desk of the models behind a socket that counts its questions."""
 
 import contextlib
+import pathlib
 import socket
 import socketserver
 import threading
@@ -18,8 +19,8 @@ COUNTED = 4
 TABS = 10
 # The longest wait for an event, in seconds.
 LONGEST = 20
-# How often all rows change for a browser that doesn't read.
-TURNS = 24
+# More octets than the send buffer of a socket has (tcp(7), `tcp_wmem`) and the program keeps behind it.
+ENOUGH = int(pathlib.Path("/proc/sys/net/ipv4/tcp_wmem").read_text().split()[2]) + (2 << 20)
 
 
 def check(holds, text):
@@ -245,8 +246,9 @@ def drops_slow(page, bridge):
     standin.fill(one, 64, 16)
     slow, good = Stream(page.port, 4096), Stream(page.port)
     check(slow.head()[0] == good.head()[0] == 200, "a stream is refused")
-    told = 0
-    for turn in range(TURNS):
+    told, turn = 0, 0
+    while told < ENOUGH:
+        turn += 1
         shift = 1_000_000 * (turn % 2)
         with one.lock:
             for kind, key in ("members", "out_audio"), ("sources", "ssrc"), ("slots", "out"):
@@ -254,10 +256,11 @@ def drops_slow(page, bridge):
                     row[key] = row[key] % 1_000_000 + shift
             one.log.version += 1
         told += len(good.next("desk")[0])
-    got = 0
+    got, end = 0, time.monotonic() + LONGEST
     with contextlib.suppress(ConnectionError):
         while more := slow.socket.recv(65536):
             got += len(more)
+            check(time.monotonic() < end, "a browser that didn't read keeps its stream")
     check(got < told, f"a browser that didn't read got {got} octets of {told}")
     slow.close()
     good.close()
