@@ -64,7 +64,8 @@ pub(crate) const HTML_AFTER: &[u8] = br##"">
       <form id="add-person" class="add" aria-label="Add somebody">
         <label>Name <input name="name" autocomplete="off" dir="auto"></label>
         <label>Room <select name="room" aria-label="Room of the newcomer"></select></label>
-        <label class="whole">Address <input name="address" placeholder="127.0.0.1:6000" required></label>
+        <label class="whole">Address <input name="address" aria-label="Address of the newcomer"
+          placeholder="127.0.0.1:6000" required></label>
         <label class="tick"><input name="sees" type="checkbox" checked> Sees a picture</label>
         <button>Add somebody</button></form>
       <form id="add-room" class="add" aria-label="Add a room">
