@@ -1,6 +1,6 @@
 """What signalling asks of an agent, by JSON over HTTP. Any agent answers, and passes on what is another one's.
 
-    GET  /                all bridges and rooms
+    GET  /                all bridges and rooms, and the calls of operators that were taken back or lost
     GET  /where?room=12   its bridge, or the one that it would get now. It is a question: nothing changes. `at` says by
                           its `udp` which one is best for a room without a bridge
     GET  /where?room=12&follow   the same as server-sent events: now, and whenever it changes. Without `room`: those of

@@ -5,6 +5,7 @@ key is still that one: an agent that was late, and is a leader no longer, change
 """
 
 import concurrent.futures
+import itertools
 import threading
 import time
 
@@ -81,10 +82,8 @@ class Leader:
                     ended.append((room, revision))
                 elif room not in known.held and not self.is_settled(record, known) and len(later) < 10 * AT_ONCE:
                     self.plan(room, record, known, later)
-        rooms = list(later)
-        parts = [rooms[first : first + AT_ONCE] for first in range(0, len(rooms), AT_ONCE)]
         # At once: an etcd that is slow would make each of them a wait.
-        list(self.hands.map(lambda some: self.change({room: later[room] for room in some}, only_if), parts))
+        list(self.hands.map(lambda some: self.change({room: later[room] for room in some}, only_if), parts_of(later)))
         for room, revision in ended:
             self.copy.end_room(room, revision)
 
@@ -184,3 +183,19 @@ class Leader:
         if lost and not self.copy.swap([(key, None, revision) for key, revision in lost.items()], None, only_if):
             for key, revision in lost.items():
                 self.copy.swap([(key, None, revision)], None, only_if)
+
+
+def parts_of(later):
+    """The rooms of these changes, in parts of which etcd takes each at once. Those that go to one bridge are together: its
+    agent would wait for etcd between two lots of them."""
+    goes = lambda room: later[room][0]["to"] or ""
+    parts = [[]]
+    for _, some in itertools.groupby(sorted(later, key=goes), goes):
+        rooms = list(some)
+        if len(parts[-1]) + len(rooms) > AT_ONCE:
+            parts.append([])
+        for room in rooms:
+            if len(parts[-1]) == AT_ONCE:
+                parts.append([])
+            parts[-1].append(room)
+    return [one for one in parts if one]
