@@ -38,8 +38,9 @@ NEEDS = "etcd; at its full size ten minutes a case on a machine with little othe
 
 ON_MACHINE, PEOPLE = 5, 4
 # The bounds: of a core, of the floor, of the octets that an agent reads for each change, of seconds from the end of a
-# machine's lease until all its rooms are elsewhere, and of the rooms that are put by each change at the begin.
-CORE, FLOORS, OCTETS, SECONDS, AT_ONCE = 1.0, 40, 1500, 2, 4
+# machine's lease until all its rooms are elsewhere, of the rooms that are put by each change at the begin, and of the
+# lots in which each bridge gets a dead machine's rooms.
+CORE, FLOORS, OCTETS, SECONDS, AT_ONCE, LOTS = 1.0, 40, 1500, 2, 4, 1.5
 # After how many seconds of joins something happens, and for how long an agent is stopped.
 HAPPENS, STOPPED = 10, 20
 # For how many seconds all may take to begin, and to settle; for how many of the machine's is seen what all takes while
@@ -232,13 +233,20 @@ class Size:
         lasts = f"{LEASE * self.slower:.0f} s of this machine"
         print(f"  the lease of {lasts} ended {over - killed:.1f} s after that was killed")
         if there:
-            gone = max(self.seen.went.get(f"bridges/{name}", 0.0) for name in dead.bridges)
-            given = max(self.seen.given.get(room, 0.0) for room in lost)
-            steps = {"its bridges were gone": gone, "their rooms had others": given, "all were there": max(came)}
-            took = {text: self.clock.at(moment) - self.clock.at(over) for text, moment in steps.items()}
-            print("  of it", ", ".join(f"{seconds:.1f} s until {text}" for text, seconds in took.items()))
+            self.judge_steps(text, [self.seen.given[room] for room in lost], dead, over, max(came))
         doubled = twice(found)
         self.check(not doubled, f"{text}: no room is on two desks at any moment", doubled[:20])
+
+    def judge_steps(self, text, given, dead, over, last):
+        """What the time until a dead machine's rooms are elsewhere is made of, and in how many lots bridges got them:
+        an agent waits for etcd between two."""
+        gone = max(self.seen.went.get(f"bridges/{name}", 0.0) for name in dead.bridges)
+        steps = {"its bridges were gone": gone, "their rooms had others": max(given)[0], "all were there": last}
+        took = {text: self.clock.at(moment) - self.clock.at(over) for text, moment in steps.items()}
+        print("  of it", ", ".join(f"{seconds:.1f} s until {text}" for text, seconds in took.items()))
+        lots, bridges = len({(to, revision) for _, to, revision in given}), len({to for _, to, _ in given})
+        good = lots <= LOTS * bridges
+        self.check(good, f"{text}: {bridges} bridges get these rooms in {lots} lots", lots)
 
     def judge_calls(self, text, lost, operating, moment):
         """Whether what operators did in the rooms of the machine that was killed is calls of their own elsewhere."""

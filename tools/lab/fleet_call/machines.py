@@ -99,7 +99,7 @@ class Observer(Copy):
 
     def __init__(self, store):
         super().__init__(store)
-        # When keys went, and when a room was last given a bridge to go to.
+        # When keys went; and when each room was last given a bridge to go to, that bridge, and the change by which.
         self.changes, self.went, self.given = 0, {}, {}
         self.heard.append(self.hears)
         threading.Thread(target=self.run, daemon=True).start()
@@ -111,9 +111,9 @@ class Observer(Copy):
         if key not in self.known.revisions:
             self.went[key] = time.monotonic()
         elif key.startswith("rooms/"):
-            record, _ = self.known.rooms.get(int(key[6:]), (None, 0))
+            record, revision = self.known.rooms.get(int(key[6:]), (None, 0))
             if record and record["to"]:
-                self.given[int(key[6:])] = time.monotonic()
+                self.given[int(key[6:])] = time.monotonic(), record["to"], revision
 
     def rooms(self):
         """The record of each room, as far as etcd tells in this moment."""
