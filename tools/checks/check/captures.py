@@ -26,7 +26,7 @@ from checks.explain import hostile
 from checks.explain.made import BEGIN, BRIDGE, DESK, GAP, ONE, OPERATOR, OTHER, Made
 from checks.explain.mutants import HOSTILE, OPTIONS, metrics_of, said_of, watch_told
 from checks.explain.planted import BEHIND, FAULTS, FOLLOWS, SAID, Call
-from checks.explain.varied import disordered, variations, written, wrong
+from checks.explain.varied import begun_at, disordered, lossy, variations, written, wrong
 from checks.make.captures import made
 from operators.captures.files import frames_of
 from operators.captures.lines import ACK, SYN
@@ -245,11 +245,15 @@ def check_planted():
 
 # Connections of operators
 
-# Rows of each kind, in answers of `show`, `history`, `watch`, `calls`, `help`, `why`, `stats` and `levels`.
+# Rows of each kind, in answers of `show`, `groups`, `history`, `watch`, `calls`, `help`, `why`, `stats` and `levels`.
 ROWS = [
     "room 1", "member 0 10 1 127.0.0.1:6000 pcmu 9001 0 0", "member 1 11 1 127.0.0.1:6002 pcmu 9002 0 0",
     "source 101 10 video", "source 201 10 audio", "source 202 11 audio", "slot 501 11 0 0 0", "sub 501 101", "mute 202",
     "gain 10 202 128", "pin 1 101", "floor 1 10",
+]  # fmt: skip
+GROUPS = [
+    "group add-room 1 8000 / add-member 10 1 127.0.0.1:6000 pcmu 9001 0 0 / add-source 201 10 audio", "group mute 201",
+    "group add-room 2 44100",
 ]  # fmt: skip
 HISTORY = [
     "1 0 add-room 1 8000", "2 0 add-member 10 1 127.0.0.1:6000 pcmu 9001 0 0", "3 1 add-source 201 10 audio",
@@ -328,7 +332,7 @@ def check_asked():
             # The order is that of their moments, and one answer may be that of several lines.
             got = sorted((call.text, call.answer) for call in calls)
             check(got == sorted(wanted), f"lines have the answers {got}")
-            check(len(told.shown) == 3, f"of what is asked the desk is told by {[one.by for one in told.shown]}")
+            check(len(told.shown) == 4, f"of what is asked the desk is told by {[one.by for one in told.shown]}")
     print(f"{len(asked)} lines of an operator have their answers, one by one and at once")
 
 
@@ -388,6 +392,28 @@ def check_lost_lines():
     print("where an operator's lines are lost, nothing false is told")
 
 
+def check_lost_answers():
+    """Where a capture in mid-call lacks an answer, or the first rows of one, these are no other line's."""
+    says = {10: ["show"], 30: ["mute 202"], 50: ["show"], 70: ["unmute 202"], 90: ["show"]}
+    call = Call(says=says)
+    for begin, lacks in (9, b"end 8\n"), (29, b"ok 9\n"), (49, b"end 9\n"), (69, b"ok 10\n"):
+        packets = [one for one in call.packets if one[0] >= BEGIN + begin * GAP and lacks not in one[1][-8:]]
+        found, it = found_in(written(packets))
+        mutes = {one.text.split(" since ")[0] for one in found}
+        check(mutes <= {"202 was muted"} and not it.run.odd, f"from {begin} on, without {lacks}: {found} {it.run.odd}")
+        later = [(one.text, one.answer) for one in it.calls if one.moment > BEGIN + (begin + 18) * GAP and one.answer]
+        wrong_ones = [one for one in later if one not in [("mute 202", "ok 9"), ("unmute 202", "ok 10")]
+                      and not (one[0] == "show" and one[1].startswith("end "))]  # fmt: skip
+        check(not wrong_ones, f"from {begin} on, without {lacks}, lines have the answers {wrong_ones}")
+    # The answer of a `show` in two segments, of which the first one is lost.
+    rows = call.bridge.desk.shown(10)
+    for cut in range(1, len(rows) - 1):
+        said = [(BEGIN + 40 * GAP, octets) for _, octets in talk([(["show"], rows[cut:])], False)]
+        _, it = found_in(written(Call().packets[20:] + said))
+        check(not it.run, f"a desk without {rows[:cut]} is taken for one")
+    print("in mid-call no answer is another line's, and no desk is one that lacks its first rows")
+
+
 def calls_in(packets):
     """The calls of packets, with their answers."""
     return [(call.text, call.answer) for call in calls_of(wire_of(io.BytesIO(written(packets))))[0]]
@@ -415,6 +441,11 @@ def check_desks():
     found, it = found_in(written([one for one in spoken if one[0] >= BEGIN + 50 * GAP]))
     told = [(one.kind, one.about) for one in found]
     check(told == 2 * [("muted", 202)] and not it.run.odd, f"by a history in the capture it is told: {found}")
+    # What is asked by a program that keeps the desk.
+    spoken = Call(says={40: ["mute 202"], 60: ["groups"], 80: ["unmute 202"]}).packets
+    found, it = found_in(written([one for one in spoken if one[0] >= BEGIN + 50 * GAP]))
+    told = [(one.kind, one.about) for one in found]
+    check(told == [("muted", 202)] and not it.run.odd, f"by `groups` in the capture it is told: {found} {it.run.odd}")
     # All calls in the capture, also an undo and a revert.
     says = {20: "mute 202", 30: "undo 9", 40: "mute 202", 45: "mute 101", 50: "revert 12", 60: "calls"}
     says[80] = "unmute 202"
@@ -455,7 +486,8 @@ def check_desks():
     found, it = found_in(written([one for one in last if one[0] >= BEGIN + 30 * GAP]))
     told = [one.text for one in found]
     check(not told and it.begin > BEGIN + 119 * GAP, f"where `show` comes last, it is told: {told}")
-    print("the desk comes from `show`, `history`, `calls`, `keep` and a trace; a `show` stands where its answer ends")
+    ways = "`show`, `groups`, `history`, `calls`, `keep` and a trace"
+    print(f"the desk comes from {ways}; a `show` stands where its answer ends")
 
 
 # Captures that are worse
@@ -470,6 +502,13 @@ def check_varied():
     for one in variations(draw, call.packets, 3, (rows, BEGIN + GAP), others, {"udp": "5004"}):
         found, _ = found_in(one.octets, **one.named)
         check(not found, f"{one.how}, it is told: {[one.text for one in found]}")
+        count += 1
+    # Several at once: what is left of the call is short, and chance takes more of one source than of others.
+    for _ in range(20):
+        begin = BEGIN + draw.randrange(130) * GAP
+        packets = disordered(draw, lossy(draw, begun_at(call.packets, begin)))
+        found, _ = found_in(written(packets))
+        check(not found, f"from {(begin - BEGIN) / 1e9} s on, lossy and out of order, it is told: {found}")
         count += 1
     hours = [(400 * 24 * 3600 * 10**9 if n == 300 else 0) + moment for n, (moment, _) in enumerate(call.packets)]
     found, it = found_in(pcap([(at, octets) for at, (_, octets) in zip(hours, call.packets)], units=10**9))
@@ -622,6 +661,7 @@ def run(_args):
     check_asked()
     check_order()
     check_lost_lines()
+    check_lost_answers()
     check_desks()
     check_varied()
     check_planted()

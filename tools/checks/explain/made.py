@@ -3,6 +3,7 @@
 from checks.camera import asked_numbers
 from checks.captures.writing import tcp_packet, udp_packets
 from operators.captures.lines import ACK, FIN, SYN
+from operators.explain.desks import commands_for
 from operators.models.desk import with_rate
 from operators.models.mix import compressed
 from operators.models.reports import ReportBridge
@@ -74,6 +75,9 @@ class Made:
         """What the bridge answers."""
         if line == "show":
             return self.bridge.desk.shown(self.bridge.version)
+        if line == "groups":
+            commands = commands_for(self.bridge.desk.shown(self.bridge.version)[:-1])
+            return [f"group {' / '.join(commands)}", f"end {self.bridge.version}"]
         if line.startswith("as "):
             self.name = line.removeprefix("as ")
             return [line]

@@ -2,6 +2,7 @@
 
 import collections
 import dataclasses
+import math
 
 from operators.explain.causes import clock_text, lacks_in, moved_in, payload_text, sound_text, unheard_in
 from operators.explain.changes import by_call
@@ -33,6 +34,8 @@ OTHERS = {
 }
 # So many packets of the bridge's own have to be there before those that are missing say what the capture lost.
 ENOUGH = 50
+# The capture may have lost so many packets more than the bridge's own streams show.
+FEW = 2
 
 
 def counted(count, what="packet"):
@@ -65,7 +68,7 @@ class Findings:
         self.sources = list(senders.sources.values())
         # The sources whose address changed, by their SSRCs; and the share of packets that the capture itself lost.
         self.moved = {one.ssrc: one for one in moved_in(self.sources, desks)}
-        self.own = own_share(outgoing)
+        self.own, self.own_most = own_share(outgoing), most_share(outgoing)
 
     def add(self, kind, about, text, *members):
         if kind not in KINDS:
@@ -152,8 +155,9 @@ class Findings:
         """Packets that are missing, beyond what the capture itself lost."""
         lost, expected = source.lost(), source.expected()
         excess = lost - 3 * self.own * expected
-        if excess > MUCH * expected:
+        if excess > MUCH * expected and (self.own_most is None or is_more(lost, self.own_most * expected)):
             own = f", of which the capture itself lost some {100 * self.own:.0f} %" if self.own else ""
+            own = ", or by the capture" if self.own_most is None else own
             self.add(
                 "lost",
                 source.ssrc,
@@ -372,7 +376,7 @@ class Findings:
     def of_load(self):
         """Answers that came late: the bridge or its machine is busy."""
         calls = [call for call in self.explained.calls if self.is_within(call.moment)]
-        late = [call for call in calls if call.until - call.moment > SLOW]
+        late = [call for call in calls if call.is_sure and call.until - call.moment > SLOW]
         if late:
             worst = max(late, key=lambda call: call.until - call.moment)
             took, when = (worst.until - worst.moment) / 1e9, self.seconds(worst.moment)
@@ -392,8 +396,26 @@ class Findings:
         return f"the bridge asked for lost packets {times(nacks)}, and for a picture {times(plis)}"
 
 
-def own_share(outgoing):
-    """The share of packets that the capture itself lost: the numbers of the bridge's own streams have no gap."""
+def own_counts(outgoing):
+    """How many packets the capture itself lost of the bridge's own streams, whose numbers have no gap, and how many it
+    has. None where these are too few."""
     lost, packets = sum(stream.lost for stream in outgoing), sum(stream.packets for stream in outgoing)
-    return lost / (lost + packets) if packets >= ENOUGH and lost < packets else 0
+    return (lost, packets) if packets >= ENOUGH and lost < packets else None
+
+
+def own_share(outgoing):
+    """The share of packets that the capture itself lost, 0 where nobody knows it."""
+    lost, packets = own_counts(outgoing) or (0, 1)
+    return lost / (lost + packets)
+
+
+def most_share(outgoing):
+    """The share that it may have lost at most, as far as its own streams say it, or None."""
+    counts = own_counts(outgoing)
+    return counts and (counts[0] + FEW) / (sum(counts) + FEW)
+
+
+def is_more(count, mean):
+    """Whether a count is more than chance makes of such a mean (3.5 deviations of a Poisson distribution)."""
+    return count > mean + 3.5 * math.sqrt(mean) + 1.5
 

@@ -24,6 +24,11 @@ def is_good(text):
     return len(text) <= LONGEST and fault_of_line(text.encode("latin-1")) is None
 
 
+def is_group(text):
+    """Whether an operator's line is a group."""
+    return text.startswith("group ") and is_good(text)
+
+
 def version_in(text, word):
     """The number behind a word, as in `ok 12`, or None."""
     found = re.fullmatch(word + " ([0-9]{1,20})", text)
@@ -35,7 +40,7 @@ class Call:
     """A line of an operator: when it came, the connection and the seat, its words, the answer and when that left. A
     call that was accepted has its number. `at` is the moment at which it counts. In place of lines that are lost stands
     one that `is_hole`; an accepted call whose line is lost has its number alone. `name` is what the operator said by
-    `as`, if anything."""
+    `as`, if anything. `is_sure` where no answer is lost that could make this one another line's."""
 
     moment: int
     client: str
@@ -47,6 +52,7 @@ class Call:
     at: int = 0
     is_hole: bool = False
     name: str = ""
+    is_sure: bool = False
 
     def who(self):
         """Its operator in words."""
@@ -90,7 +96,17 @@ TOLD = re.compile(r"([0-9]{1,20}) ([0-9]{1,2}) (.+)", re.ASCII)
 NAMED = re.compile(r"([0-9]{1,20}) ([0-9]{3,20}) ([0-9]{1,2}) ([!-~]{1,64}) (.+)", re.ASCII)
 # What a bridge answers in place of some lines. A line of `why` that tells a fault has more words, and one number less.
 INSTEAD = re.compile(r"busy|fault [0-9]{1,10} [0-9]{1,2} \w+|no [0-9]{1,20} [0-9]{1,2} .*", re.ASCII)
-# `calls` of more calls or reverts tells no desk, and all together tell it by so many: to make it again takes long.
+# What it answers to a call.
+TO_CALL = re.compile(rf"ok [0-9]{{1,20}}|{INSTEAD.pattern}", re.ASCII)
+# The kinds of rows, with the place of the word that names a row of a kind, and the places of those that name rows of
+# other kinds.
+REFERS = {
+    "room": (1, {}), "member": (2, {3: "room"}), "source": (1, {2: "member"}), "slot": (1, {2: "member"}),
+    "sub": (1, {1: "slot", 2: "source"}), "mute": (1, {1: "source"}), "gain": (1, {1: "member", 2: "source"}),
+    "pin": (1, {1: "room", 2: "source"}), "floor": (1, {1: "room", 2: "member"}),
+}  # fmt: skip
+# `calls` of more calls or reverts tells no desk. All together, and `groups`, tell it by so many calls and commands: to
+# make it again takes long.
 MOST_CALLS, MOST_REVERTS, MOST_MADE = 5000, 20, 20_000
 
 
@@ -127,6 +143,16 @@ def names_of(lines):
     """The names of the operators of the calls that `calls` tells, by the calls' numbers."""
     found = (NAMED.fullmatch(line.removeprefix("call ")) for line in lines)
     return {int(one[1]): one[4] for one in found if one}
+
+
+def is_whole_desk(rows):
+    """Whether some rows are those of a desk, from the first one on: each row names only what is there."""
+    there, words = {kind: set() for kind in REFERS}, [row.split(" ") for row in rows]
+    for one in words:
+        if one[0] not in REFERS or len(one) <= max(REFERS[one[0]][0], *REFERS[one[0]][1], 0):
+            return False
+        there[one[0]].add(one[REFERS[one[0]][0]])
+    return all(one[at] in there[kind] for one in words for at, kind in REFERS[one[0]][1].items())
 
 
 def is_whole_log(log):
@@ -187,6 +213,7 @@ class Answers:
                 self.told.lost.setdefault(number, line.moment)
             self.unsure = self.unsure and line.moment
             return
+        self.pass_lost(line, line.moment + early)
         if self.waiting[0].is_told_lines() and not INSTEAD.fullmatch(line.text):
             self.take_row(line)
             return
@@ -196,6 +223,25 @@ class Answers:
         refused = re.fullmatch("no ([0-9]{1,20}) .*", line.text, re.ASCII)
         if call.number or refused:
             self.told.versions.append((line.moment, call.number or int(refused[1])))
+
+    def pass_lost(self, line, moment):
+        """Passes lines whose answers a capture that begins in mid-call lacks: those that are answered by lines where one
+        answers a call, and calls where a row comes."""
+        is_number = version_in(line.text, "ok") is not None and not self.rows
+        waiting = [call for call in self.waiting if call.moment <= moment]
+        while len(waiting) > 1 and (
+            is_number and waiting[0].is_told_lines()
+            or waiting[0].is_call() and not TO_CALL.fullmatch(line.text)
+        ):
+            waiting.pop(0)
+        if self.is_answer(waiting[0], line):
+            while self.waiting[0] is not waiting[0]:
+                self.waiting.popleft()
+
+    @staticmethod
+    def is_answer(call, line):
+        """Whether a line may be an answer to another one, or a part of it."""
+        return call.is_told_lines() if not TO_CALL.fullmatch(line.text) else call.is_call()
 
     def pass_holes(self, moment):
         """Passes lost lines, and those behind them whose answers nobody knows, up to a moment."""
@@ -236,12 +282,17 @@ class Answers:
 
     def take_desk(self, call, until, version):
         """Takes a desk that was told in whole."""
-        if call.text == "show" and self.rows is not None:
+        if call.text == "show" and self.rows is not None and is_whole_desk(self.rows):
             self.told.shown.append(Shown(call.moment, until, tuple(self.rows), version))
         if call.text == "history" and self.rows is not None:
             calls = history_of(self.rows)
             if calls:
                 self.told.shown.append(Shown(call.moment, until, (), version, *calls, by="a `history`"))
+        if call.text == "groups" and self.rows is not None and all(map(is_group, self.rows)):
+            self.told.made += sum(1 + row.count(" / ") for row in self.rows)
+            rows = rows_by((0, 0, 0, text) for text in self.rows) if self.told.made <= MOST_MADE else None
+            if rows is not None:
+                self.told.shown.append(Shown(call.moment, until, rows, version, by="`groups`"))
         if call.text.split(" ")[0] == "calls" and self.rows is not None:
             log = log_of(self.rows, version)
             self.told.listed.update({number: (until, *more) for number, *more in log})
@@ -251,6 +302,16 @@ class Answers:
             if rows is not None:
                 made = tuple((seat, text) for _, _, seat, text in log)
                 self.told.shown.append(Shown(call.moment, until, rows, version, by="`calls`", log=made))
+
+
+def take_sure(asked, is_whole):
+    """Says of which lines of a connection the answers are surely theirs: of all where its beginning was captured, else
+    from the first one on that stands well behind the answer of the one before it."""
+    before = None
+    for call in asked:
+        is_behind = is_whole if before is None else before.answer and before.until + EARLY < call.moment
+        call.is_sure = not call.is_hole and bool(is_behind or before and before.is_sure)
+        before = call
 
 
 def take_seats(calls, ends, known):
@@ -320,6 +381,8 @@ def calls_of(wire, more=()):
             # A connection of which the capture has what the bridge says alone.
             answers[line.target] = Answers([], told)
         answers[line.target].take(line)
+    for client, asked in by_client.items():
+        take_sure(asked, client in wire.begun)
     in_order = sorted(calls, key=lambda call: call.moment)
     take_seats(in_order, wire.ends, wire.seats)
     take_names(in_order, wire.ends, wire.names)
