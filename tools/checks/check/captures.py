@@ -160,6 +160,7 @@ def check_bad(packets):
     for name, octets, wanted in [
         ("without a packet", pcap([]), "it has no UDP or TCP over IPv4"),
         ("of another link type alone", pcap(packets, 127), "link type 127 (802.11 with radiotap) isn't read"),
+        ("cut before the ends of headers", pcap(packets, most=40), "capture with `-s 96` or more"),
         ("of nothing", b"", "the capture is empty"),
         ("of something else", b"<html>", "it begins with 3c68746d"),
     ]:
@@ -183,6 +184,20 @@ def check_two(packets):
     for named in {"tcp": "7000"}, {"tcp": "127.0.0.1:7100"}, {"udp": "5104"}:
         said, found, _ = told(both, **named)
         check(found == 0, f"one of two bridges, {named}: {found} media packets differ\n{said}")
+    # An update is tried so: both versions are fed with the same call.
+    others = Made(20, bridge=("127.0.0.1:5104", "127.0.0.1:7100")).packets
+    both = pcap(sorted(packets + others, key=lambda one: one[0]), units=10**9)
+    for named, wanted in (
+        ({"tcp": "7100"}, "Name it by --udp, too"), ({"udp": "5104"}, "Name it by --tcp, too"),
+        ({}, "choose one by --tcp or --udp"),
+    ):  # fmt: skip
+        try:
+            told(both, **named)
+            fail(f"of two bridges with the same members, {named} chooses one")
+        except BadCapture as why:
+            check(wanted in str(why), f"of two bridges with the same members it is told by {named}: {why}")
+    said, found, _ = told(both, udp="5104", tcp="7100")
+    check(found == 0, f"of two bridges with the same members, {found} media packets differ\n{said}")
     page, body = ("127.0.0.1:40500", "127.0.0.1:7080"), "".join(f"{line}\n" for line in [*ROWS, "end 12"])
     asked, said = b"GET /desk.txt HTTP/1.1\r\n\r\n", f"HTTP/1.1 200 OK\r\n\r\n{body}".encode()
     http = [

@@ -9,9 +9,10 @@ answers the script as the models do, and each wrong sender is named. From its mi
 Then it holds calls whose members have planted faults, such as PCMA, a slow clock or a mute, on 1, 4 and 16 lanes. Each
 capture is made worse: begun at ten random places, with 2 percent of its packets lost, out of order by 5 ms, cut short
 by `-s 96`, with a clock that is set by an hour, and beside another bridge. Each planted fault that a capture shows has
-to be told, and nothing else may be. On a machine that is busy the check knows, by its own clock and by what the system
-counts for the bridge's threads, what may be so though nobody planted it. Before all that it does the same with calls of
-the model's, which no machine holds. Where this process may not capture, the rest is skipped.
+to be told, and nothing else may be. What a person finds at the desk, by DEBUGGING's table, has to be in `stats`, `show`
+and `calls`. On a machine that is busy the check knows, by its own clock and by what the system counts for the bridge's
+threads, what may be so though nobody planted it. Before all that it does the same with calls of the model's, which no
+machine holds. Where this process may not capture, the rest is skipped.
 
 While all lanes stand still, and packets come until their rings are full, `stats` is answered within a second.
 """
@@ -323,6 +324,7 @@ def held_in_time(program, args, lanes, names):
     for _ in range(args.tries):
         with tempfile.TemporaryDirectory() as folder:
             held = Held(program, lanes, names, folder)
+        check(not held.lacking, "\n".join(held.lacking))
         if held.is_whole and not held.record.unsure():
             return held.record
         whole += [held.record] if held.is_whole else []

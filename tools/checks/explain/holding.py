@@ -7,6 +7,7 @@ import time
 
 from checks.bridges import accepted
 from checks.captures.recorder import Recorder
+from checks.explain.desk import Desk, lacking
 from checks.explain.judging import SHOWN, Record
 from checks.explain.made import OTHER, STRANGER
 from checks.explain.planted import FAULTS, NEW, SAID, TICKS, whole
@@ -64,7 +65,7 @@ def longest_pause(octets, udp, begin, end):
 
 
 class Held:
-    """A call that was held: its record, and whether the capture has all of it."""
+    """A call that was held: its record, whether the capture has all of it, and what its desk doesn't tell."""
 
     def __init__(self, program, lanes, names, folder):
         self.members = [Member(place, name) for place, name in enumerate(names)]
@@ -81,6 +82,7 @@ class Held:
                 self.hold(("127.0.0.1", udp))
                 ended = time.time_ns()
                 self.settle()
+            self.lacking = list(self.lacking_at_desk())
             self.operator.tell("stop")
             bridge.wait(PATIENCE)
         self.is_whole, octets = recorder.end(), recorder.path.read_bytes()
@@ -96,6 +98,12 @@ class Held:
             lanes = [line for line in self.operator.shown("stats") if line.startswith("lane ")]
             if all(int(line.rpartition(" ")[2]) < FEW for line in lanes):
                 return
+
+    def lacking_at_desk(self):
+        """What the desk doesn't tell of the faults, though it should."""
+        said = [self.operator.shown(word) for word in ("stats", "show", "calls")]
+        for member in self.members:
+            yield from lacking(member.name, Desk(*said, member.others, member.address()))
 
     def setup(self):
         yield from ("add-room 1", f"add-member 10 1 127.0.0.1:{port_of(self.one)} pcmu 9001 0 0")

@@ -91,6 +91,16 @@ def keys(tick):
         yield 2_000_000, *one(tick, payload=event, pt=101, seq=2 * tick - HERE + 1, ts=begun * 160)
 
 
+def noise(tick):
+    """It speaks for half a second and is silent for half a second, in which comfort noise comes twice."""
+    part, count = divmod(tick, 50)
+    seq = part * 27 + (count if count < 25 else 25 + (count >= 40))
+    if count < 25:
+        yield 0, *one(tick, seq=seq)
+    elif count in (25, 40):
+        yield 0, *one(tick, payload=bytes([70]), pt=13, seq=seq)
+
+
 def port(tick):
     yield 0, *one(tick, address=STRANGER)
 
@@ -177,6 +187,7 @@ FAULTS = {
     "PCMA": (pcma, ("type", 202), "SSRC 202 as type 8 (PCMA): 150 packets dropped BadPayload. Set PCMU"),
     "Opus": (opus, ("type", 202), "SSRC 202 as type 111 (Opus): 150 packets dropped BadPayload. Set PCMU"),
     "keys": (keys, ("events", 202), "type 101 (telephone events): 20 packets dropped BadPayload. It presses 4 2"),
+    "comfort noise": (noise, ("events", 202), "type 13 (comfort noise): 6 packets dropped BadPayload. Its phone sends it"),
     "another port": (port, ("address", 202), "SSRC 202 is a source of member 11, who sends from"),
     "another SSRC": (ssrc, ("ssrc", 777), "Member 11 has no such source: `add-source 777 11 audio`"),
     "a stranger": (stranger, ("stranger", 77), "No member has this address, and no source this SSRC"),

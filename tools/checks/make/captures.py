@@ -19,7 +19,7 @@ In each call member 10 sends the sound 201 and the video 101, and Bob, who is me
   two.pcap      another bridge is in it
 
 And one for each further sentence of `explain`, by DEBUGGING's table of them: alone, back, broken, busy, early, fast,
-gain, gap, jump, lost, many, nothing, padding, scattered, seldom, slot, ssrc, stranger.
+gain, gap, jump, lost, many, noise, nothing, padding, scattered, seldom, slot, ssrc, stranger.
 """
 
 import pathlib
@@ -46,7 +46,7 @@ SETUP = [
 ]
 # Captures of planted faults.
 PLANTED = {
-    "opus": "Opus", "keys": "keys", "silence": "silence", "slow": "a slow clock", "half": "half packets",
+    "opus": "Opus", "keys": "keys", "noise": "comfort noise", "silence": "silence", "slow": "a slow clock", "half": "half packets",
     "nat": "another address", "full": "a full receive buffer", "fast": "a fast clock", "seldom": "seldom packets",
     "jump": "numbers that jump", "lost": "loss", "nothing": "nothing", "scattered": "scattered numbers",
     "ssrc": "another SSRC", "stranger": "a stranger",

@@ -11,6 +11,8 @@ SET_PCMU = (
     "Set PCMU at the sender: type 0 (`RTP/AVP 0`) in its SDP, `mulawenc ! rtppcmupay` in GStreamer, `-c:a pcm_mulaw` "
     "in ffmpeg"
 )
+# The type of comfort noise (RFC 3389).
+NOISE = 13
 # Packets hold less or more sound than their spacing where the two differ by such a share.
 UNLIKE = 0.2
 # No clock is by such a share slow or fast, but a sender that gets too little of a processor is.
@@ -95,6 +97,8 @@ def payload_text(source, rate):
     if source.is_events():
         keys = " ".join(keys_of(source.track))
         return f". It presses {keys}: the bridge passes no telephone events on, and the sound itself goes on"
+    if source.pt == NOISE:
+        return ". Its phone sends it while nobody speaks: silence is heard then, and the sound itself goes on"
     if source.pt in RATES:
         wanted = "type 11" if rate == 44100 else "type 0 (PCMU) or 97 (L16)"
         return f". In its room audio has to be {wanted}, whole samples of 200 ms at most"

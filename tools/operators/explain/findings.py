@@ -205,7 +205,7 @@ class Findings:
         """Why packets are dropped and until when, and which kind of fault that is."""
         row = self.desks.sources.get(source.ssrc)
         if outcome == "dropped BadPayload":
-            room, kind = self.desks.members.get(member, {}).get("room"), "events" if source.is_events() else "type"
+            room, kind = self.desks.members.get(member, {}).get("room"), "events" if source.is_beside() else "type"
             return payload_text(source, self.desks.rates.get(room)), kind
         if outcome != "dropped Unknown":
             return "", "fault"

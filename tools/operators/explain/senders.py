@@ -22,6 +22,7 @@ TYPES = {
     97: "L16",
 }
 AUDIO = {0: 8000, 97: 8000, 11: 44100}
+NOISE = 13
 # Sound of over -40 dBFS counts as speech.
 SPEECH = (32768 / 100) ** 2
 
@@ -88,6 +89,10 @@ class Source:
 
     def is_events(self):
         return self.kind == EVENTS
+
+    def is_beside(self):
+        """Whether its packets come beside the sound itself: keys that are pressed, or comfort noise."""
+        return self.is_events() or self.pt == NOISE
 
     def take(self, moment, octets, kept=None):
         """Counts a packet (RFC 3550 sections A.3 and A.8). Of one that the capture cut, `kept` octets are known."""

@@ -7,7 +7,7 @@ import re
 from operators.captures.clock import Clock
 from operators.captures.files import frames_of
 from operators.captures.lines import Connections
-from operators.captures.links import UDP, Packets
+from operators.captures.links import CUT, UDP, Packets
 from operators.captures.notes import BadCapture, Notes
 from operators.explain.desks import streams_of
 from operators.explain.operators import is_good
@@ -26,6 +26,8 @@ HTTP = re.compile(r"[A-Z]{3,7} \S+ HTTP/1\.[01]|HTTP/1\.[01] [0-9]{3}\b.*", re.A
 ROWS, SURE, GROUP = ("mute ", "pin "), 100, "group "
 # The header of RTP, in octets.
 HEADER = 12
+# What helps where packets are cut.
+LONGER = "capture with `-s 96` or more"
 # A capture may have packets out of order by so much, in nanoseconds.
 REORDERED = 10_000_000
 
@@ -253,6 +255,8 @@ class Reading:
     def end(self):
         """Reads what the end of the capture leaves of lines."""
         self.lines += self.connections.end()
+        if not self.frames and CUT in self.notes.found:
+            raise BadCapture(f"packets are cut before the end of their headers; {LONGER}")
         if not self.frames:
             raise BadCapture("it has no UDP or TCP over IPv4" + "".join(f"; {line}" for line in self.notes.lines()))
 
@@ -277,7 +281,7 @@ class Reading:
         wire.answered = [line for line in lines if line.source == wire.tcp]
         moments = [one.moment for one in (*wire.into, *wire.out, *wire.asked, *wire.answered)]
         if not moments:
-            cut = f": {wire.cut:,} packets are cut before the end of their headers; capture with `-s 96` or more"
+            cut = f": {wire.cut:,} packets are cut before the end of their headers; {LONGER}"
             raise BadCapture(f"no datagram and no operator's line of a bridge is in it{cut if wire.cut else ''}")
         wire.begin, wire.end = min(moments), max(moments)
         wire.zero = wire.begin
