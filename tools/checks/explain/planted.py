@@ -187,7 +187,9 @@ FAULTS = {
     "PCMA": (pcma, ("type", 202), "SSRC 202 as type 8 (PCMA): 150 packets dropped BadPayload. Set PCMU"),
     "Opus": (opus, ("type", 202), "SSRC 202 as type 111 (Opus): 150 packets dropped BadPayload. Set PCMU"),
     "keys": (keys, ("events", 202), "type 101 (telephone events): 20 packets dropped BadPayload. It presses 4 2"),
-    "comfort noise": (noise, ("events", 202), "type 13 (comfort noise): 6 packets dropped BadPayload. Its phone sends it"),
+    "comfort noise": (
+        noise, ("events", 202), "type 13 (comfort noise): 6 packets dropped BadPayload. Its phone sends it",
+    ),
     "another port": (port, ("address", 202), "SSRC 202 is a source of member 11, who sends from"),
     "another SSRC": (ssrc, ("ssrc", 777), "Member 11 has no such source: `add-source 777 11 audio`"),
     "a stranger": (stranger, ("stranger", 77), "No member has this address, and no source this SSRC"),

@@ -46,8 +46,9 @@ SETUP = [
 ]
 # Captures of planted faults.
 PLANTED = {
-    "opus": "Opus", "keys": "keys", "noise": "comfort noise", "silence": "silence", "slow": "a slow clock", "half": "half packets",
-    "nat": "another address", "full": "a full receive buffer", "fast": "a fast clock", "seldom": "seldom packets",
+    "opus": "Opus", "keys": "keys", "noise": "comfort noise", "silence": "silence", "slow": "a slow clock",
+    "half": "half packets", "nat": "another address", "full": "a full receive buffer", "fast": "a fast clock",
+    "seldom": "seldom packets",
     "jump": "numbers that jump", "lost": "loss", "nothing": "nothing", "scattered": "scattered numbers",
     "ssrc": "another SSRC", "stranger": "a stranger",
 }  # fmt: skip

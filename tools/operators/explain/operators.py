@@ -225,7 +225,7 @@ class Answers:
             self.told.versions.append((line.moment, call.number or int(refused[1])))
 
     def pass_lost(self, line, moment):
-        """Passes lines whose answers a capture that begins in mid-call lacks: those that are answered by lines where one
+        """Passes lines whose answers a capture in mid-call lacks: those that some lines answer where one comes that
         answers a call, and calls where a row comes."""
         is_number = version_in(line.text, "ok") is not None and not self.rows
         waiting = [call for call in self.waiting if call.moment <= moment]
