@@ -18,7 +18,8 @@ use Rattle.bridge_server.proofs.opening.media_of.Goals as goal
 
 pub start-requires-send-S : goal.start-requires-send-S
 start-requires-send-S g c κs within =
-    let W = LaneSocket.the_row in param_send 2 _ (arg_send _ yes (WireSink.the_row W ghosts) (sink_send W ghosts socket_send))
+    let W = LaneSocket.the_row in
+    param_send 2 _ (arg_send _ yes (WireSink.the_row W ghosts) (sink_send W ghosts socket_send))
 
 pub start-requires-clause-publisher : goal.start-requires-clause-publisher
 start-requires-clause-publisher g c κs within k d low =

@@ -8,7 +8,8 @@ use Rattle.lane_wire.proofs.ended.sent_of.Given as goal
 
 abbrev pub invariant-loop-end : goal.invariant-loop-end
 invariant-loop-end g l = record {
-  taken : map (λ lane. taken_list lane.taken) l.lanes.items ++ map (λ end. end.sink.taken) (into_iter_items l.end-iterator)
+  taken : map (λ lane. taken_list lane.taken) l.lanes.items
+      ++ map (λ end. end.sink.taken) (into_iter_items l.end-iterator)
       ≡ map (λ end. end.sink.taken) l.fn.ends.items;
   asked : AllByRecursion AskedForAll l.lanes.items;
 }

@@ -17,7 +17,8 @@ invariant_of-self g c =
     let old = so_far (steps here.wire) here.counts here.is_stuck in
     let new = so_far (steps trial.new.wire) c.count_answer.new.self c.is_unready-self-inside.result in
     sent_more (taken_list here.taken) (taken_list c.note.new.self) c.args.egress.now (steps here.wire)
-    (steps trial.new.wire) here.counts c.count_answer.new.self here.is_stuck c.is_unready-self-inside.result c.self.invariant
+    (steps trial.new.wire) here.counts c.count_answer.new.self here.is_stuck c.is_unready-self-inside.result
+    c.self.invariant
     (sent_one datagrams trial.result.pauses answer old new c.requires trial.ensures.steps
     (omega (arith, trial.ensures.few, c.patience-most.ensures))
     (λ unready. trial.ensures.limit unready ∙ c.patience-most.ensures)
