@@ -1,5 +1,6 @@
 -- A text from its parts.
 use Rattle.std.proofs.Common.{◌≡◌, ◌∙◌, ℕ, ◌+◌, Bool, true, false, ◌&&◌, List, ◌++◌, take, drop, refl, sym, ap}
+use Rattle.std.proofs.Common.{append_assoc}
 use Rattle.std.specs.Str.{bytes_eq}
 use Rattle.std.proofs.lemmas.List.{take-append-drop, drop-drop}
 use Rattle.std.proofs.lemmas.Slice.Eq.{bytes_eq-Decides}
@@ -10,9 +11,10 @@ in_three : (text : List ℕ) (start count : ℕ)
     → text ≡ take start text ++ take count (drop start text) ++ drop (start + count) text
 in_three text start count =
     sym (take-append-drop start text)
-    ∙ ap (λ rest. take start text ++ rest)
+    ∙ (ap (λ rest. take start text ++ rest)
     (sym (take-append-drop count (drop start text))
     ∙ ap (λ rest. take count (drop start text) ++ rest) (drop-drop count start text))
+    ∙ sym (append_assoc (take start text) (take count (drop start text)) (drop (start + count) text)))
 
 -- where the fronts and the ends are the same, the middle of one text makes it of the other
 edit_yes : (before after : List ℕ) (start removed inserted : ℕ) → take start before ≡ take start after
