@@ -74,6 +74,13 @@ has_person request = is_person (person_of request)
 abbrev pub is_method : Request (List ℕ) → List ℕ → Bool
 is_method request method = bytes_eq (head_of request).method method
 
+-- what is written at a path
+abbrev pub written_at : List ℕ → Option Resource
+written_at path =
+    if bytes_eq path (codes "/call") then Some resources.Call
+    else if bytes_eq path (codes "/names") then Some resources.Names
+    else None
+
 -- what the page has at a path
 abbrev pub resource_at : List ℕ → Option Resource
 resource_at path =
@@ -89,9 +96,7 @@ resource_at path =
     else if bytes_eq path (codes "/stats") then Some (resources.Read Stats Json)
     else if bytes_eq path (codes "/metrics") then Some (resources.Read Stats Metrics)
     else if bytes_eq path (codes "/events") then Some resources.Events
-    else if bytes_eq path (codes "/call") then Some resources.Call
-    else if bytes_eq path (codes "/names") then Some resources.Names
-    else None
+    else written_at path
 
 -- the route of a call with this body
 abbrev pub line_route : List ℕ → Route

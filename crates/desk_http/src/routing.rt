@@ -5,6 +5,7 @@ ghost use Rattle.desk_http.specs.Routes.{
   change_route,
   post_names_route,
   names_route,
+  written_at,
   resource_at,
   line_route,
   call_route,
@@ -81,6 +82,19 @@ pub(crate) enum Resource {
     Names,
 }
 
+/// What is written at a path.
+fn written_at(path: &str) -> Option<Resource>
+    ensures { result ≡ written_at path.now }
+{
+    if path == "/call" {
+        Some(Resource::Call)
+    } else if path == "/names" {
+        Some(Resource::Names)
+    } else {
+        None
+    }
+}
+
 fn resource_at(path: &str) -> Option<Resource>
     ensures { result ≡ resource_at path.now }
 {
@@ -108,12 +122,8 @@ fn resource_at(path: &str) -> Option<Resource>
         Some(Resource::Read(Query::Stats, AnswerForm::Metrics))
     } else if path == "/events" {
         Some(Resource::Events)
-    } else if path == "/call" {
-        Some(Resource::Call)
-    } else if path == "/names" {
-        Some(Resource::Names)
     } else {
-        None
+        written_at(path)
     }
 }
 

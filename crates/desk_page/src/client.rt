@@ -2,51 +2,48 @@
 
 use crate::client_state::ClientState;
 use crate::server_config::ServerConfig;
-use desk_http::{
-    ClientActivity, ClientStage, PendingLine, Query, Responder, Router, keeps_up, stream_head,
-};
+use desk_http::{ClientActivity, ClientStage, PendingLine, Query, Responder, Router};
 use http_server::Connection;
 use mio::net::TcpStream;
 use std::alloc::{AllocError, Global};
-use std::io::{ErrorKind, Read, Write};
-use std::net::Shutdown;
+use std::io::{ErrorKind, Read};
 use std::{io, mem};
 
 /// How many milliseconds a browser has to send its request, or to take the response. One that has the stream of events
 /// has to take some of what is unread in this time.
-const TIMEOUT: u64 = 10_000;
+pub(crate) const TIMEOUT: u64 = 10_000;
 /// How many milliseconds a browser has to close after the response.
-const DRAIN_TIMEOUT: u64 = 1_000;
+pub(crate) const DRAIN_TIMEOUT: u64 = 1_000;
 /// How many octets a request has at most, its head and its body.
 const MAX_REQUEST: usize = 278_529;
 /// How many reads or writes are tried in a row.
-const MAX_TRANSFERS: u32 = 16;
+pub(crate) const MAX_TRANSFERS: u32 = 16;
 
 /// A browser's connection.
 #[derive(Drop)]
 pub(crate) struct Client {
-    stream: TcpStream,
-    connection: Connection,
+    pub(crate) stream: TcpStream,
+    pub(crate) connection: Connection,
     /// All octets of the request.
     request: Vec<u8>,
-    pending: PendingLine,
+    pub(crate) pending: PendingLine,
     /// Who gave the line.
     person: Vec<u8>,
     /// Its line was handed to the bridge and has no reply yet.
     awaits_reply: bool,
     /// What the stream of events has for the browser, and how much of it was sent.
-    events: Vec<u8>,
-    sent: usize,
-    state: ClientState,
+    pub(crate) events: Vec<u8>,
+    pub(crate) sent: usize,
+    pub(crate) state: ClientState,
     /// Connections are numbered in the order in which they were accepted.
     id: usize,
     /// When it was accepted.
     accepted: u64,
     /// When the connection is closed if its state hasn't changed.
-    deadline: u64,
+    pub(crate) deadline: u64,
     /// When octets last came or were sent, or its state began.
-    active: u64,
-    ready: bool,
+    pub(crate) active: u64,
+    pub(crate) ready: bool,
 }
 
 /// Gives octets to a connection. No octets are the end of the stream.
@@ -145,42 +142,6 @@ impl Client {
         self.pending.take_names()
     }
 
-    /// Takes the line if it asks for the stream of events.
-    pub(crate) fn take_events(&mut self) -> Option<Vec<u8>> {
-        self.pending.take_events()
-    }
-
-    /// Whether it has the stream of events.
-    pub(crate) fn is_streaming(&self) -> bool {
-        self.state == ClientState::Streaming
-    }
-
-    /// Begins the stream of events by a first one.
-    pub(crate) fn begin_stream(&mut self, hello: &[u8], now: u64) {
-        self.enter(ClientState::Streaming, now, TIMEOUT);
-        self.publish(stream_head(), now);
-        self.publish(hello, now);
-    }
-
-    /// Gives a stream more events. A browser that doesn't keep up loses its connection, and loads the desk again.
-    pub(crate) fn publish(&mut self, events: &[u8], now: u64) {
-        if self.state != ClientState::Streaming {
-            return;
-        }
-        let unread = self.events.len().saturating_sub(self.sent);
-        if unread == 0 {
-            self.events.clear();
-            self.sent = 0;
-            self.deadline = now.saturating_add(TIMEOUT);
-        }
-        if !keeps_up(unread.saturating_add(events.len()))
-            || self.events.extend_from_slice(events).is_err()
-        {
-            self.state = ClientState::Closed;
-        }
-        self.ready = true;
-    }
-
     /// Takes the queued line, if there is one. It isn't for the bridge any more.
     pub(crate) fn take_line(&mut self) -> Option<Vec<u8>> {
         self.pending.take()
@@ -190,7 +151,8 @@ impl Client {
         self.awaits_reply
     }
 
-    fn enter(&mut self, state: ClientState, now: u64, timeout: u64) {
+    /// Begins a state, which has to change within so many milliseconds.
+    pub(crate) fn enter(&mut self, state: ClientState, now: u64, timeout: u64) {
         self.state = state;
         self.deadline = now.saturating_add(timeout);
         self.active = now;
@@ -295,7 +257,7 @@ impl Client {
     }
 
     /// Writes what the socket takes of what is pending. Returns whether the connection still takes octets.
-    fn write_some(&mut self, now: u64) -> bool {
+    pub(crate) fn write_some(&mut self, now: u64) -> bool {
         for _ in 0..MAX_TRANSFERS {
             if !self.connection.wants_write() {
                 return true;
@@ -313,83 +275,5 @@ impl Client {
             }
         }
         true
-    }
-
-    /// Sends events, and looks whether the browser has closed.
-    fn stream(&mut self, chunk: &mut [u8], now: u64) {
-        self.ready = false;
-        if !self.send_events(now) || !self.is_connected(chunk) {
-            self.state = ClientState::Closed;
-        }
-    }
-
-    /// Writes what the socket takes of the events. Returns whether the connection still takes octets.
-    fn send_events(&mut self, now: u64) -> bool {
-        for _ in 0..MAX_TRANSFERS {
-            let unread = match self.events.get(self.sent..) {
-                Some(unread) if !unread.is_empty() => unread,
-                _ => {
-                    self.deadline = u64::MAX;
-                    return true;
-                }
-            };
-            match self.stream.write(unread) {
-                Ok(count) => {
-                    self.sent = self.sent.saturating_add(count);
-                    self.active = now;
-                    self.deadline = now.saturating_add(TIMEOUT);
-                }
-                Err(error) => match error.kind() {
-                    ErrorKind::WouldBlock => return true,
-                    ErrorKind::Interrupted => {}
-                    _ => return false,
-                },
-            }
-        }
-        self.ready = true;
-        true
-    }
-
-    /// Drops what a browser sends behind its request. Returns whether the browser is still there.
-    fn is_connected(&mut self, chunk: &mut [u8]) -> bool {
-        match self.stream.read(chunk) {
-            Ok(0) => false,
-            Ok(_) => {
-                self.ready = true;
-                true
-            }
-            Err(error) => matches!(error.kind(), ErrorKind::WouldBlock | ErrorKind::Interrupted),
-        }
-    }
-
-    /// Writes the response, and then ends the stream.
-    fn write(&mut self, now: u64) {
-        if !self.write_some(now) {
-            self.state = ClientState::Closed;
-        } else if !self.connection.wants_write() {
-            let _ = self.stream.shutdown(Shutdown::Write);
-            self.enter(ClientState::Draining, now, DRAIN_TIMEOUT);
-        }
-    }
-
-    /// Drops what still comes, until the browser closes: unread octets would reset the connection.
-    fn drain(&mut self, chunk: &mut [u8]) {
-        for _ in 0..MAX_TRANSFERS {
-            match self.stream.read(chunk) {
-                Ok(0) => {
-                    self.state = ClientState::Closed;
-                    return;
-                }
-                Ok(_) => {}
-                Err(error) => {
-                    match error.kind() {
-                        ErrorKind::WouldBlock => self.ready = false,
-                        ErrorKind::Interrupted => {}
-                        _ => self.state = ClientState::Closed,
-                    }
-                    return;
-                }
-            }
-        }
     }
 }

@@ -6,6 +6,8 @@
 
 mod bridge_client;
 mod client;
+mod client_end;
+mod client_events;
 mod client_state;
 mod clients;
 mod follow;
@@ -18,6 +20,7 @@ mod query_timer;
 mod script_lines;
 mod script_view;
 mod server;
+mod server_bridge;
 mod server_config;
 mod setup;
 mod style;

@@ -1,18 +1,18 @@
-//! The event loop: browsers' connections, and the client of the bridge.
+//! The event loop: browsers' connections, their streams of events, and the answers that are kept.
 
 use crate::bridge_client::BridgeClient;
 use crate::clients::Clients;
-use crate::follow::{BridgeState, Follow};
+use crate::follow::Follow;
 use crate::kept::Kept;
 use crate::names_store::NamesStore;
 use crate::page_sockets::{LISTENER, PageSockets};
 use crate::query_timer::{QueryTimer, millis_since};
 use crate::server_config::ServerConfig;
 use crate::setup::{router_at, run_name, server_config};
-use desk_http::{Addresses, BridgeReply, DeskTexts, Query, Router, is_naming, latest_line};
+use desk_http::{Addresses, DeskTexts, Query, Router};
 use mio::net::TcpStream;
 use mio::{Interest, Token};
-use std::alloc::{AllocError, AllocGlobal, Global};
+use std::alloc::{AllocGlobal, Global};
 use std::fs::Files;
 use std::io;
 use std::io::Eprint;
@@ -22,7 +22,8 @@ use std::rt::Runtime;
 use std::sync::Wait;
 use std::time::{Clock, Instant};
 
-const BRIDGE: Token = Token(1);
+/// The token of the bridge's connection.
+pub(crate) const BRIDGE: Token = Token(1);
 /// The token of the first browser's connection.
 const FIRST_CLIENT: usize = 2;
 /// How many connections are accepted in a round at most.
@@ -37,29 +38,29 @@ const CHUNK_SIZE: usize = 16_384;
 /// The page's server.
 #[derive(Drop)]
 pub(crate) struct Server {
-    config: ServerConfig,
-    sockets: PageSockets,
-    bridge_address: SocketAddr,
+    pub(crate) config: ServerConfig,
+    pub(crate) sockets: PageSockets,
+    pub(crate) bridge_address: SocketAddr,
     begun: Instant,
-    router: Router,
-    store: NamesStore,
-    texts: DeskTexts,
+    pub(crate) router: Router,
+    pub(crate) store: NamesStore,
+    pub(crate) texts: DeskTexts,
     /// What this run of the program is called.
-    run_name: Vec<u8>,
-    clients: Clients,
-    bridge: BridgeClient,
-    desk: QueryTimer,
-    history: QueryTimer,
-    calls: QueryTimer,
-    stats: QueryTimer,
+    pub(crate) run_name: Vec<u8>,
+    pub(crate) clients: Clients,
+    pub(crate) bridge: BridgeClient,
+    pub(crate) desk: QueryTimer,
+    pub(crate) history: QueryTimer,
+    pub(crate) calls: QueryTimer,
+    pub(crate) stats: QueryTimer,
     /// What the browsers with the stream of events are told.
-    follow: Follow,
+    pub(crate) follow: Follow,
     /// The answers that are right while nothing changes.
-    kept: Kept,
+    pub(crate) kept: Kept,
     /// How often the bridge was connected to when the desk was looked at.
-    connects: u64,
+    pub(crate) connects: u64,
     /// The buffer of all reads.
-    chunk: Vec<u8>,
+    pub(crate) chunk: Vec<u8>,
 }
 
 impl Server {
@@ -190,7 +191,7 @@ impl Server {
     }
 
     /// Whether a browser has the stream of events.
-    fn is_followed(&self) -> bool {
+    pub(crate) fn is_followed(&self) -> bool {
         self.clients.streams() > 0
     }
 
@@ -206,7 +207,7 @@ impl Server {
     }
 
     /// Notes that the desk, its history and its log may have changed: they are asked for at once.
-    fn note_change(&mut self) {
+    pub(crate) fn note_change(&mut self) {
         self.desk.reset();
         self.history.reset();
         self.calls.reset();
@@ -232,176 +233,5 @@ impl Server {
         if registry.register(&mut stream, token, interest).is_ok() {
             self.clients.accept(self.config, stream, now);
         }
-    }
-
-    /// Finishes the request that has ended, and begins the next one.
-    fn poll_bridge<R: Net>(&mut self, rt: &R, now: u64) -> io::Result<()> {
-        if let Some((line, reply)) = self.bridge.poll(&mut self.chunk, now)? {
-            self.finish_request(line, reply, now)?;
-        }
-        if self.bridge.is_idle() {
-            self.begin_request(rt, now)?;
-        }
-        Ok(())
-    }
-
-    /// The next line for the bridge: the oldest connection's call, or else a query.
-    fn next_line(&mut self, now: u64) -> Result<Option<Vec<u8>>, AllocError> {
-        if let Some(line) = self.clients.next_call() {
-            return Ok(Some(line));
-        }
-        if let Some(line) = self.followed_line(now)? {
-            return Ok(Some(line));
-        }
-        Ok(self.due_query(now))
-    }
-
-    /// The line that follows the desk, if one is due. Who asks the same gets its answer.
-    fn followed_line(&mut self, now: u64) -> Result<Option<Vec<u8>>, AllocError> {
-        if !self.is_followed() {
-            return Ok(None);
-        }
-        match self.follow.due_line(now) {
-            Some(line) => {
-                self.join(line);
-                Ok(Some(Vec::from_slice(self.config.alloc, line)?))
-            }
-            None => Ok(None),
-        }
-    }
-
-    /// Lets those who ask the same as this line have its answer.
-    fn join(&mut self, line: &[u8]) {
-        if line == Query::Desk.line() {
-            drop(self.clients.next_query(Query::Desk));
-        } else if line == Query::Calls.line() {
-            drop(self.clients.next_query(Query::Calls));
-        }
-    }
-
-    fn due_query(&mut self, now: u64) -> Option<Vec<u8>> {
-        if let Some(line) = self.clients.due_query(&mut self.desk, now) {
-            return Some(line);
-        }
-        if let Some(line) = self.clients.due_query(&mut self.history, now) {
-            return Some(line);
-        }
-        if let Some(line) = self.clients.due_query(&mut self.calls, now) {
-            return Some(line);
-        }
-        self.clients.due_query(&mut self.stats, now)
-    }
-
-    /// Gives the connection the name of whom the next call is of, unless it has that name. Returns whether it does.
-    fn begin_naming<R: Net>(&mut self, rt: &R, now: u64) -> io::Result<bool> {
-        let (alloc, address) = (self.config.alloc, self.bridge_address);
-        let registry = self.sockets.poll.registry();
-        match self.clients.next_caller() {
-            Some(name) if !self.bridge.has_name(name) => {
-                self.bridge
-                    .begin_naming(rt, alloc, registry, BRIDGE, address, name, now)?;
-                Ok(true)
-            }
-            Some(_) | None => Ok(false),
-        }
-    }
-
-    fn begin_request<R: Net>(&mut self, rt: &R, now: u64) -> io::Result<()> {
-        if self.begin_naming(rt, now)? {
-            return Ok(());
-        }
-        if let Some(line) = self.next_line(now)? {
-            let registry = self.sockets.poll.registry();
-            let (alloc, address) = (self.config.alloc, self.bridge_address);
-            self.bridge
-                .begin(rt, alloc, registry, BRIDGE, address, line, now)?;
-        }
-        Ok(())
-    }
-
-    fn complete(&mut self, line: &[u8], reply: &BridgeReply, now: u64) {
-        let site = &self.router.site;
-        self.clients.complete(self.config, site, line, reply, now);
-    }
-
-    fn complete_queued(&mut self, reply: &BridgeReply, now: u64) {
-        self.clients
-            .complete_queued(self.config, &self.router.site, reply, now);
-    }
-
-    /// Responds by a reply to those who await it. Where the bridge gave none, those whose lines are queued get a
-    /// response at once, too.
-    fn finish_request(&mut self, line: Vec<u8>, reply: BridgeReply, now: u64) -> io::Result<()> {
-        let mut reply = reply;
-        self.note_bridge(&reply)?;
-        self.note_reply(&line, &mut reply)?;
-        self.complete(&line, &reply, now);
-        match reply {
-            BridgeReply::Text(_) | BridgeReply::Full => self.refuse_unnamed(&line, &reply, now),
-            BridgeReply::Busy => self.complete_queued(&BridgeReply::Busy, now),
-            BridgeReply::Gone | BridgeReply::Lost => self.complete_queued(&BridgeReply::Gone, now),
-        }
-        self.kept.keep(&line, reply);
-        Ok(())
-    }
-
-    /// Notes what a reply says of the bridge. Over a new connection another bridge may answer.
-    fn note_bridge(&mut self, reply: &BridgeReply) -> Result<(), AllocError> {
-        if self.connects != self.bridge.connects {
-            self.connects = self.bridge.connects;
-            self.follow.note_change();
-            self.kept.clear();
-        }
-        self.follow.note_bridge(BridgeState::by(reply))
-    }
-
-    /// Responds to the next call by the answer to a name that the bridge doesn't give: without it the call isn't sent.
-    fn refuse_unnamed(&mut self, line: &[u8], reply: &BridgeReply, now: u64) {
-        if !is_naming(line) || self.bridge.is_named() {
-            return;
-        }
-        if let Some(call) = self.clients.next_call() {
-            self.complete(&call, reply, now);
-        }
-    }
-
-    fn note_desk(&mut self, text: &mut Vec<u8>) -> Result<(), AllocError> {
-        let alloc = self.config.alloc;
-        self.store.names.append_heading(alloc, text)?;
-        let run = str::from_utf8(&self.run_name).unwrap_or("");
-        self.follow.note_desk(alloc, &self.texts, run, text)?;
-        self.texts.note(alloc, text)?;
-        self.texts.append_state(alloc, &self.run_name, text)
-    }
-
-    /// Takes what the bridge answered to a question. Adds the version of the names to the desk, and the state that
-    /// names its text.
-    fn note_text(&mut self, line: &[u8], text: &mut Vec<u8>) -> Result<(), AllocError> {
-        if line == Query::Desk.line() {
-            self.note_desk(text)
-        } else if line == Query::Calls.line() {
-            self.follow.note_log(self.config.alloc, text)
-        } else if line == latest_line() && self.follow.note_newest(self.config.alloc, text)? {
-            self.note_change();
-            Ok(())
-        } else {
-            Ok(())
-        }
-    }
-
-    /// Takes a reply. After a call the desk, the history and the log are asked for at once.
-    fn note_reply(&mut self, line: &[u8], reply: &mut BridgeReply) -> Result<(), AllocError> {
-        if let BridgeReply::Text(text) = reply {
-            self.note_text(line, text)?;
-        }
-        let is_question = line == Query::Desk.line()
-            || line == Query::History.line()
-            || line == Query::Calls.line()
-            || line == Query::Stats.line()
-            || line == latest_line();
-        if !is_question && !is_naming(line) {
-            self.note_change();
-        }
-        Ok(())
     }
 }
