@@ -2,7 +2,7 @@ use Rattle.std.proofs.Common.{◌≡◌, ℕ, Bool, true, false, List, [], ◌�
 use Rattle.std.specs.Prelude.{fold, nat_eq, Option, None, Some, if◌then◌else◌}
 use Rattle.std.proofs.lemmas.List.Sums.{fold-append}
 use Rattle.udp_table.specs.Table.{Cut, with_octet, uncut, cut, longer, or_else, line_tells, first_told}
-use Rattle.udp_table.specs.Kept.{Kept, IsReadOf, HasRead}
+use Rattle.udp_table.specs.Kept.{Kept, IsReadOf, HasBeenFed}
 use Rattle.udp_table.specs.inner.Steps.{kept_with, told_or}
 
 or_none : {A : Type 0} (x : Option A) → x ≡ or_else x None
@@ -45,8 +45,8 @@ steps [] c k s = s
 steps (octet ∷ octets) c k s = steps octets (with_octet c octet) (kept_with k octet) (step c k octet s)
 
 -- what is kept of a text and then of these octets is kept of both
-pub fed : (before octets : List ℕ) (k : Kept) → HasRead k before
-    → HasRead (fold kept_with k octets) (before ++ octets)
+pub fed : (before octets : List ℕ) (k : Kept) → HasBeenFed k before
+    → HasBeenFed (fold kept_with k octets) (before ++ octets)
 fed before octets k s = rw (fold-append with_octet uncut before octets) (steps octets (cut before) k s)
 
 abbrev inode_of : Kept → ℕ

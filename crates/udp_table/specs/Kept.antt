@@ -15,5 +15,5 @@ pub record IsReadOf (c : Cut) (k : Kept) : Type 0 where
   pub rest : k.rest ≡ c.rest
 
 -- kept of this text
-abbrev pub HasRead : Kept → List ℕ → Type 0
-HasRead k text = IsReadOf (cut text) k
+abbrev pub HasBeenFed : Kept → List ℕ → Type 0
+HasBeenFed k text = IsReadOf (cut text) k

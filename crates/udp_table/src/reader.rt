@@ -2,7 +2,7 @@
 
 ghost use Rattle.std.specs.Prelude.{◌≡◌, ◌++◌, ℕ, List, []};
 ghost use Rattle.udp_table.specs.Table.{socket_drops};
-ghost use Rattle.udp_table.specs.Kept.{Kept, HasRead};
+ghost use Rattle.udp_table.specs.Kept.{Kept, HasBeenFed};
 ghost use Rattle.udp_table.specs.inner.Steps.{kept_with, told_or};
 
 use crate::fault::TableFault;
@@ -31,7 +31,7 @@ impl TableReader {
     /// Nothing of the table has come. The socket is the one that has this inode.
     pub fn new(inode: u64) -> Self
         ensures inode { result.inode ≡ inode }
-        ensures empty { HasRead result [] }
+        ensures empty { HasBeenFed result [] }
     {
         Self {
             inode,
@@ -65,7 +65,7 @@ impl TableReader {
     /// Takes the next piece of the table.
     pub fn feed(&mut self, octets: &[u8])
         ensures inode { self.new.inode ≡ self.old.inode }
-        ensures fed { (before : List ℕ) → HasRead self.old before → HasRead self.new (before ++ octets.now) }
+        ensures fed { (before : List ℕ) → HasBeenFed self.old before → HasBeenFed self.new (before ++ octets.now) }
     {
         for octet in octets {
             self.take(*octet);
@@ -75,7 +75,7 @@ impl TableReader {
     /// How many datagrams the system dropped at the socket since it was opened, by the first line that is the socket's
     /// and has ended. The system counts modulo 2^32.
     pub fn drops(&self) -> Result<u64, TableFault>
-        ensures { (text : List ℕ) → HasRead self.now text → result ≡ socket_drops self.now.inode text }
+        ensures { (text : List ℕ) → HasBeenFed self.now text → result ≡ socket_drops self.now.inode text }
     {
         match self.told {
             None => Err(TableFault::NoLine),
