@@ -22,6 +22,8 @@ pub enum Difference {
     Lane(usize),
     /// A lane counted otherwise what it sent, or what was dropped for it.
     Counts(usize),
+    /// The front leaves other lists behind of what it read, was told and tried.
+    Left,
     /// A lane had a fault.
     Fault(usize),
     /// An operator was told something else.

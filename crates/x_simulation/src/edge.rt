@@ -4,6 +4,7 @@ ghost use Rattle.std.specs.Prelude.{◌≡◌, ◌≤◌, length};
 ghost use Rattle.event_loop.specs.Came.{octets_read};
 
 use crate::datagram::Datagram;
+use crate::left::{NOTHING, with_datagram, with_moment};
 use event_loop::{Inlet, Read, ReadLog, TryLog, Watch, WatchLog};
 use rtp_codec::Address;
 use std::alloc::Global;
@@ -17,6 +18,8 @@ pub struct Queue {
     /// Datagrams, and something else for each `None`.
     pub waiting: VecDeque<Option<Datagram>>,
     read: Vec<Datagram>,
+    /// All that was read.
+    pub all: u64,
 }
 
 impl Queue {
@@ -37,6 +40,7 @@ impl Queue {
         let from = datagram.address;
         chunk.clear();
         let _ = chunk.extend_from_slice(&datagram.octets);
+        self.all = with_datagram(self.all, &datagram);
         let _ = self.read.push(datagram);
         Read::Datagram {
             from,
@@ -59,6 +63,7 @@ impl ScriptInlet {
             queue: Queue {
                 waiting: VecDeque::new(alloc),
                 read: Vec::new(alloc),
+                all: NOTHING,
             },
             log: ReadLog::new(),
         }
@@ -87,6 +92,8 @@ pub struct ScriptWire {
     alloc: Global,
     /// What was tried since the script looked last.
     tried: Vec<Datagram>,
+    /// All that was tried.
+    pub all: u64,
     log: TryLog,
 }
 
@@ -96,6 +103,7 @@ impl ScriptWire {
         Self {
             alloc,
             tried: Vec::new(alloc),
+            all: NOTHING,
             log: TryLog::new(),
         }
     }
@@ -107,13 +115,19 @@ impl ScriptWire {
     }
 }
 
-/// Keeps a datagram of two parts. Returns whether it is sent.
-fn keep(alloc: Global, tried: &mut Vec<Datagram>, to: Address, first: &[u8], rest: &[u8]) -> bool {
-    if let Ok(mut octets) = Vec::from_slice(alloc, first) {
-        let _ = octets.extend_from_slice(rest);
-        let _ = tried.push(Datagram::new(to, octets));
+impl ScriptWire {
+    /// Keeps a datagram of two parts. Returns whether it is sent.
+    fn keep(&mut self, to: Address, first: &[u8], rest: &[u8]) -> bool
+        ensures { self.new.log ≡ self.old.log }
+    {
+        if let Ok(mut octets) = Vec::from_slice(self.alloc, first) {
+            let _ = octets.extend_from_slice(rest);
+            let datagram = Datagram::new(to, octets);
+            self.all = with_datagram(self.all, &datagram);
+            let _ = self.tried.push(datagram);
+        }
+        self.tried.len() % 2 == 0
     }
-    tried.len() % 2 == 0
 }
 
 impl Wire for ScriptWire {
@@ -123,13 +137,13 @@ impl Wire for ScriptWire {
     ghost attempts = { λ wire. Some (tried_list wire.log) };
 
     fn send(&mut self, to: Address, octets: &[u8]) -> bool {
-        let sent = keep(self.alloc, &mut self.tried, to, &[], octets);
+        let sent = self.keep(to, &[], octets);
         self.log.note(to, &[], octets, sent);
         sent
     }
 
     fn send_parts(&mut self, to: Address, first: &[u8], rest: &[u8]) -> bool {
-        let sent = keep(self.alloc, &mut self.tried, to, first, rest);
+        let sent = self.keep(to, first, rest);
         self.log.note(to, first, rest, sent);
         sent
     }
@@ -144,6 +158,8 @@ pub struct ScriptWatch {
     look: i64,
     /// The moments that it told since the script looked last.
     told: Vec<u64>,
+    /// All that it told.
+    pub all: u64,
     log: WatchLog,
 }
 
@@ -154,6 +170,7 @@ impl ScriptWatch {
             now: start,
             look: 0,
             told: Vec::new(alloc),
+            all: NOTHING,
             log: WatchLog::new(),
         }
     }
@@ -176,6 +193,7 @@ impl Watch for ScriptWatch {
     fn now(&mut self) -> Result<u64, FrontFault> {
         self.now = self.now.checked_add_signed(self.look).unwrap_or(self.now);
         let now = self.log.tell(self.now);
+        self.all = with_moment(self.all, now);
         let _ = self.told.push(now);
         Ok(now)
     }

@@ -3,6 +3,7 @@
 ghost use Rattle.std.specs.Prelude.{◌≡◌};
 
 use crate::difference::Difference;
+use crate::left::FrontLists;
 use crate::scene::{Scene, ScriptMedia, ScriptRounds};
 use crate::sink::counted;
 use crate::tally::Tally;
@@ -33,24 +34,29 @@ pub fn gathered<'a, H: DeskBrand, R: Wait>(
     }
 }
 
-/// The media of rounds that are over.
-fn media_in<H, R>(rounds: ScriptRounds<H, R>) -> ScriptMedia<H, R>
+/// The media of rounds that are over, and what the front leaves behind.
+fn left_by<H, R>(rounds: ScriptRounds<H, R>) -> (ScriptMedia<H, R>, FrontLists)
 where
     H: DeskBrand + Send + Sync + 'static,
     R: Threads + Clock + Wait + Copy + Send + Drop + 'static,
 {
     let FrontState {
-        inlet: _,
-        wire: _,
-        watch: _,
+        inlet,
+        wire,
+        watch,
         media,
         ticked: _,
         stats: _,
     } = rounds.into_state();
-    media
+    let left = FrontLists {
+        read: inlet.queue.all,
+        told: watch.all,
+        tried: wire.all,
+    };
+    (media, left)
 }
 
-/// Ends the lanes of a bridge whose desk has ended, and compares what they counted.
+/// Ends the lanes of a bridge whose desk has ended, and compares what the bridge leaves behind.
 pub fn ended<H, R>(rt: &R, scene: Scene<H, R>) -> Tally
 where
     H: DeskBrand + Send + Sync + 'static,
@@ -69,7 +75,11 @@ where
         gate.open(rt);
     }
     let mut tally = tally;
-    for end in media_in(rounds).close(rt) {
+    let (media, left) = left_by(rounds);
+    if left != model.left {
+        tally.note(Err(Difference::Left));
+    }
+    for end in media.close(rt) {
         let lane = end.lane as usize;
         if matches!(
             end.refused,
@@ -77,9 +87,14 @@ where
         ) {
             tally.note(Err(Difference::Fault(lane)));
         }
-        let own = model.lanes.get(lane).map(|own| own.datagrams);
-        if own != Some(counted(&end.sink.counts())) {
+        let (Some(own), Some(gate)) = (model.lanes.get(lane), gates.get(lane)) else {
+            continue;
+        };
+        if own.datagrams != counted(&end.sink.counts()) || own.kept < end.handled {
             tally.note(Err(Difference::Counts(lane)));
+        }
+        if own.all != gate.all(rt) {
+            tally.note(Err(Difference::Lane(lane)));
         }
     }
     tally

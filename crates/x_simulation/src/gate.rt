@@ -1,6 +1,7 @@
 //! Where lanes stop.
 
 use crate::datagram::Datagram;
+use crate::left::{NOTHING, with_datagram};
 use std::alloc::Global;
 use std::mem;
 use std::sync::{Condvar, Mutex, MutexGuard, Wait};
@@ -16,6 +17,8 @@ struct Passage {
     allowed: u64,
     /// How many datagrams came here.
     passed: u64,
+    /// All that came here.
+    all: u64,
     /// Those that came since the script looked last.
     tried: Vec<Datagram>,
 }
@@ -33,6 +36,7 @@ impl Passage {
     fn note(&mut self, tried: Option<Datagram>) {
         self.passed = self.passed.saturating_add(1);
         if let Some(datagram) = tried {
+            self.all = with_datagram(self.all, &datagram);
             let _ = self.tried.push(datagram);
         }
     }
@@ -50,6 +54,7 @@ impl Gate {
             passage: Mutex::new(Passage {
                 allowed: 0,
                 passed: 0,
+                all: NOTHING,
                 tried: Vec::new(alloc),
             }),
             changed: Condvar::new(),
@@ -88,6 +93,14 @@ impl Gate {
         let tried = passage.take_tried(alloc);
         MutexGuard::unlock(passage);
         tried
+    }
+
+    /// All that its lane has tried.
+    pub fn all<R: Wait>(&self, rt: &R) -> u64 {
+        let passage = self.passage.lock(rt);
+        let all = passage.all;
+        MutexGuard::unlock(passage);
+        all
     }
 
     /// Lets the lane pass from now on.

@@ -7,6 +7,7 @@ ghost use Rattle.media_items.specs.Inputs.{input_of, is_sized};
 use crate::beat::BEAT;
 use crate::datagram::Datagram;
 use crate::difference::Difference;
+use crate::left::{NOTHING, with_datagram};
 use bridge_core::{Core, Item};
 use media_front::places_left;
 use std::alloc::{AllocError, Global};
@@ -30,10 +31,14 @@ pub struct LaneModel {
     beats: u64,
     /// How many of the others are.
     later_beats: u64,
+    /// How many parcels were kept in the ring.
+    pub kept: u64,
     /// How many parcels were dropped.
     pub dropped: u64,
     /// How many datagrams it gave so far.
     pub datagrams: u64,
+    /// All of these.
+    pub all: u64,
     /// Those that it is to try.
     tried: VecDeque<Datagram>,
 }
@@ -69,8 +74,10 @@ impl LaneModel {
             presses: false,
             beats: 0,
             later_beats: 0,
+            kept: 0,
             dropped: 0,
             datagrams: 0,
+            all: NOTHING,
             tried: VecDeque::new(alloc),
         }
     }
@@ -85,6 +92,7 @@ impl LaneModel {
         self.presses = self.presses || !matches!(item, Item::Audio { .. });
         self.later_beats = self.later_beats.saturating_add(beats_in(&item));
         self.ring.push_back(item)?;
+        self.kept = self.kept.saturating_add(1);
         Ok(())
     }
 
@@ -130,6 +138,7 @@ impl LaneModel {
         for egress in &sent {
             if let Some(datagram) = Datagram::of_egress(alloc, egress)? {
                 self.datagrams = self.datagrams.saturating_add(1);
+                self.all = with_datagram(self.all, &datagram);
                 self.tried.push_back(datagram)?;
             }
         }

@@ -23,7 +23,8 @@
 //! The beat is a picture that all lanes send in every round, so that it is known where each of them is.
 //!
 //! In the end all connections are closed, and each lane sends all. Then the desk ends, and the front has one more
-//! round.
+//! round. What the bridge leaves behind, as the clause `whole` of `Front::run` names it, has to be what the bridge of
+//! one thread leaves: the whole lists of what was read, told, tried and sent.
 //!
 //! The program says how much it played, or which line was the first to differ, and how.
 #![tactic(auto)]
@@ -37,6 +38,7 @@ mod ending;
 mod fate;
 mod gate;
 mod lane_model;
+mod left;
 mod line;
 mod one_thread;
 mod plain_desk;

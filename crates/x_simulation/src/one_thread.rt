@@ -7,6 +7,7 @@ use crate::act::Plan;
 use crate::datagram::Datagram;
 use crate::difference::Difference;
 use crate::lane_model::LaneModel;
+use crate::left::{FrontLists, with_datagram, with_moment};
 use crate::plain_desk::PlainDesk;
 use bridge_core::{Core, Ingress, Item, Settings, WaitAnswer};
 use bytes::Bytes;
@@ -88,6 +89,8 @@ pub struct OneThread {
     reports: ReportTimer,
     /// What the front is to try since the script looked last.
     pub tried: Vec<Datagram>,
+    /// What its front leaves behind.
+    pub left: FrontLists,
 }
 
 impl OneThread {
@@ -118,6 +121,7 @@ impl OneThread {
             ticked: START,
             reports: report_timer(plan),
             tried: Vec::new(alloc),
+            left: FrontLists::new(),
         })
     }
 
@@ -152,7 +156,11 @@ impl OneThread {
     /// What the front is to try since the last call.
     pub fn take_tried(&mut self) -> Vec<Datagram> {
         let none = Vec::new(self.alloc);
-        mem::replace(&mut self.tried, none)
+        let tried = mem::replace(&mut self.tried, none);
+        for datagram in &tried {
+            self.left.tried = with_datagram(self.left.tried, datagram);
+        }
+        tried
     }
 
     /// Gives every lane an item.
@@ -164,22 +172,49 @@ impl OneThread {
         Ok(())
     }
 
-    /// Takes in what was read in a round, and does what is due, at the moments that the watch told in this order: one
-    /// for each datagram, and one for what is due.
-    pub fn round(&mut self, came: &[Datagram], told: &[u64]) -> Result<(), Difference> {
-        let mut moments = told.iter();
-        for datagram in came {
-            let Some(moment) = moments.next() else {
-                return Err(Difference::Round);
-            };
-            self.datagram(datagram, *moment)?;
-        }
-        let Some(now) = moments.next() else {
+    /// The moment at this place of those that the watch told, which is noted.
+    fn look(&mut self, told: &[u64], at: usize) -> Result<u64, Difference> {
+        let Some(moment) = told.get(at) else {
             return Err(Difference::Round);
         };
-        self.take_due(*now)?;
+        self.left.told = with_moment(self.left.told, *moment);
+        Ok(*moment)
+    }
+
+    /// Takes in what was read in a round, and does what is due, at the moments that the watch told in this order: one
+    /// before the front slept, one for each datagram, one for what is due, and one before lanes are woken.
+    pub fn round(&mut self, came: &[Datagram], told: &[u64]) -> Result<(), Difference> {
+        if told.len() != came.len().saturating_add(3) {
+            return Err(Difference::Round);
+        }
+        self.look(told, 0)?;
+        let mut at: usize = 1;
+        for datagram in came {
+            let moment = self.look(told, at)?;
+            at = at.saturating_add(1);
+            self.left.read = with_datagram(self.left.read, datagram);
+            self.datagram(datagram, moment)?;
+        }
+        let now = self.look(told, at)?;
+        self.take_due(now)?;
+        self.look(told, at.saturating_add(1))?;
         for lane in &mut self.lanes {
             lane.wake();
+        }
+        Ok(())
+    }
+
+    /// Passes what was read in a round behind the end of the desk: nothing takes it in. The watch told a moment before
+    /// the front slept, one for the ticks, and one before lanes are woken.
+    pub fn pass(&mut self, came: &[Datagram], told: &[u64]) -> Result<(), Difference> {
+        for datagram in came {
+            self.left.read = with_datagram(self.left.read, datagram);
+        }
+        if told.len() != 3 {
+            return Err(Difference::Round);
+        }
+        for at in 0..3usize {
+            self.look(told, at)?;
         }
         Ok(())
     }

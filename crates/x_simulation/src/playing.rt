@@ -135,7 +135,7 @@ impl<H: DeskBrand, R: Wait + Clock + Drop> Scene<H, R> {
         let came = self.rounds.state.inlet.queue.take_read(place.alloc);
         let told = self.rounds.state.watch.take_told(place.alloc);
         let tried = self.rounds.state.wire.take_tried();
-        self.model.round(&came, told.get(1..).unwrap_or(&[]))?;
+        self.model.round(&came, &told)?;
         self.tally.rounds = self.tally.rounds.saturating_add(1);
         self.tally.packets = self.tally.packets.saturating_add(tried.len() as u64);
         if place.operators.has_seat(place.rt) != (self.model.seats > 0) {
@@ -158,6 +158,8 @@ impl<H: DeskBrand, R: Wait + Clock + Drop> Scene<H, R> {
         self.rounds.end_round(rt, begun, notice)?;
         let tried = self.rounds.state.wire.take_tried();
         let came = self.rounds.state.inlet.queue.take_read(alloc);
+        let told = self.rounds.state.watch.take_told(alloc);
+        self.model.pass(&came, &told)?;
         if tried.is_empty() && !came.is_empty() {
             Ok(())
         } else {
