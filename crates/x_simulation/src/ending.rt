@@ -3,6 +3,7 @@
 ghost use Rattle.std.specs.Prelude.{◌≡◌};
 
 use crate::difference::Difference;
+use crate::lane_model::LaneModel;
 use crate::left::FrontLists;
 use crate::scene::{Scene, ScriptMedia, ScriptRounds};
 use crate::sink::counted;
@@ -56,6 +57,17 @@ where
     (media, left)
 }
 
+/// Compares what a lane leaves behind: all that it tried, how many datagrams these were, and how many items it handled.
+fn compare_lane(lane: usize, own: &LaneModel, tried: u64, left: (u64, u64), tally: &mut Tally) {
+    let (datagrams, handled) = left;
+    if own.datagrams != datagrams || own.kept < handled {
+        tally.note(Err(Difference::Counts(lane)));
+    }
+    if own.all != tried {
+        tally.note(Err(Difference::Lane(lane)));
+    }
+}
+
 /// Ends the lanes of a bridge whose desk has ended, and compares what the bridge leaves behind.
 pub fn ended<H, R>(rt: &R, scene: Scene<H, R>) -> Tally
 where
@@ -87,14 +99,9 @@ where
         ) {
             tally.note(Err(Difference::Fault(lane)));
         }
-        let (Some(own), Some(gate)) = (model.lanes.get(lane), gates.get(lane)) else {
-            continue;
-        };
-        if own.datagrams != counted(&end.sink.counts()) || own.kept < end.handled {
-            tally.note(Err(Difference::Counts(lane)));
-        }
-        if own.all != gate.all(rt) {
-            tally.note(Err(Difference::Lane(lane)));
+        let left = (counted(&end.sink.counts()), end.handled);
+        if let (Some(own), Some(gate)) = (model.lanes.get(lane), gates.get(lane)) {
+            compare_lane(lane, own, gate.all(rt), left, &mut tally);
         }
     }
     tally
