@@ -400,7 +400,8 @@ def check_lost_lines():
     lost = [one for one in call.packets if b"add-source 201 " not in one[1] and b"add-source 202 " not in one[1]]
     found, it = found_in(written(lost))
     words = [text for text, _ in it.run.odd]
-    lacks = "the capture lacks call 4: the desk isn't known from then on, until a `show`, a `history` or `calls`"
+    until = "until a `show`, `groups`, `history` or `calls`"
+    lacks = f"the capture lacks call 4: the desk isn't known from then on, {until}"
     check(words == [lacks], f"of lost lines it is noted: {words}")
     said = {(one.kind, one.about) for one in found}
     check(said == {("muted", 202)}, f"of a capture that lacks an operator's lines it is told: {found}")
@@ -446,7 +447,8 @@ def check_desks():
     trace = ["bridge 1 bridge renew", *made[:9], f"rx {BEGIN + 59 * GAP} 1.2.3.4:5 00", *made[9:]]
     listed = [*call.accepted, "end 10"]
     for name, lines in (
-        ("show", rows), ("history", [*calls, "end 9"]), ("calls", listed), ("keep", kept), ("a trace", trace)
+        ("show", rows), ("history", [*calls, "end 9"]), ("calls", listed), ("keep", kept), ("a trace", trace),
+        ("groups", [kept[1], "end 9"]),
     ):  # fmt: skip
         found, it = found_in(written(rest), given=given_by("\n".join(lines)))
         differ = wrong(found, {("muted", 202)}, {("muted", 202)})

@@ -6,8 +6,9 @@ the bridge and the lines of its operators:
     tcpdump -i any -w call.pcap 'udp port 5004 or tcp port 7000'
 
 From these it makes a script for `confbridge replay`, and answers it by the models in tools/operators/models, which
-answer as the program does. A capture that begins in mid-call needs the desk: a `show`, a `history` or `calls` while it
-was made, or --desk. The status is 1 where a media packet differs from the model's, and 2 where nothing can be read.
+answer as the program does. A capture that begins in mid-call needs the desk: a `show`, `groups`, `history` or `calls`
+while it was made, or --desk. The status is 1 where a media packet differs from the model's, and 2 where nothing can be
+read.
 
 CAPTURE may also be such a script, or the text of a bridge's trace. Then no capture is read, and what the models send
 counts as sent, so that nothing is compared.
@@ -70,8 +71,8 @@ def options(parser):
     parser.add_argument(
         "--desk",
         metavar="FILE",
-        help="the desk when the capture began: the lines of `show`, `history`, `calls`, of `tools/bridge keep`, or a "
-        "trace",
+        help="the desk when the capture began: the lines of `show`, `groups`, `history`, `calls`, of "
+        "`tools/bridge keep`, or a trace",
     )
     parser.add_argument("--program", metavar="PROGRAM", help="compare the models' answers with those of this program")
 

@@ -1,5 +1,5 @@
-"""The desk of a capture that begins in mid-call, as a file gives it: the lines of `show`, `history` or `calls`, a file
-of `tools/bridge keep`, or a trace of the bridge."""
+"""The desk of a capture that begins in mid-call, as a file gives it: the lines of `show`, `groups`, `history` or
+`calls`, a file of `tools/bridge keep`, or a trace of the bridge."""
 
 import dataclasses
 import re
@@ -27,8 +27,8 @@ class Given:
             if found:
                 return found
         raise BadCapture(
-            "the desk's file has neither the lines of `show`, `history` or `calls`, whose last one is `end VERSION`, "
-            "nor those of `tools/bridge keep`, nor of a trace"
+            "the desk's file has neither the lines of `show`, `groups`, `history` or `calls`, whose last one is `end "
+            "VERSION`, nor those of `tools/bridge keep`, nor of a trace"
         )
 
     def up_to_end(self):
@@ -58,14 +58,15 @@ class Given:
         return made_until(moment, calls, "a file") if calls and calls[0][0] == 1 else None
 
     def by_keep(self, moment):
-        groups = [line for line in self.lines if not line.startswith("#")]
+        lines, version = self.up_to_end() or (self.lines, None)
+        groups = [line for line in lines if not line.startswith("#")]
         if not groups or not all(line.startswith("group ") and is_good(line) for line in groups):
             return None
         log = Log()
         if not all(log.call(line.split(" ")).startswith("ok ") for line in groups):
             raise BadCapture("the groups of the desk's file make no desk")
         versions = [int(found[1]) for found in map(KEPT.fullmatch, self.lines) if found]
-        version = versions[0] if versions else None
+        version = versions[0] if versions else version
         return Shown(moment, moment, tuple(log.desk.shown(0)[:-1]), version, by="a file"), ()
 
     def by_trace(self, moment):

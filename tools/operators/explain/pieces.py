@@ -2,8 +2,8 @@
 
 A piece begins with what came in the seconds before it: so what waits in buffers is known by then. Of these seconds
 nothing is told. The desk at their beginning is the one that the piece before came to, with the calls that made it, so
-that they can be undone. Where that isn't known, it takes a `show`, a `history` or `calls`, as at the beginning of a
-capture.
+that they can be undone. Where that isn't known, it takes a `show`, `groups`, `history` or `calls`, as at the beginning
+of a capture.
 """
 
 import itertools

@@ -139,7 +139,8 @@ class Run:
 
     def lose(self, text, moment):
         """The desk isn't known from a moment on, until it is told."""
-        self.odd.append((f"{text}: the desk isn't known from then on, until a `show`, a `history` or `calls`", moment))
+        until = "until a `show`, `groups`, `history` or `calls`"
+        self.odd.append((f"{text}: the desk isn't known from then on, {until}", moment))
         self.lost = moment
 
     def forget(self, since, moment):

@@ -105,7 +105,7 @@ class Telling:
         for line in [*self.wire.notes.lines(self.wire.zero), *self.notes()]:
             yield f"  note: {line}"
         if not self.it.run:
-            yield "  note: the desk isn't known, until a `show`, a `history` or `calls`"
+            yield "  note: the desk isn't known, until a `show`, `groups`, `history` or `calls`"
             return
         for one in self.found():
             yield f"  {one.text}"
