@@ -8,9 +8,9 @@ from checks.package import manual
 from checks.package.commit import changelog
 from operators.shared import ROOT
 
-# The tools that operators use, and what they read or import beside their folder.
+# The tools that operators use, where some of what they import stands, and what they read beside their folder.
 TOOLS = ["calls", "demo", "explain", "keep", "keeper", "member", "restore", "watch"]
-BESIDE = ["examples/fleet/kept.py", "examples/fleet/printable.py", "examples/serve.toml"]
+FLEET, READ = ROOT / "examples/fleet", ROOT / "examples/serve.toml"
 UNITS = ["confbridge", "confbridge-calls", "confbridge-desk", "confbridge-page"]
 SHARE, DOC, MAN = "usr/share/confbridge", "usr/share/doc/confbridge", "usr/share/man/man1"
 IN_CLONE = re.compile(r"^# --- in a clone alone\n.*?^# --- anywhere\n", re.M | re.S)
@@ -43,6 +43,18 @@ def sources():
     return [ROOT / "tools/bridge", *sorted((ROOT / "tools/operators").rglob("*.py"))]
 
 
+def beside():
+    """What these sources import of examples/fleet, also by way of one another, and what they read."""
+    found, due = {READ}, sources()
+    while due:
+        for name in re.findall(r"^(?:from|import) (\w+)", due.pop().read_text(), re.M):
+            path = FLEET / f"{name}.py"
+            if path.is_file() and path not in found:
+                found.add(path)
+                due.append(path)
+    return sorted(found)
+
+
 def as_packaged(source):
     """A source whose tools are called as the package's are."""
     return source.replace("tools/bridge", COMMAND).replace("#!/usr/bin/env python3", "#!/usr/bin/python3")
@@ -52,8 +64,8 @@ def tools():
     for path in sources():
         place = path.relative_to(ROOT)
         yield f"{SHARE}/{place}", text(as_packaged(path.read_text()), place.name == "bridge")
-    for name in BESIDE:
-        yield f"{SHARE}/{name}", File((ROOT / name).read_bytes())
+    for path in beside():
+        yield f"{SHARE}/{path.relative_to(ROOT)}", File(path.read_bytes())
     yield f"usr/bin/{COMMAND}", File(link="../share/confbridge/tools/bridge")
 
 
