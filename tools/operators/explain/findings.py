@@ -17,6 +17,8 @@ MUCH = 0.02
 SLOW = 100_000_000
 # Sound below this level, in dBFS, can hardly be heard.
 QUIET = -55
+# So many packets on probation say that numbers don't follow one another. Of fewer a capture may lack those between.
+SCATTERED = 5
 # Nothing came of a source where its desk was known for so long, in nanoseconds.
 LONG = 1_000_000_000
 # The kinds of sentences. docs/DEBUGGING.md has a row for each, with a capture that shows it.
@@ -141,7 +143,7 @@ class Findings:
             for outcome, count in source.outcomes.items() if outcome in ("accepted", "late", "duplicate", "restarted")
         )
         if not taken:
-            if source.outcomes["probation"]:
+            if source.outcomes["probation"] >= SCATTERED:
                 text = f"{name}: no two of its numbers follow one another, so it stays on probation"
                 self.add("probation", source.ssrc, text, member)
             return
