@@ -711,6 +711,8 @@ function timeOf(moment, now) {
 }
 // Whether a call is another one's: neither this page's, nor by the name that its operator has.
 function isOthers(call, me, mine) { return call !== undefined && !mine.has(call.number) && call.name !== me; }
+// Whether a call makes rooms as a restored desk's first group does: with it all of its members go.
+function makesRooms(call) { return call !== undefined && call.line.startsWith("group add-room "); }
 
 // What the stream of events says. No function touches the page.
 
@@ -1066,9 +1068,9 @@ if (typeof module !== "undefined") {
     movedAll, goesAlong, changedRooms, nameRefusal, parseDesk, isMusic, roomsFor, codecOf, seen, videosFor, heard,
     lines, dropped, free, suggested, inWords, replyInWords, parseHistory, worded, callWords, begun, wayTo, wayWords,
     callInTheWay, changes, keptText, groupsIn, parseStats, agoInWords, isSilent, isLossy, countOf, countInWords,
-    streamInWords, turnedRooms, strangersIn, personWord, personName, callsIn, whoOf, timeOf, isOthers, undoOf, redoOf,
-    newcomer, editedText, isOlderText, withCalls, traced, tracedAll, plotted, figuresOf, levelOf, speechAfter,
-    levelInWords, gainInWords, spanInWords, objectsOfRow, objectsOfLine, othersObjects, placeChanges, inOldPlaces,
-    troubleOf, tallyOf, isCounted, linkOf, linkInWords };
+    streamInWords, turnedRooms, strangersIn, personWord, personName, callsIn, whoOf, timeOf, isOthers, makesRooms,
+    undoOf, redoOf, newcomer, editedText, isOlderText, withCalls, traced, tracedAll, plotted, figuresOf, levelOf,
+    speechAfter, levelInWords, gainInWords, spanInWords, objectsOfRow, objectsOfLine, othersObjects, placeChanges,
+    inOldPlaces, troubleOf, tallyOf, isCounted, linkOf, linkInWords };
 }
 "##;

@@ -658,9 +658,11 @@ function setHere(member) {
 
 // Taking calls back, and doing them again.
 
-// Asks before another one's calls are taken back. A change that comes meanwhile closes the question.
+// Asks before another one's calls, or a restored desk, are taken back. A change that comes meanwhile closes the
+// question.
 async function mayTake(numbers, word) {
-  const others = numbers.map((number) => calls.get(number)).filter((one) => isOthers(one, me, mine));
+  const some = numbers.map((number) => calls.get(number));
+  const others = some.filter((one) => isOthers(one, me, mine) || makesRooms(one));
   if (others.length === 0) return true;
   const [{ number, moment }] = others, whose = [...new Set(others.map(whoOf))].join(", ");
   const many = others.length > 1 ? ` That is the newest of ${others.length}.` : "";

@@ -140,8 +140,8 @@ if (typeof module !== "undefined") {
     movedAll, goesAlong, changedRooms, nameRefusal, parseDesk, isMusic, roomsFor, codecOf, seen, videosFor, heard,
     lines, dropped, free, suggested, inWords, replyInWords, parseHistory, worded, callWords, begun, wayTo, wayWords,
     callInTheWay, changes, keptText, groupsIn, parseStats, agoInWords, isSilent, isLossy, countOf, countInWords,
-    streamInWords, turnedRooms, strangersIn, personWord, personName, callsIn, whoOf, timeOf, isOthers, undoOf, redoOf,
-    newcomer, editedText, isOlderText, withCalls, traced, tracedAll, plotted, figuresOf, levelOf, speechAfter,
-    levelInWords, gainInWords, spanInWords, objectsOfRow, objectsOfLine, othersObjects, placeChanges, inOldPlaces,
-    troubleOf, tallyOf, isCounted, linkOf, linkInWords };
+    streamInWords, turnedRooms, strangersIn, personWord, personName, callsIn, whoOf, timeOf, isOthers, makesRooms,
+    undoOf, redoOf, newcomer, editedText, isOlderText, withCalls, traced, tracedAll, plotted, figuresOf, levelOf,
+    speechAfter, levelInWords, gainInWords, spanInWords, objectsOfRow, objectsOfLine, othersObjects, placeChanges,
+    inOldPlaces, troubleOf, tallyOf, isCounted, linkOf, linkInWords };
 }

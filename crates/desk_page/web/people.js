@@ -51,3 +51,5 @@ function timeOf(moment, now) {
 }
 // Whether a call is another one's: neither this page's, nor by the name that its operator has.
 function isOthers(call, me, mine) { return call !== undefined && !mine.has(call.number) && call.name !== me; }
+// Whether a call makes rooms as a restored desk's first group does: with it all of its members go.
+function makesRooms(call) { return call !== undefined && call.line.startsWith("group add-room "); }

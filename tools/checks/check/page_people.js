@@ -44,6 +44,10 @@ const isOthers = (number, me) => page.isOthers(log.get(number), me, new Set());
 same([isOthers(2, "bob"), isOthers(2, "ann"), isOthers(1, "ann"), isOthers(3, "ann")],
   [true, false, true, false]);
 same(page.isOthers(log.get(2), "bob", new Set([2])), false);
+// A restored desk is asked about, whoever restored it.
+const line = (words) => page.makesRooms({ number: 1, name: "ann", line: words });
+same([line("group add-room 1 8000 / add-member 10 1 127.0.0.1:6000 pcmu 9001 0 0"), line("add-room 1"),
+  line("group mute 201 / mute 202"), page.makesRooms(undefined)], [true, false, false, false]);
 
 // A desk's calls: NAME LINE each. What an undo took back stands before `undone`.
 function undos(...calls) {
