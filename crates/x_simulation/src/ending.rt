@@ -3,6 +3,7 @@
 ghost use Rattle.std.specs.Prelude.{◌≡◌};
 
 use crate::difference::Difference;
+use crate::gate::Gate;
 use crate::lane_model::LaneModel;
 use crate::left::FrontLists;
 use crate::scene::{Scene, ScriptMedia, ScriptRounds};
@@ -13,7 +14,7 @@ use media_workers::HandleFault;
 use operator_desk::DeskBrand;
 use operator_threads::Operators;
 use std::alloc::Global;
-use std::sync::Wait;
+use std::sync::{Arc, Wait};
 use std::thread::Threads;
 use std::time::Clock;
 
@@ -68,6 +69,13 @@ fn compare_lane(lane: usize, own: &LaneModel, tried: u64, left: (u64, u64), tall
     }
 }
 
+/// Lets all lanes pass from now on.
+fn open_all<R: Wait>(rt: &R, gates: &[Arc<Gate, Global>]) {
+    for gate in gates {
+        gate.open(rt);
+    }
+}
+
 /// Ends the lanes of a bridge whose desk has ended, and compares what the bridge leaves behind.
 pub fn ended<H, R>(rt: &R, scene: Scene<H, R>) -> Tally
 where
@@ -83,9 +91,7 @@ where
         beats: _,
         tally,
     } = scene;
-    for gate in &gates {
-        gate.open(rt);
-    }
+    open_all(rt, &gates);
     let mut tally = tally;
     let (media, left) = left_by(rounds);
     if left != model.left {
