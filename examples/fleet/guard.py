@@ -74,11 +74,11 @@ class Guard:
             if version < self.seen:
                 # The bridge was started anew.
                 self.begins_at(0, {})
-            if not self.is_cut or version == self.seen:
+            if not self.is_cut or version == self.seen and self.open.keys() <= self.stuck:
                 return
-            (calls, self.seen), fleet = self.bridge.desk.calls_after(self.seen), self.fleet()
+            (calls, self.seen), fleet, before = self.bridge.desk.calls_after(self.seen), self.fleet(), {*self.open}
             self.open |= {call.number: call for call in calls if self.touches(call, fleet) and call.is_persons()}
-            self.take_back()
+            self.take_back(before)
 
     def touches(self, call, fleet):
         """Whether a call touches the fleet's rooms. Those that came to the desk meanwhile aren't the fleet's."""
@@ -90,21 +90,25 @@ class Guard:
         self.rooms[call.number] = rooms
         return any(room is None or room in fleet for room in rooms)
 
-    def take_back(self):
-        """Takes back what is open, the newest first. What a later call has hindered goes once that is taken back."""
+    def take_back(self, before):
+        """Takes back what is open, the newest first. What a later call has hindered goes once that is taken back. It is
+        told of those that were open at the look before, since a call may have come meanwhile."""
         some = True
         while some:
             some = False
             for number in sorted(self.open, reverse=True):
                 call = self.open[number]
                 refusal = self.refusal_of(call)
-                if refusal is None:
+                if refusal and refusal.endswith(" 23 NotInForce"):
+                    # Somebody else has taken it back.
+                    del self.open[number]
+                elif refusal is None:
                     some = True
                     del self.open[number]
                     self.taken.add(number)
                     words = f"{call.who()} at {self.bridge.name} is taken back, since this room may have moved"
                     self.tells(True, f"{words}: {call.words}")
-                elif number not in self.stuck:
+                elif number in before - self.stuck:
                     self.stuck.add(number)
                     words = f"{call.who()} at {self.bridge.name} can't be taken back ({refusal}), and may be lost"
                     self.tells(False, f"{words}: {call.words}")

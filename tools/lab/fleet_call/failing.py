@@ -181,12 +181,12 @@ class Failing:
         self.leaves_cut_off(page, there)
         way.tell("join")
         self.comes(lambda: CUT not in bridge.desk()[0], "the way is there again: it gives the room up", 60)
-        has = lambda words, *keys: any(words in one for key in keys for one in agent.ask("")[1][key])
-        self.comes(lambda: has(f"mute {ssrc}", "taken_back"), "it says which call was taken back")
+        taken = lambda: self.tells(agent, f"mute {ssrc}", "taken_back")
+        self.comes(taken, "it says which call was taken back")
         # On a machine that is late this one was taken back as well.
         gain = f"set-gain {member} {ssrc} 7"
         text = "and which one is lost, since it came between the cut and the end of the lease"
-        self.comes(lambda: has(gain, "lost", "taken_back"), text)
+        self.comes(lambda: self.tells(agent, gain, "lost", "taken_back"), text)
         page.parts.ask("leave", id=page.id)
         member = next(int(row.split(" ")[2]) for row in self.rows(CUT) if row.startswith("member "))
         self.agents["a"].ask("leave", room=CUT, member=member)

@@ -41,6 +41,7 @@ class Guarded:
         self.comes(lambda: "e is cut off" in agent.log.read_text(), "its way to etcd is cut, and its agent says so", 30)
         self.takes_back(bridge, agent, voice, camera)
         self.takes_several_back(bridge, member, voice)
+        self.is_hindered(bridge, agent, member)
         self.leaves_alone(bridge)
         way.tell("join")
         back = "e is back: 0 of its rooms had gone elsewhere"
@@ -103,6 +104,23 @@ class Guarded:
         bridge.operator.ask("as -")
         self.check(was(), "the room is as it was", self.rows_at(bridge))
 
+    def is_hindered(self, bridge, agent, member):
+        """A call that can't be taken back, since a program's call needs it."""
+        rows, new, said = self.rows_at(bridge), next(self.ports), ["", "", "", ""]
+        for _ in range(20):
+            # At once, or the agent is faster.
+            lines = ["as -", f"add-source {new} {member} audio", "as agent-test", f"mute {new}"]
+            bridge.operator.tell("\n".join(lines))
+            said = [bridge.operator.lines.readline().strip() for _ in said]
+            if said[-1].startswith("ok "):
+                break
+        words = "can't be taken back (no "
+        self.comes(lambda: self.tells(agent, words, "log"), f"a program's call needs an operator's: it `{words}..`")
+        bridge.operator.ask(f"revert {said[-1].removeprefix('ok ')}")
+        bridge.operator.ask("as -")
+        was = lambda: self.rows_at(bridge) == rows
+        self.comes(was, "the program takes its call back: the other one is taken back, too")
+
     def leaves_alone(self, bridge):
         """A room that isn't the fleet's."""
         first, voice = OPENED * 1000 + 1, next(self.ports)
@@ -136,10 +154,17 @@ class Guarded:
         self.check(good, "they are in force", self.rows_at(bridge))
         back = [one for one in calls() if one.startswith(("group ", "add-source ", "set-gain "))]
         self.check(not back, "those that were taken back don't travel", calls())
-        told = agent.ask("")[1]
-        found = [one for one in told["taken_back"] if f"group mute {voice} / pin {ALONE} {camera}" in one]
-        self.check(len(found) == 1, "its agent tells what it has taken back", told["taken_back"])
-        self.check(not told["lost"], "and that nothing is lost", told["lost"])
+        group = f"group mute {voice} / pin {ALONE} {camera}"
+        self.comes(lambda: self.tells(agent, group, "taken_back"), "its agent tells what it has taken back")
+        lost = agent.ask("")[1]["lost"]
+        self.check(len(lost) == 1 and "can't be taken back" in lost[0], "and which call it couldn't take back", lost)
+
+    def tells(self, agent, words, *keys):
+        """Whether an agent has some words in its log, or among the calls that were taken back, or that are lost."""
+        if "log" in keys:
+            return words in agent.log.read_text()
+        status, told = agent.ask("")
+        return status == 200 and any(words in one for key in keys for one in told[key])
 
     def rows_at(self, bridge):
         return bridge.desk()[0].get(ALONE, [])
