@@ -3,6 +3,7 @@
 import atexit
 import contextlib
 import pathlib
+import random
 import re
 import socket
 import subprocess
@@ -42,11 +43,20 @@ def port_of(one):
     return one.getsockname()[1]
 
 
+# Ports that no socket gets which asks for any: on Linux these are from 32768 on. And those that were given here.
+PORTS, GIVEN = range(10_000, 20_000), set()
+
+
 def free_port(kind):
-    """A port that no socket of this kind has."""
-    with socket.socket(socket.AF_INET, kind) as one:
-        one.bind(("127.0.0.1", 0))
-        return port_of(one)
+    """A port that no socket of this kind has. Until its program has begun, no connection of another one takes it."""
+    while True:
+        port = random.choice(PORTS)
+        if port in GIVEN:
+            continue
+        with socket.socket(socket.AF_INET, kind) as one, contextlib.suppress(OSError):
+            one.bind(("127.0.0.1", port))
+            GIVEN.add(port)
+            return port
 
 
 class Answering(threading.Thread):
