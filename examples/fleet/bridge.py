@@ -12,7 +12,7 @@ from kept import ROW, by_room, change_of, commands_of, further, groups_of, whole
 from past import LOOKED_AT, MEMBERS, MOVING, History, Past, Pasts, added_by, lines_of
 from printable import printable
 from refused import Refused
-from seat import Seat, is_end
+from seat import ANSWERS, Seat, is_end
 
 # After how many seconds a bridge that has told nothing is asked.
 HEARTBEAT = 1
@@ -38,7 +38,7 @@ class Bridge:
     def __init__(self, name, settings):
         self.name, self.settings, self.lock = name, settings, threading.Lock()
         host, _, port = settings["tcp"].rpartition(":")
-        self.desk = Seat((host, int(port)))
+        self.desk = Seat((host, int(port)), settings.get("answers", ANSWERS))
         # Whether it answers, None before it was asked. Whether it is another one than the last time.
         self.is_there, self.is_anew = None, False
         # The desk as it was last seen, and when that was; the rows of each room, and those that are kept.

@@ -23,10 +23,12 @@ from bridge import Bridge  # noqa: E402
 from fleet_secret import secret_in  # noqa: E402
 from followers import Followers  # noqa: E402
 from known import BRIDGE  # noqa: E402
+from seat import ANSWERS  # noqa: E402
 from server import Signatures, served  # noqa: E402
 
-# What a bridge's settings may leave out: its gateway's SIP address and page, and how many rooms and members it takes.
-LEFT_OUT = {"sip": "", "page": "", "rooms": 64, "members": 1024}
+# What a bridge's settings may leave out: its gateway's SIP address and page, how many rooms and members it takes, and how
+# many seconds it has for an answer.
+LEFT_OUT = {"sip": "", "page": "", "rooms": 64, "members": 1024, "answers": ANSWERS}
 # What the agent's may leave out: how many rooms one source may have opened, and further names of the agent.
 LEFT_OUT_OF_AGENT = {"rooms_of_source": 8, "hosts": []}
 

@@ -17,6 +17,8 @@ OCTETS, FRESH, OWN, ASKED = 65536, 1024, 16384, 512
 NAME, ELSEWHERE = "agent-fleet", "elsewhere"
 # How a program's name begins.
 PROGRAM = "agent-"
+# How many seconds a bridge has for an answer, where the settings don't say: after that it is taken for one that is gone.
+ANSWERS = 10
 
 
 class Call(collections.namedtuple("Call", "number operator name words")):
@@ -38,7 +40,8 @@ def is_end(line):
 class Seat(Desk):
     """It connects where it has to. Then `is_new` says so, since the bridge may be another one."""
 
-    def __init__(self, address):
+    def __init__(self, address, seconds=ANSWERS):
+        self.seconds = seconds
         self.address, self.lock, self.stream, self.octets, self.is_new = address, threading.Lock(), None, b"", False
         # The number of the last call that was told. All that nobody has looked at yet: their numbers, operators and
         # words. The numbers of those that the agent made itself; and whether some of these took others' back.
@@ -87,7 +90,7 @@ class Seat(Desk):
         return [one for one in calls if one.number > version and one.number not in self.own], now
 
     def connect(self):
-        self.stream, self.octets = socket.create_connection(self.address, 10), b""
+        self.stream, self.octets = socket.create_connection(self.address, self.seconds), b""
         # The page's Undo leaves what a program of such a name did.
         self.asked(f"as {NAME}", lambda said: True, 1)
         self.told, self.is_new = int(self.asked("watch", lambda said: True, 1)[0][4:] or 0), True

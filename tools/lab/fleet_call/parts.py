@@ -34,6 +34,8 @@ SEATS = 3
 ROOMS, MEMBERS, LEASE, ROOMS_OF_SOURCE = 20, 256, 3, 4
 # The secret of the fleet, and the name and the password by which etcd knows agents.
 SECRET, USER = b"the secret of a fleet that is tried", ("fleet", "a password that nobody has drawn")
+# How many seconds a bridge has for an answer: on a machine that has no time for it, it isn't gone.
+ANSWERS = 300
 # How many seconds a look takes at most, where a machine has time for it.
 LOOK = 0.1
 # Where browsers are told to join the rooms of a bridge.
@@ -132,7 +134,7 @@ class AgentPart:
             f'[etcd]\nservers = ["{etcd_url or etcd.url}"]\nuser = "{USER[0]}"\npassword = "{etcd.password}"\n'
             f'[bridges.{bridge.name}]\nudp = "{udp or f"127.0.0.1:{bridge.udp}"}"\n'
             f'tcp = "127.0.0.1:{bridge.tcp}"\nsip = "{sip}"\npage = "{PAGES}/{bridge.name}"\nrooms = {ROOMS}\n'
-            f"members = {MEMBERS}\n"
+            f"members = {MEMBERS}\nanswers = {ANSWERS}\n"
         )
         # How it is started, if not as any program.
         self.starts = start or begun
