@@ -204,6 +204,10 @@ class Failing:
         self.gateways = {"d": self.begun(Gateway(self.folder, bridge, engine, agent, 1_000_200_000, bridge_ip=NOWHERE))}
         there = self.begun(Gateway(self.folder, self.bridges["c"], engine, self.agents["c"], 1_000_300_000))
         page = Page(self.gateways["d"], "cut", next(self.ports), CUT)
+        while page.said[0] == 421:
+            # Its agent was late on a busy machine, and the leader doesn't reach its bridge: the room has gone.
+            self.goes_to(CUT, "d")
+            page = Page(self.gateways["d"], "cut", next(self.ports), CUT)
         self.check(page.said[0] == 200, "a browser joins at its gateway", page.said)
         for name in HELD:
             self.agents["a"].ask("drain", bridge=name)

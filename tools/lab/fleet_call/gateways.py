@@ -77,10 +77,8 @@ class Gatewayed:
             for name, first in (("a", 1_000_200_000), ("b", 1_000_000_000), ("c", 1_000_100_000))
         }
         b, c = self.gateways["b"], self.gateways["c"]
-        self.opened(HERE, "b")
-        self.opened(THERE, "c")
-        # Signalling's own member stays in the room, whatever becomes of calls.
-        own = self.join("a", HERE)[1]["member"]
+        # Signalling's own members stay in the rooms, whatever becomes of calls.
+        own, other = self.held(HERE, "b"), self.held(THERE, "c")
         self.page, ids = Page(b, "moved", SSRC, HERE), [c.joined(THERE, SSRC + 1)]
         said = self.page.said, ids[0][1]
         self.check([one[0] for one in said] == [200, 200], "browsers join at the gateways of two bridges", said)
@@ -96,7 +94,8 @@ class Gatewayed:
         self.page.parts.ask("leave", id=self.page.id)
         text = "no call leaves a row behind, once all who may come again had their time"
         self.comes(lambda: self.members(HERE) == [own], text, AWAY + 20)
-        self.agents["a"].ask("leave", room=HERE, member=own)
+        for room, one in (HERE, own), (THERE, other):
+            self.agents["a"].ask("leave", room=room, member=one)
         c.ask("leave", id=ids[0][0])
         gone = lambda: not {HERE, THERE} & (self.places().keys() | self.records().keys())
         self.comes(gone, "rooms and their records go with the last call or member that leaves")
@@ -157,8 +156,7 @@ class Gatewayed:
     def ends_below(self, gateway):
         """The bridge of a browser's call ends. Another member stays in the room, wherever that goes."""
         port = next(self.ports)
-        self.opened(FALLEN, "b")
-        member = self.join("a", FALLEN, voice=port)[1]["member"]
+        member = self.held(FALLEN, "b", voice=port)
         page = Page(gateway, "fallen", SSRC + 4, FALLEN)
         self.check(page.said[0] == 200, "a browser joins at a bridge that is killed then", page.said)
         if page.said[0] != 200:
@@ -175,11 +173,12 @@ class Gatewayed:
         self.comes(lambda: self.agents["a"].knows() == 3, "the bridge is started anew")
         self.agents["a"].ask("leave", room=FALLEN, member=member)
 
-    def opened(self, room, name):
-        """Opens a room on a bridge. It ends before long if nobody joins."""
-        self.agents["a"].ask("join", room=room)
-        self.comes(lambda: self.places().get(room), f"room {room} is opened")
+    def held(self, room, name, **more):
+        """A member in a room on a bridge. A room without one would end while a machine that is late goes on."""
+        said = self.join("a", room, **more)
+        self.check(said[0] == 200, f"room {room} is opened", said)
         self.goes(room, name, f"it goes to {name}")
+        return said[1]["member"]
 
     def goes(self, room, name, text):
         """Moves a room to a bridge. An agent that keeps the room's rows in this moment is faster than a move."""
