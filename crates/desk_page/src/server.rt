@@ -8,7 +8,7 @@ use crate::names_store::NamesStore;
 use crate::page_sockets::{LISTENER, PageSockets};
 use crate::query_timer::{QueryTimer, millis_since};
 use crate::server_config::ServerConfig;
-use crate::setup::{router_at, run_name, server_config};
+use crate::setup::{router_at, run_name, run_text, server_config};
 use desk_http::{Addresses, DeskTexts, Query, Router};
 use mio::net::TcpStream;
 use mio::{Interest, Token};
@@ -161,7 +161,7 @@ impl Server {
     fn serve_events(&mut self, now: u64) -> io::Result<()> {
         let first = self.follow.hello(
             self.config.alloc,
-            str::from_utf8(&self.run_name).unwrap_or(""),
+            run_text(&self.run_name),
             self.texts.number,
         )?;
         self.clients

@@ -2,6 +2,7 @@
 
 use crate::follow::BridgeState;
 use crate::server::{BRIDGE, Server};
+use crate::setup::run_text;
 use desk_http::{BridgeReply, Query, is_naming, latest_line};
 use std::alloc::AllocError;
 use std::io;
@@ -142,7 +143,7 @@ impl Server {
     fn note_desk(&mut self, text: &mut Vec<u8>) -> Result<(), AllocError> {
         let alloc = self.config.alloc;
         self.store.names.append_heading(alloc, text)?;
-        let run = str::from_utf8(&self.run_name).unwrap_or("");
+        let run = run_text(&self.run_name);
         self.follow.note_desk(alloc, &self.texts, run, text)?;
         self.texts.note(alloc, text)?;
         self.texts.append_state(alloc, &self.run_name, text)

@@ -29,6 +29,14 @@ pub(crate) fn run_name<R: RandomSource>(rt: &R, alloc: Global) -> io::Result<Vec
     random_digits(rt, alloc)
 }
 
+/// That name as text.
+pub(crate) fn run_text(name: &[u8]) -> &str {
+    match str::from_utf8(name) {
+        Ok(text) => text,
+        Err(_) => "",
+    }
+}
+
 fn assets() -> Assets {
     Assets {
         html_before: HTML_BEFORE,
