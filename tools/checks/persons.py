@@ -57,6 +57,7 @@ def names_persons(one, two, desk):
 
 def asks_first(one, two, desk):
     """An own change is taken back at once, and another one's after a question, which a newer change closes."""
+    two.run("new Promise((done) => setTimeout(done, 400))")
     two.run("document.getElementById('undo').click(), true")
     two.wait(OPEN)
     said = two.run("document.getElementById('ask').textContent.replace(/[\\u2068\\u2069]/g, '')")
