@@ -217,7 +217,7 @@ SAID = {
 }
 # Up to which second of a call it can be cut, so that the rest shows a fault; of the others up to this one.
 SHOWS_UNTIL, USUAL = {
-    "keys": 0.6, "a late path": 0.6, "another address": 0.6, "numbers that jump": 0.6, "a full receive buffer": 0.3,
+    "keys": 0.6, "a late path": 0.6, "another address": 0.6, "numbers that jump": 0.6, "a full receive buffer": 0.2,
     "a slow clock": 0.4, "a fast clock": 0.4, "a source that comes back": 0.4, "no floor": 2.2, "a mute": 2.2,
     "a gain of 0": 2.2, "another room": 2.2,
 }, 1.2  # fmt: skip
