@@ -73,6 +73,18 @@ class Asked:
             act()
 
 
+def threads_of(bridge, lanes):
+    """The threads of a bridge whose lanes have begun, without the front's, which is the first one. One tells what
+    happens, and those that operators need come with them."""
+    end, found = time.monotonic() + PATIENCE, []
+    while True:
+        before, found = found, [int(thread) for thread in waits_of(bridge.pid) if int(thread) != bridge.pid]
+        if len(found) > lanes and found == before:
+            return found
+        check(time.monotonic() < end, "the lanes of a bridge don't begin")
+        time.sleep(0.2)
+
+
 def handled(lane):
     """How many items a lane has taken."""
     return int(lane["items"]) - int(lane["waiting"])
@@ -82,8 +94,7 @@ def check_stopped(program, lanes):
     """While lanes stand still and their rings are full, `stats` is answered within a second. Then they go on."""
     with tempfile.TemporaryDirectory() as folder:
         bridge, udp, tcp = started(program, settings(folder, lanes=lanes))
-    # The first one is the front's, and what operators need comes with them.
-    threads = [int(thread) for thread in waits_of(bridge.pid) if int(thread) != bridge.pid]
+    threads = threads_of(bridge, lanes)
     members, sent = [udp_socket(), udp_socket()], 0
 
     def send():
