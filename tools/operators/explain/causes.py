@@ -138,9 +138,10 @@ def lacks_in(sources):
             yield Lack(moment, end, tuple(sorted({s.ssrc for s, _ in here})), sum(gap[2] for _, gap in here))
 
 
-def unheard_in(found, desks):
+def unheard_in(found, desks, is_whole):
     """The times in which the bridge passed on nothing of what came of several sources at once, though the capture has
-    it."""
+    it. Where the capture itself lost packets, fewer ticks than these may be by chance."""
+    least = TICKS if is_whole else 2 * TICKS
     ticks = collections.defaultdict(set)
     for one in found:
         if one.kind in ("octets", "unsent"):
@@ -152,11 +153,11 @@ def unheard_in(found, desks):
         if len(owners) < SOURCES:
             continue
         if run and tick > run[-1] + 2:
-            if len(run) >= TICKS:
+            if len(run) >= least:
                 yield told_run(run, ticks)
             run = []
         run.append(tick)
-    if len(run) >= TICKS:
+    if len(run) >= least:
         yield told_run(run, ticks)
 
 

@@ -361,7 +361,7 @@ class Findings:
             what = f"{counted(one.packets)} of {', '.join(map(str, one.sources))}"
             text = f"packets of all senders are missing at once {self.time_of(one)}: {what}"
             self.add("overrun", None, f"{text}. They were lost on their common way, or the capture lost them")
-        for one in unheard_in(self.explained.run.cursor.found, self.desks):
+        for one in unheard_in(self.explained.run.cursor.found, self.desks, not self.own):
             if one.begin > self.explained.run.settled and self.is_within(one.begin):
                 when = f"around {self.seconds(one.begin):.2f} s"
                 text = f"the bridge passed nothing on of {', '.join(map(str, one.sources))} {when}"
