@@ -6,7 +6,7 @@ use mio::net::{TcpListener, TcpStream};
 use operator_threads::Lobby;
 use rtp_codec::Address;
 use std::io::ErrorKind;
-use udp_wire::address_of;
+use udp_wire::{Moments, address_of};
 
 /// Where a connection comes from that has no address of IPv4, which none has here.
 const NOWHERE: Address = Address {
@@ -23,6 +23,8 @@ pub(crate) struct OperatorListener {
     pub(crate) has_callers: bool,
     /// The connections whose first line has not come.
     pub(crate) lobby: Lobby,
+    /// The clock of all connections.
+    pub(crate) moments: Moments,
 }
 
 impl OperatorListener {

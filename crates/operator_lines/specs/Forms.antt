@@ -36,6 +36,8 @@ form_word_text places.Commands = codes "COMMAND: a command; 1 to 64 of them, wit
 form_word_text places.Most = codes "N: how many calls at most, 0 to 18446744073709551615; all where it is left out"
 form_word_text places.Names = codes "names: each call is told with its moment and its name"
 form_word_text places.Name = codes "NAME: 1 to 64 octets without a space; - is no name"
+form_word_text places.Lease =
+    codes "MS: for how many ms all may call, 0 to 4294967295, or off: for good; what is left, where it is left out"
 form_word_text places.Word = codes "WORD: the first word of a line"
 
 -- the form of a line
@@ -70,6 +72,7 @@ form_of (topics.Own owns.Stats) = codes "stats"
 form_of (topics.Own owns.Levels) = codes "levels"
 form_of (topics.Own owns.Watch) = codes "watch [names]"
 form_of (topics.Own owns.As) = codes "as NAME"
+form_of (topics.Own owns.Lease) = codes "lease [MS]"
 form_of (topics.Own owns.Why) = codes "why"
 form_of (topics.Own owns.Help) = codes "help [WORD]"
 form_of (topics.Own owns.Quit) = codes "quit"
@@ -121,6 +124,7 @@ places_of (topics.Own owns.Stats) = []
 places_of (topics.Own owns.Levels) = []
 places_of (topics.Own owns.Watch) = places.Names ∷ []
 places_of (topics.Own owns.As) = places.Name ∷ []
+places_of (topics.Own owns.Lease) = places.Lease ∷ []
 places_of (topics.Own owns.Why) = []
 places_of (topics.Own owns.Help) = places.Word ∷ []
 places_of (topics.Own owns.Quit) = []
@@ -268,6 +272,7 @@ example_of (topics.Own owns.Stats) = codes "stats"
 example_of (topics.Own owns.Levels) = codes "levels"
 example_of (topics.Own owns.Watch) = codes "watch names"
 example_of (topics.Own owns.As) = codes "as bob"
+example_of (topics.Own owns.Lease) = codes "lease 5000"
 example_of (topics.Own owns.Why) = codes "why"
 example_of (topics.Own owns.Help) = codes "help add-member"
 example_of (topics.Own owns.Quit) = codes "quit"
@@ -306,6 +311,7 @@ all_topics =
     ∷ (topics.Own owns.Levels)
     ∷ (topics.Own owns.Watch)
     ∷ (topics.Own owns.As)
+    ∷ (topics.Own owns.Lease)
     ∷ (topics.Own owns.Why)
     ∷ (topics.Own owns.Help)
     ∷ (topics.Own owns.Quit)

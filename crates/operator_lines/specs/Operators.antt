@@ -1,6 +1,6 @@
 -- What operators' lines ask for, and how they are answered (own).
 use Rattle.std.specs.Prelude.{◌≡◌, ℕ, Bool, true, false, not, ◌&&◌, if◌then◌else◌, List, [], ◌∷◌, ◌++◌, length}
-use Rattle.std.specs.Prelude.{take, codes, decimal, nat_lt, nat_le, Option, Some, None, Result, Ok, Err}
+use Rattle.std.specs.Prelude.{take, codes, decimal, nat_lt, nat_le, Option, Some, None, option_map, Result, Ok, Err}
 use Rattle.std.specs.List.{list_all}
 use Rattle.std.specs.Str.{bytes_eq}
 use Rattle.desk_edit.specs.Asked.{CallOf, asked_by}
@@ -12,14 +12,16 @@ use Rattle.desk_text.specs.Numbers.{decimal_of}
 use Rattle.desk_text.specs.Calls.{spoken_call, spoken_words}
 use Rattle.desk_text.specs.Lines.{is_printable}
 use Rattle.desk_text.specs.Text.{fault_text}
-use Rattle.operator_lines.specs.DeskAsk.{DeskAsk, calls, watches, lists, renames, faults}
+use Rattle.operator_lines.specs.DeskAsk.{DeskAsk, calls, watches, lists, renames, leases, faults}
 use Rattle.operator_lines.specs.Help.{help_text}
 use Rattle.operator_lines.specs.Own.{own_of}
 use Rattle.operator_lines.specs.Topics.{topic_of}
 use Rattle.operator_lines.specs.declared.asking.LineAsk.{LineAsk}
 use Rattle.operator_lines.specs.declared.asking.LineAsk.TheVariants as variants
 use Rattle.operator_lines.specs.declared.asking.Verb.{Verb}
-use Rattle.operator_lines.specs.declared.asking.Verb.TheVariants.{Show, Calls, Watch, Help, Quit, Stop}
+use Rattle.operator_lines.specs.declared.asking.Verb.TheVariants.{Show, Calls, Watch, Lease, Help, Quit, Stop}
+use Rattle.operator_lines.specs.declared.line_desk.LeaseAsk.{LeaseAsk}
+use Rattle.operator_lines.specs.declared.line_desk.LeaseAsk.TheVariants.{Tell, Off, Lasts}
 use Rattle.operator_lines.specs.declared.line_desk.View.{View}
 use Rattle.operator_lines.specs.declared.line_desk.View.TheVariants.{Rows, Groups, History, Stats, Levels, Why}
 use Rattle.operator_lines.specs.declared.own.Own.{Own}
@@ -85,6 +87,22 @@ name_in words = do
   end ← none_left 3 word.1
   Ok name
 
+-- the most milliseconds of a lease
+abbrev pub lease_limit : ℕ
+lease_limit = 4294967295
+
+-- what of the lease a word asks for: `off`, or how many milliseconds it lasts
+abbrev pub lease_of : List ℕ → Option LeaseAsk
+lease_of word = if bytes_eq word (codes "off") then Some Off else option_map Lasts (decimal_of lease_limit word)
+
+-- what of the lease these words ask for: what is left, where there are none
+unfoldable pub lease_in : List (List ℕ) → Result LeaseAsk (ℕ × Fault)
+lease_in [] = Ok Tell
+lease_in (word ∷ words) = do
+  ask ← value_or 2 BadNumber (lease_of word)
+  end ← none_left 3 words
+  Ok ask
+
 -- what these words ask about: no line, or the one that begins with the word
 unfoldable pub topic_in : List (List ℕ) → Result (Option Topic) (ℕ × Fault)
 topic_in [] = Ok None
@@ -117,6 +135,9 @@ asked_own owns.Watch words = do
 asked_own owns.As words = do
   name ← name_in words
   Ok (names name)
+asked_own owns.Lease words = do
+  ask ← lease_in words
+  Ok (alone (Lease ask))
 asked_own owns.Why words = alone_in (Show Why) words
 asked_own owns.Help words = do
   topic ← topic_in words
@@ -206,6 +227,8 @@ AnswersAsk replies shows line old (Ok (alone (Calls most))) new text becomes =
     replies old new (lists most) text × (becomes ≡ next.Stay)
 AnswersAsk replies shows line old (Ok (alone (Watch is_named))) new text becomes =
     replies old new (watches is_named) text × (becomes ≡ next.Stay)
+AnswersAsk replies shows line old (Ok (alone (Lease ask))) new text becomes =
+    replies old new (leases ask) text × (becomes ≡ next.Stay)
 AnswersAsk replies shows line old (Ok (alone (Help topic))) new text becomes =
     (new ≡ old) × (text ≡ help_text topic) × (becomes ≡ next.Stay)
 AnswersAsk replies shows line old (Ok (alone Quit)) new text becomes =

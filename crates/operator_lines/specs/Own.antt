@@ -15,14 +15,15 @@ own_text owns.Stats = codes "stats"
 own_text owns.Levels = codes "levels"
 own_text owns.Watch = codes "watch"
 own_text owns.As = codes "as"
+own_text owns.Lease = codes "lease"
 own_text owns.Why = codes "why"
 own_text owns.Help = codes "help"
 own_text owns.Quit = codes "quit"
 own_text owns.Stop = codes "stop"
 
--- the words of those that tell of the connection, and of those that end something
+-- the words of those that tell of the connection, of the lease, and of those that end something
 abbrev pub more_own : List Own
-more_own = owns.As ∷ owns.Why ∷ owns.Help ∷ owns.Quit ∷ owns.Stop ∷ []
+more_own = owns.As ∷ owns.Lease ∷ owns.Why ∷ owns.Help ∷ owns.Quit ∷ owns.Stop ∷ []
 
 -- all of them
 abbrev pub all_own : List Own

@@ -29,7 +29,7 @@ use Rattle.operator_lines.specs.declared.form_word.FormWord.TheVariants as form_
 use Rattle.operator_lines.specs.declared.topic.Topic.{Topic}
 use Rattle.operator_lines.specs.declared.topic.Topic.TheVariants as topics
 use Rattle.operator_lines.specs.declared.trouble.Wrong.{Wrong}
-use Rattle.operator_lines.specs.declared.trouble.Wrong.TheVariants.{Faulty, Refused, Taken}
+use Rattle.operator_lines.specs.declared.trouble.Wrong.TheVariants.{Faulty, Refused, Taken, Closed}
 
 -- a line, and what was wrong with it
 pub record TroubleOf : Type 0 where
@@ -95,6 +95,7 @@ wrong_word is_free line (Faulty word fault) = word
 wrong_word is_free line (Refused refusal) =
     if is_free && is_exists refusal then other_word else blamed_by (blame_in (topic_at line) refusal)
 wrong_word is_free line Taken = 0
+wrong_word is_free line Closed = 0
 
 -- ---- what may stand there
 
@@ -159,6 +160,8 @@ abbrev pub told_lines : Wrong → List ℕ
 told_lines (Faulty word fault) = fault_advice_line fault
 told_lines (Refused refusal) = refusal_line refusal
 told_lines Taken = codes "refused 22 LogTaken the log is another bridge's: start the bridge anew\n"
+told_lines Closed =
+    codes "refused 27 Closed the lease has ended: its holder alone may call, until it is renewed or `lease off` is given\n"
 
 -- the line of the command of a group that is refused, or of the call that stands in the way; commands count from 0
 abbrev pub part_lines : Wrong → List ℕ

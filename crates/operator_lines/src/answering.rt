@@ -92,6 +92,10 @@ fn answer_verb<D: LineDesk>(
             desk.watch(alloc, moment, is_named, out)?;
             Ok(Next::Stay)
         }
+        Verb::Lease { ask } => {
+            desk.lease(alloc, moment, ask, out)?;
+            Ok(Next::Stay)
+        }
         Verb::Help { topic } => {
             print_help(alloc, topic, out)?;
             Ok(Next::Stay)

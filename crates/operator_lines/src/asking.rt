@@ -13,13 +13,15 @@ ghost use Rattle.operator_lines.specs.Operators.{
   begins_group,
   is_operator_name,
   is_printed,
+  lease_in,
+  lease_of,
   most_in,
   name_in,
   named_in,
   topic_in,
 };
 
-use crate::line_desk::View;
+use crate::line_desk::{LeaseAsk, View};
 use crate::own::{Own, parse_own};
 use crate::topic::{Topic, parse_topic};
 use desk_edit::Call;
@@ -28,6 +30,9 @@ use std::alloc::{Allocator, Global};
 
 /// The most octets of a name.
 const NAME_LIMIT: usize = 64;
+
+/// The most milliseconds of a lease: 49 days.
+const LEASE_LIMIT: u64 = 4_294_967_295;
 
 /// What a line of an operator asks for.
 #[derive(Drop)]
@@ -52,6 +57,11 @@ pub(crate) enum Verb {
     Watch {
         /// Whether it tells moments and names.
         is_named: bool,
+    },
+    /// The lease.
+    Lease {
+        /// What of it.
+        ask: LeaseAsk,
     },
     /// The forms of lines, or one of them.
     Help {
@@ -126,6 +136,36 @@ fn name(words: Option<&[u8]>) -> Result<&[u8], ParseFault>
     Ok(word)
 }
 
+/// What of the lease a word asks for.
+fn lease_of(word: &[u8]) -> Option<LeaseAsk>
+    ensures { result ≡ lease_of word.now }
+{
+    if word == b"off".as_slice() {
+        return Some(LeaseAsk::Off);
+    }
+    match parse_number(word, LEASE_LIMIT) {
+        Some(milliseconds) => Some(LeaseAsk::Lasts { milliseconds }),
+        None => None,
+    }
+}
+
+/// What of the lease these words ask for.
+#[tactic(auto, unfolding(crate::specs::Operators::lease_in))]
+fn lease(words: Option<&[u8]>) -> Result<LeaseAsk, ParseFault>
+    ensures read { Gives (λ ask. ask) result (lease_in (words_in words.entry)) }
+    ensures memory { result ≢ Err ParseFault.OutOfMemory }
+{
+    let Some(text) = words else {
+        return Ok(LeaseAsk::Tell);
+    };
+    let (word, behind) = first_word(text);
+    let Some(ask) = lease_of(word) else {
+        return Err(Fault::BadNumber.at(2));
+    };
+    end_of_words(behind, 3)?;
+    Ok(ask)
+}
+
 /// Which line these words ask about.
 #[tactic(auto, unfolding(crate::specs::Operators::topic_in))]
 fn topic(words: Option<&[u8]>) -> Result<Option<Topic>, ParseFault>
@@ -185,6 +225,10 @@ fn asked_own<'l, A: Allocator + Copy>(
         Own::As => {
             let name = name(words)?;
             Ok(LineAsk::Name(name))
+        }
+        Own::Lease => {
+            let ask = lease(words)?;
+            Ok(LineAsk::Verb(Verb::Lease { ask }))
         }
         Own::Why => alone(Verb::Show(View::Why), words),
         Own::Help => {

@@ -139,7 +139,7 @@ pub(crate) fn wrong_word(is_free: bool, line: &[u8], wrong: Wrong) -> u32
                 blamed_word(line, refusal)
             }
         }
-        Wrong::Taken => 0,
+        Wrong::Taken | Wrong::Closed => 0,
     }
 }
 

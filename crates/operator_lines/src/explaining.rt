@@ -76,6 +76,9 @@ fn append_told(alloc: Global, wrong: Wrong, out: &mut Vec<u8>) -> Result<(), All
         Wrong::Taken => out.extend_from_slice(
             b"refused 22 LogTaken the log is another bridge's: start the bridge anew\n",
         ),
+        Wrong::Closed => out.extend_from_slice(
+            b"refused 27 Closed the lease has ended: its holder alone may call, until it is renewed or `lease off` is given\n",
+        ),
     }
 }
 

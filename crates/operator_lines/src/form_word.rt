@@ -26,6 +26,7 @@ pub(crate) enum FormWord {
     Most,
     Names,
     Name,
+    Lease,
     Word,
 }
 
@@ -57,6 +58,8 @@ impl FormWord {
                 b"N: how many calls at most, 0 to 18446744073709551615; all where it is left out",
             FormWord::Names => b"names: each call is told with its moment and its name",
             FormWord::Name => b"NAME: 1 to 64 octets without a space; - is no name",
+            FormWord::Lease =>
+                b"MS: for how many ms all may call, 0 to 4294967295, or off: for good; what is left, where it is left out",
             FormWord::Word => b"WORD: the first word of a line",
         }
     }

@@ -51,6 +51,6 @@ pub use laws::{
     cuts_are_whole, groups_fit_on_lines, help_tells_each_line, help_tells_what_is_read,
     too_long_for_good,
 };
-pub use line_desk::{LineDesk, View};
+pub use line_desk::{LeaseAsk, LineDesk, View};
 pub use outgoing::Outgoing;
 pub use trouble::{Trouble, Wrong};

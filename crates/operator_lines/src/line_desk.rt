@@ -2,7 +2,7 @@
 
 ghost use Rattle.std.specs.Prelude.{◌≡◌, ℕ, List, [], OnOk, OnErr};
 ghost use Rattle.desk_edit.specs.Asked.{asked_by};
-ghost use Rattle.operator_lines.specs.DeskAsk.{DeskAsk, calls, watches, news, lists, renames, faults};
+ghost use Rattle.operator_lines.specs.DeskAsk.{DeskAsk, calls, watches, news, lists, renames, leases, faults};
 ghost use Rattle.operator_lines.specs.declared.line_desk.View.{View};
 ghost use Rattle.operator_lines.specs.Operators.{AppendsReply, AppendsShown};
 
@@ -28,6 +28,20 @@ pub enum View {
     Levels,
     /// What was wrong with the last line that was faulty or refused.
     Why,
+}
+
+/// What a line asks of the desk's lease. Once a lease has ended, no connection of another name may call.
+#[derive(Clone, Copy, Debug, PartialEq, Eq)]
+pub enum LeaseAsk {
+    /// What is left of it.
+    Tell,
+    /// That there is none.
+    Off,
+    /// That it lasts so long from now on, and is of the connection that asks.
+    Lasts {
+        /// How many milliseconds, 0 to 4294967295 in a line.
+        milliseconds: u64,
+    },
 }
 
 /// A desk that answers the lines of one operator. A moment is that at which a line is answered, in nanoseconds since
@@ -94,6 +108,19 @@ pub trait LineDesk {
         out: &mut Vec<u8>,
     ) -> Result<(), AllocError>
         ensures ok { OnOk result (AppendsReply (replies moment) self.old self.new (renames name.now)
+            out.old.items out.new.items) }
+        ensures err { OnErr result (out.new.items ≡ out.old.items) };
+
+    /// Gives the desk a lease, or takes it away, and appends the line that tells what is left of it then. An `Err`
+    /// appends nothing.
+    fn lease(
+        &mut self,
+        alloc: Global,
+        moment: u64,
+        ask: LeaseAsk,
+        out: &mut Vec<u8>,
+    ) -> Result<(), AllocError>
+        ensures ok { OnOk result (AppendsReply (replies moment) self.old self.new (leases ask)
             out.old.items out.new.items) }
         ensures err { OnErr result (out.new.items ≡ out.old.items) };
 

@@ -14,6 +14,7 @@ pub(crate) enum Own {
     Levels,
     Watch,
     As,
+    Lease,
     Why,
     Help,
     Quit,
@@ -49,6 +50,8 @@ fn parse_more(word: &[u8]) -> Option<Own>
 {
     if word == b"as".as_slice() {
         Some(Own::As)
+    } else if word == b"lease".as_slice() {
+        Some(Own::Lease)
     } else if word == b"why".as_slice() {
         Some(Own::Why)
     } else if word == b"help".as_slice() {

@@ -23,6 +23,8 @@ pub enum Wrong {
     },
     /// Its call was refused since another desk uses the log.
     Taken,
+    /// Its call was refused since the desk's lease has ended, and another connection holds it.
+    Closed,
 }
 
 /// A line, and what was wrong with it. Contracts see both.

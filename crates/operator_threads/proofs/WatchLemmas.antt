@@ -1,8 +1,9 @@
 -- What a watch tells, one answer after another.
-use Rattle.std.proofs.Common.{◌≡◌, ◌≤◌, ℕ, ◌+◌, ◌-◌, Bool, List, [], ◌∷◌, ◌++◌, length, take, drop, Option, Some, None}
+use Rattle.std.proofs.Common.{◌≡◌, ◌≤◌, ℕ, ◌+◌, ◌-◌, Bool, true, false, List, [], ◌∷◌, ◌++◌, length, take, drop, Option, Some, None}
 use Rattle.std.proofs.Common.{refl, sym, ap, subst, ◌∙◌, append_assoc, length-append, take-append-drop, arith}
 use Rattle.std.proofs.lemmas.List.{append-nil, drop-append-le, drop_all, length-take-le, take-take, take_at}
 use Rattle.std.specs.Prelude.{max}
+use Rattle.std.specs.Bool.{MatchBool}
 use mathlib.Core.List.{IsPrefix}
 use Rattle.logbook.specs.Pages.{Book}
 use Rattle.desk_rows.specs.Desk.{Desk}
@@ -10,7 +11,7 @@ use Rattle.desk_edit.specs.Asked.{CallOf}
 use Rattle.call_history.specs.Lists.{last_few}
 use Rattle.call_history.specs.Stamp.{StampOf, StampedOf}
 use Rattle.desk_text.specs.StampedText.{told_line, told_text}
-use Rattle.operator_lines.specs.DeskAsk.{DeskAsk, calls, watches, news, lists, renames, faults}
+use Rattle.operator_lines.specs.DeskAsk.{DeskAsk, calls, watches, news, lists, renames, leases, faults}
 use Rattle.operator_lines.specs.declared.trouble.Wrong.TheVariants.{Faulty}
 use Rattle.operator_desk.specs.declared.answer.Answer.{Answer}
 use Rattle.operator_desk.specs.declared.answer.Answer.TheVariants.{Accepted, Refused}
@@ -21,6 +22,7 @@ use Rattle.operator_desk.specs.PastCalls.{stamped_from, stamped_of}
 use Rattle.operator_desk.specs.Seats.{SeatOf}
 use Rattle.operator_desk.proofs.StampLemmas.{stamped-append, length-stamped}
 use Rattle.operator_threads.specs.Watches.{SittingOf, SeatAnswers, SeatWatches, SeatNews, AreSeatAnswers, TellsNews}
+use Rattle.operator_threads.specs.Watches.{AnswersCall, IsClosed}
 use Rattle.operator_threads.specs.Watches.{news_of, news_among, TellsEach, WasTold}
 
 -- a seat that has seen a legal log has caught up with it
@@ -71,6 +73,24 @@ replied start publisher old new call stamp (Accepted number notice) a = (
   sym (append_assoc old.seen a.ends.0 (record { op = old.op; call = call; stamp = stamp } ∷ [])) ∙ sym a.ends.1,
 )
 replied start publisher old new call stamp (Refused version why) a = a.begins
+
+-- a call leaves the watch as it is, whether the desk takes it or not
+record Stays (old new : SittingOf) : Type 0 where
+  pub told : new.told ≡ old.told
+  pub begins : IsPrefix old.seat.seen new.seat.seen
+
+called : (start : Desk) (publisher : Book) (moment : ℕ) (old new : SittingOf) (line : List ℕ) (call : CallOf)
+    (text : List ℕ) (takes : Bool)
+    → MatchBool takes (AnswersCall start publisher moment old new line call text) (IsClosed old new line text)
+    → Stays old new
+called start publisher moment old new line call text true a =
+    record { told = a.told; begins = replied start publisher old.seat new.seat call _ a.answer a.answered }
+called start publisher moment old new line call text false a =
+    record {
+      told = ap (λ (s : SittingOf). s.told) a.noted;
+      begins =
+          subst (λ (s : SittingOf). IsPrefix old.seat.seen s.seat.seen) (sym a.noted) (prefix_same old.seat.seen);
+    }
 
 -- the calls of a log are the first ones of a log that goes on from it
 first_made : (xs ys : List EntryOf) (last : ℕ) → IsPrefix xs ys → length xs ≤ last
@@ -128,9 +148,10 @@ step : (start : Desk) (publisher : Book) (asked : List (DeskAsk × List ℕ)) (t
     → old.told ≡ Some told → told ≤ length old.seat.seen → GoesOn start publisher asked new
     → Goes told old new (news_of ask text ++ news_among asked)
 step start publisher asked told moment old mid new (calls line call) text a done is few goes =
-    let begins = replied start publisher old.seat mid.seat call _ a.answer a.answered in
+    let stays = called start publisher moment old mid line call text _ a.1 in
+    let begins = stays.begins in
     let longer = prefix_few old.seat.seen mid.seat.seen begins in
-    let more = goes told mid done (a.told ∙ is) (omega (arith, few, longer)) in
+    let more = goes told mid done (stays.told ∙ is) (omega (arith, few, longer)) in
     record {
       was = more.was;
       least = more.least;
@@ -154,6 +175,9 @@ step start publisher asked told moment old mid new (watches is_named) text a don
 step start publisher asked told moment old mid new (renames name) text a done is few goes =
     let more = goes told (record old { name = name })
     (subst (λ (s : SittingOf). AreSeatAnswers start publisher asked s new) a.0 done) is few in
+    record { was = more.was; least = more.least; begins = more.begins }
+step start publisher asked told moment old mid new (leases ask) text a done is few goes =
+    let more = goes told old (subst (λ (s : SittingOf). AreSeatAnswers start publisher asked s new) a.0 done) is few in
     record { was = more.was; least = more.least; begins = more.begins }
 step start publisher asked told moment old mid new (faults line word fault) text a done is few goes =
     let more = goes told (record old { trouble = Some (record { line = line; wrong = Faulty word fault }) })

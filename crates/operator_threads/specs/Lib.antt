@@ -1,4 +1,5 @@
 pub mod Free
+pub mod Lease
 pub mod Lobby
 pub mod Threads
 pub mod Told

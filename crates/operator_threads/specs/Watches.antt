@@ -1,5 +1,6 @@
 -- What an operator at a desk is answered, and what a watch tells (own).
 use Rattle.std.specs.Prelude.{◌≡◌, ℕ, ◌≤◌, max, Bool, List, [], ◌∷◌, ◌++◌, length, take, drop, Option, Some, None}
+use Rattle.std.specs.Bool.{MatchBool}
 use Rattle.std.specs.List.{FoldsTo, flat_map}
 use Rattle.logbook.specs.Pages.{Book}
 use Rattle.call_history.specs.Lists.{last_few}
@@ -8,15 +9,17 @@ use Rattle.desk_rows.specs.Desk.{Desk}
 use Rattle.desk_edit.specs.Asked.{CallOf}
 use Rattle.desk_text.specs.HistoryText.{end_line}
 use Rattle.desk_text.specs.StampedText.{told_line, told_text, calls_text}
-use Rattle.operator_lines.specs.DeskAsk.{DeskAsk, calls, watches, news, lists, renames, faults}
+use Rattle.operator_lines.specs.DeskAsk.{DeskAsk, calls, watches, news, lists, renames, leases, faults}
 use Rattle.operator_lines.specs.Why.{TroubleOf}
-use Rattle.operator_lines.specs.declared.trouble.Wrong.TheVariants.{Faulty}
+use Rattle.operator_lines.specs.declared.line_desk.LeaseAsk.{LeaseAsk}
+use Rattle.operator_lines.specs.declared.trouble.Wrong.TheVariants.{Faulty, Closed}
 use Rattle.published_desk.specs.Published.{NoticeOf}
 use Rattle.operator_desk.specs.declared.answer.Answer.{Answer}
 use Rattle.operator_desk.specs.Answers.{IsAnswered, HasCaughtUp}
 use Rattle.operator_desk.specs.PastCalls.{stamped_of}
 use Rattle.operator_desk.specs.Seats.{SeatOf}
-use Rattle.operator_threads.specs.Told.{answer_text, IsKnown, stamp_at, name_line, trouble_after}
+use Rattle.operator_threads.specs.Lease.{LeaseOf, takes_calls, lease_after, lease_line, closed_line}
+use Rattle.operator_threads.specs.Told.{answer_text, IsKnown, stamp_at, shown_name, name_line, trouble_after}
 
 -- an operator at the desk: the seat; the latest notice that is known; of a watch how many calls of the log it has told,
 -- or were accepted before it, and whether it tells moments and names; the connection's name; and the last line that was
@@ -41,6 +44,27 @@ pub record AnswersCall (start : Desk) (publisher : Book) (moment : ℕ) (old new
   pub named : new.is_named ≡ old.is_named
   pub name : new.name ≡ old.name
   pub trouble : new.trouble ≡ trouble_after line answer old.trouble
+
+-- The call of a line is refused at a version no earlier than the last call known, and its line is told: the desk doesn't
+-- take it. It is the last line that was faulty or refused, and nothing else has changed.
+pub record IsClosed (old new : SittingOf) (line said : List ℕ) : Type 0 where
+  pub version : ℕ
+  pub least : length old.known.lists ≤ version
+  pub text : said ≡ closed_line version
+  pub noted : new ≡ record old { trouble = Some (record { line = line; wrong = Closed }) }
+
+-- the desk has some lease, which says whether it takes the call: then that is answered, and else refused
+abbrev pub SeatCalls :
+    Desk → Book → (moment : ℕ) → (old new : SittingOf) → (line : List ℕ) → CallOf → (said : List ℕ) → Type 0
+SeatCalls start publisher moment old new line call said =
+    (lease : Option LeaseOf)
+    × MatchBool (takes_calls lease moment (shown_name old.name))
+    (AnswersCall start publisher moment old new line call said) (IsClosed old new line said)
+
+-- the desk's lease changes as it is asked, and what is left of it is told
+abbrev pub TellsLease : (moment : ℕ) → (name : List ℕ) → LeaseAsk → (said : List ℕ) → Type 0
+TellsLease moment name ask said =
+    (lease : Option LeaseOf) × (said ≡ lease_line (lease_after ask moment (shown_name name) lease) moment)
 
 -- A watch begins behind all calls of a legal log, the known ones among them, and their number is told.
 pub record BeginsWatch (start : Desk) (is_named : Bool) (old new : SittingOf) (said : List ℕ) : Type 0 where
@@ -89,12 +113,13 @@ pub record ListsCalls (start : Desk) (most : ℕ) (old new : SittingOf) (said : 
 -- what an operator's desk is asked at a moment is answered
 abbrev pub SeatAnswers : Desk → Book → (moment : ℕ) → (old new : SittingOf) → DeskAsk → List ℕ → Type 0
 SeatAnswers start publisher moment old new (calls line call) text =
-    AnswersCall start publisher moment old new line call text
+    SeatCalls start publisher moment old new line call text
 SeatAnswers start publisher moment old new (watches is_named) text = SeatWatches start is_named old new old.told text
 SeatAnswers start publisher moment old new news text = SeatNews start old new old.told text
 SeatAnswers start publisher moment old new (lists most) text = ListsCalls start most old new text
 SeatAnswers start publisher moment old new (renames name) text =
     (new ≡ record old { name = name }) × (text ≡ name_line name)
+SeatAnswers start publisher moment old new (leases ask) text = (new ≡ old) × TellsLease moment old.name ask text
 SeatAnswers start publisher moment old new (faults line word fault) text =
     (new ≡ record old { trouble = Some (record { line = line; wrong = Faulty word fault }) }) × (text ≡ [])
 
@@ -114,6 +139,7 @@ news_of (watches is_named) text = []
 news_of news text = text
 news_of (lists most) text = []
 news_of (renames name) text = []
+news_of (leases ask) text = []
 news_of (faults line word fault) text = []
 
 -- all news among these
@@ -132,6 +158,22 @@ pub record WasTold (passed : ℕ) (new : SittingOf) (said : List ℕ) : Type 0 w
   pub told : new.told ≡ Some last
   pub few : last ≤ length new.seat.seen
   pub text : TellsEach (drop passed (take last (stamped_of new.seat.seen))) said
+
+-- a call is given to the desk, and the text of its answer is appended
+abbrev pub AppendsCall :
+    Desk → Book → (moment : ℕ) → (old new : SittingOf) → (line : List ℕ) → CallOf → (before after : List ℕ) → Type 0
+AppendsCall start publisher moment old new line call before after =
+    (text : List ℕ) × (after ≡ before ++ text) × AnswersCall start publisher moment old new line call text
+
+-- a call is refused, and the text is appended
+abbrev pub AppendsClosed : (old new : SittingOf) → (line before after : List ℕ) → Type 0
+AppendsClosed old new line before after =
+    (text : List ℕ) × (after ≡ before ++ text) × IsClosed old new line text
+
+-- the desk's lease changes, and the text is appended
+abbrev pub AppendsLease : (moment : ℕ) → (name : List ℕ) → LeaseAsk → (before after : List ℕ) → Type 0
+AppendsLease moment name ask before after =
+    (text : List ℕ) × (after ≡ before ++ text) × TellsLease moment name ask text
 
 -- a watch begins, and its text is appended
 abbrev pub AppendsWatch : Desk → (is_named : Bool) → (old new : SittingOf) → (before after : List ℕ) → Type 0

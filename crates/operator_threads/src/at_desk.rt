@@ -6,21 +6,21 @@ ghost use Rattle.operator_threads.specs.Told.{SeatShows, SeatTellsPast};
 use crate::operators::Operators;
 use crate::printed::Printed;
 use crate::printed_past::PrintedPast;
-use crate::printing::print_answer;
 use crate::seats::TakenSeat;
 use crate::wake::Wake;
 use desk_edit::Call;
 use desk_text::{Fault, Word, print_end, print_line};
 use operator_desk::DeskBrand;
-use operator_lines::{LineDesk, Trouble, View, Wrong};
+use operator_lines::{LeaseAsk, LineDesk, Trouble, View, Wrong};
 use published_desk::Notice;
 use std::alloc::{AllocError, Global};
 use std::sync::{MutexGuard, Wait};
 
 /// An operator at a shared desk. It is not `Drop`, so that the seat is given back: end it by [`AtDesk::leave`].
 ///
-/// As a [`LineDesk`] it answers each call by `SharedDesk::call` with its own seat. It wakes the front after each
-/// accepted call. What the desk has no answer for ends the connection, and the bridge.
+/// As a [`LineDesk`] it answers each call by `SharedDesk::call` with its own seat, unless the desk's lease has ended and
+/// is of another name. It wakes the front after each accepted call. What the desk has no answer for ends the connection,
+/// and the bridge.
 pub struct AtDesk<'b, 'a, H: DeskBrand, R: Wait, F: Wake> {
     pub(crate) operators: &'b Operators<'a, H>,
     pub(crate) rt: &'b R,
@@ -97,7 +97,7 @@ impl<'b, 'a, H: DeskBrand, R: Wait, F: Wake> AtDesk<'b, 'a, H, R, F> {
     }
 
     /// The version that is shown at least: the published one, which is the known one or a later one.
-    fn asked(&self) -> u64
+    pub(crate) fn asked(&self) -> u64
         ensures { length self.now.known.lists ≤ result }
     {
         let published = self.operators.desk.notice(self.rt).version();
@@ -177,18 +177,17 @@ impl<'b, 'a, H: DeskBrand, R: Wait, F: Wake> LineDesk for AtDesk<'b, 'a, H, R, F
         call: Call,
         out: &mut Vec<u8>,
     ) -> Result<(), AllocError> {
-        let kept = Vec::from_slice(alloc, line)?;
-        let stamp = self.stamp(alloc, moment)?;
-        let desk = &self.operators.desk;
-        match desk.call(self.rt, alloc, &mut self.taken.seat, call, stamp) {
-            Ok(answer) => {
-                self.note(&answer);
-                self.note_refusal(kept, &answer);
-                print_answer(&answer, out)
-            }
-            // It has no answer for a seat of another desk, nor once it has ended.
-            Err(_) => Err(self.give_up()),
-        }
+        let (operators, rt) = (self.operators, self.rt);
+        // It is locked until the call is answered: whoever is told that the lease has ended knows that no call of
+        // another connection comes behind.
+        let lease = operators.lease.lock(rt);
+        let answer = if lease.takes_calls(moment, self.shown_name()) {
+            self.give_call(alloc, moment, line, call, out)
+        } else {
+            self.refuse_call(alloc, line, out)
+        };
+        MutexGuard::unlock(lease);
+        answer
     }
 
     fn watch(
@@ -241,6 +240,16 @@ impl<'b, 'a, H: DeskBrand, R: Wait, F: Wake> LineDesk for AtDesk<'b, 'a, H, R, F
         print_line(b"as", &[Word::Fixed(name)], out)?;
         self.name = kept;
         Ok(())
+    }
+
+    fn lease(
+        &mut self,
+        alloc: Global,
+        moment: u64,
+        ask: LeaseAsk,
+        out: &mut Vec<u8>,
+    ) -> Result<(), AllocError> {
+        self.change_lease(alloc, moment, ask, out)
     }
 
     fn note_fault(

@@ -14,12 +14,13 @@
 //!
 //! ```rust
 //! // desk and seats: of a shared desk; stream: a connection; front: what is woken after each accepted call
+//! // moments: the clock of all connections
 //! let operators = Operators::new(&rt, alloc, desk, seats);
 //! let mut lobby = Lobby::new(alloc)?;
 //! lobby.enter(alloc, stream, from, now)?; // now: a moment in nanoseconds
 //! if operators.begin_thread(&rt) {
 //!     if let Some(guest) = lobby.next_good(alloc, now) {
-//!         let line = CallerSocket::open(&rt, alloc, guest)?.into_line();
+//!         let line = CallerSocket::open(&rt, alloc, guest, moments)?.into_line();
 //!         let mut caller = Caller::new(alloc, line)?;
 //!         operators.talk(&rt, alloc, &mut caller, &front); // in a thread of its own
 //!     }
@@ -35,6 +36,8 @@ mod at_desk;
 mod follower;
 mod latest;
 mod laws;
+mod lease;
+mod leasing;
 mod lobby;
 mod making;
 mod noting;

@@ -12,15 +12,13 @@ ghost use Rattle.operator_threads.specs.Told.{
 };
 
 use crate::at_desk::AtDesk;
+use crate::lease::millisecond_of;
 use crate::wake::Wake;
 use call_history::CallStamp;
 use operator_desk::{Answer, DeskBrand, Why};
 use operator_lines::{Trouble, Wrong, print_why};
 use std::alloc::{AllocError, Global};
 use std::sync::{MutexGuard, Wait};
-
-/// How many nanoseconds a millisecond has.
-const MILLISECOND: u64 = 1_000_000;
 
 /// What was wrong with the line of a call that is refused.
 fn wrong_by(why: Why) -> Wrong
@@ -64,7 +62,7 @@ impl<'b, 'a, H: DeskBrand, R: Wait, F: Wake> AtDesk<'b, 'a, H, R, F> {
     }
 
     /// The connection's name as it is told.
-    fn shown_name(&self) -> &[u8]
+    pub(crate) fn shown_name(&self) -> &[u8]
         ensures { result.now ≡ shown_name self.now.name.items }
     {
         if self.name.is_empty() {
@@ -78,7 +76,7 @@ impl<'b, 'a, H: DeskBrand, R: Wait, F: Wake> AtDesk<'b, 'a, H, R, F> {
     pub(crate) fn stamp(&self, alloc: Global, moment: u64) -> Result<CallStamp, AllocError>
         ensures { IfOk result (λ stamp. stamp ≡ stamp_at moment self.now.name.items) }
     {
-        CallStamp::new(alloc, moment / MILLISECOND, self.shown_name())
+        CallStamp::new(alloc, millisecond_of(moment), self.shown_name())
     }
 
     /// Appends what was wrong with the last line that was faulty or refused, by a copy of the rows. An `Err` appends

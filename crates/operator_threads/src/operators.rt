@@ -7,6 +7,7 @@ ghost use Rattle.operator_desk.specs.Opening.{most_operators};
 
 use crate::at_desk::AtDesk;
 use crate::latest::Latest;
+use crate::lease::Lease;
 use crate::printed::Printed;
 use crate::printed_past::PrintedPast;
 use crate::seats::{FreeSeats, TakenSeat};
@@ -28,6 +29,8 @@ pub struct Operators<'a, H: DeskBrand> {
     seats: Mutex<FreeSeats<'a, H>>,
     threads: Mutex<ThreadCount>,
     latest: Mutex<Latest<H>>,
+    /// Held while a call is judged, so that none comes behind the answer that ends it.
+    pub(crate) lease: Mutex<Lease>,
     /// Held while the rows are printed, which takes milliseconds for a full desk, or copied as they were printed last.
     /// Operators who keep asking take one processor together, and the others' calls have the rest.
     pub(crate) printed: Mutex<Printed<H>>,
@@ -53,6 +56,7 @@ impl<'a, H: DeskBrand> Operators<'a, H> {
             seats: Mutex::new(FreeSeats { seats }),
             threads: Mutex::new(ThreadCount::new(all)),
             latest: Mutex::new(latest),
+            lease: Mutex::new(Lease::none()),
             printed: Mutex::new(Printed::nothing(alloc)),
             printed_past: Mutex::new(PrintedPast::nothing(alloc)),
             stopped: AtomicBool::new(false),
@@ -196,6 +200,7 @@ impl<'a, H: DeskBrand> Operators<'a, H> {
             seats,
             threads: _,
             latest: _,
+            lease: _,
             printed: _,
             printed_past: _,
             stopped: _,

@@ -22,7 +22,7 @@ const EVENTS: usize = 4;
 /// How many octets are read from the system at a time.
 const CHUNK: usize = 9_000;
 
-/// The socket of an operator's connection, with a poll and a clock of its own. Nothing was done on it yet, so it may go
+/// The socket of an operator's connection, with a poll of its own. Nothing was done on it yet, so it may go
 /// to another thread: the prover doesn't find that a [`SocketLine`] may.
 #[derive(Drop)]
 pub struct CallerSocket<R: Clock + Drop> {
@@ -48,9 +48,9 @@ pub struct SocketLine<R: Clock + Drop> {
 }
 
 impl<R: Net + Clock + Copy + Drop> CallerSocket<R> {
-    /// The socket of a connection whose first line has come. An `Err` is the system's or out of memory, and closes the
-    /// connection.
-    pub fn open(rt: &R, alloc: Global, guest: Guest) -> io::Result<Self> {
+    /// The socket of a connection whose first line has come, with the clock of all connections: the lease of the desk
+    /// is judged by it. An `Err` is the system's or out of memory, and closes the connection.
+    pub fn open(rt: &R, alloc: Global, guest: Guest, moments: Moments) -> io::Result<Self> {
         let Guest {
             mut stream,
             incoming,
@@ -69,7 +69,7 @@ impl<R: Net + Clock + Copy + Drop> CallerSocket<R> {
             poll,
             events,
             stream,
-            moments: Moments::begin(rt)?,
+            moments,
             incoming,
             chunk,
         })

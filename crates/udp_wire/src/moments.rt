@@ -8,8 +8,8 @@ use std::marker::Model;
 use std::time::{Clock, Duration, Instant, SystemTime, UNIX_EPOCH};
 
 /// A clock that begins with the system's time and never goes back, whatever happens to the system's time.
-/// Contracts see its beginning, in nanoseconds since 1970.
-#[derive(Drop)]
+/// Contracts see its beginning, in nanoseconds since 1970. A copy tells the same moments.
+#[derive(Clone, Copy)]
 pub struct Moments {
     /// The beginning, in nanoseconds since 1970.
     start: u64,

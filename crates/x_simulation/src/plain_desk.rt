@@ -4,7 +4,7 @@ use bridge_core::Core;
 use desk_calls::Reply;
 use desk_edit::Call;
 use desk_text::{Fault, print_reply, print_rows};
-use operator_lines::{LineDesk, View};
+use operator_lines::{LeaseAsk, LineDesk, View};
 use std::alloc::{AllocError, Global};
 
 /// The desk and the lanes of the model: a bridge of one thread.
@@ -87,6 +87,17 @@ impl LineDesk for PlainDesk {
         _alloc: Global,
         _moment: u64,
         _name: &[u8],
+        _out: &mut Vec<u8>,
+    ) -> Result<(), AllocError> {
+        Ok(())
+    }
+
+    /// Nor for a lease.
+    fn lease(
+        &mut self,
+        _alloc: Global,
+        _moment: u64,
+        _ask: LeaseAsk,
         _out: &mut Vec<u8>,
     ) -> Result<(), AllocError> {
         Ok(())

@@ -27,4 +27,5 @@ field_of_word form_words.Commands = None
 field_of_word form_words.Most = None
 field_of_word form_words.Names = None
 field_of_word form_words.Name = None
+field_of_word form_words.Lease = None
 field_of_word form_words.Word = None

@@ -10,7 +10,7 @@ use Rattle.operator_lines.specs.declared.topic.Topic.{Topic}
 use Rattle.operator_lines.specs.declared.topic.Topic.TheVariants as topics
 use Rattle.operator_lines.proofs.laws.help_tells_each_line.Goals as goal
 
-count : length all_topics ≡ 34
+count : length all_topics ≡ 35
 count = refl
 
 all : (topic : Topic) → Contains all_topics topic
@@ -44,10 +44,11 @@ all (topics.Own owns.Stats) = (26, omega (arith, count), refl)
 all (topics.Own owns.Levels) = (27, omega (arith, count), refl)
 all (topics.Own owns.Watch) = (28, omega (arith, count), refl)
 all (topics.Own owns.As) = (29, omega (arith, count), refl)
-all (topics.Own owns.Why) = (30, omega (arith, count), refl)
-all (topics.Own owns.Help) = (31, omega (arith, count), refl)
-all (topics.Own owns.Quit) = (32, omega (arith, count), refl)
-all (topics.Own owns.Stop) = (33, omega (arith, count), refl)
+all (topics.Own owns.Lease) = (30, omega (arith, count), refl)
+all (topics.Own owns.Why) = (31, omega (arith, count), refl)
+all (topics.Own owns.Help) = (32, omega (arith, count), refl)
+all (topics.Own owns.Quit) = (33, omega (arith, count), refl)
+all (topics.Own owns.Stop) = (34, omega (arith, count), refl)
 
 begins : (topic : Topic) → topic_of (word_behind 0 (form_of topic)) ≡ Some topic
 begins (topics.Command names.AddRoom) = refl
@@ -80,6 +81,7 @@ begins (topics.Own owns.Stats) = refl
 begins (topics.Own owns.Levels) = refl
 begins (topics.Own owns.Watch) = refl
 begins (topics.Own owns.As) = refl
+begins (topics.Own owns.Lease) = refl
 begins (topics.Own owns.Why) = refl
 begins (topics.Own owns.Help) = refl
 begins (topics.Own owns.Quit) = refl
