@@ -159,11 +159,13 @@ fn lease(words: Option<&[u8]>) -> Result<LeaseAsk, ParseFault>
         return Ok(LeaseAsk::Tell);
     };
     let (word, behind) = first_word(text);
-    let Some(ask) = lease_of(word) else {
-        return Err(Fault::BadNumber.at(2));
-    };
-    end_of_words(behind, 3)?;
-    Ok(ask)
+    match lease_of(word) {
+        Some(ask) => {
+            end_of_words(behind, 3)?;
+            Ok(ask)
+        }
+        None => Err(Fault::BadNumber.at(2)),
+    }
 }
 
 /// Which line these words ask about.
@@ -226,10 +228,7 @@ fn asked_own<'l, A: Allocator + Copy>(
             let name = name(words)?;
             Ok(LineAsk::Name(name))
         }
-        Own::Lease => {
-            let ask = lease(words)?;
-            Ok(LineAsk::Verb(Verb::Lease { ask }))
-        }
+        Own::Lease => Ok(LineAsk::Verb(Verb::Lease { ask: lease(words)? })),
         Own::Why => alone(Verb::Show(View::Why), words),
         Own::Help => {
             let topic = topic(words)?;

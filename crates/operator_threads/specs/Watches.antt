@@ -45,8 +45,8 @@ pub record AnswersCall (start : Desk) (publisher : Book) (moment : ℕ) (old new
   pub name : new.name ≡ old.name
   pub trouble : new.trouble ≡ trouble_after line answer old.trouble
 
--- The call of a line is refused at a version no earlier than the last call known, and its line is told: the desk doesn't
--- take it. It is the last line that was faulty or refused, and nothing else has changed.
+-- The call of a line is refused at a version no earlier than the last call known, and its line is told: the desk
+-- doesn't take it. It is the last line that was faulty or refused, and nothing else has changed.
 pub record IsClosed (old new : SittingOf) (line said : List ℕ) : Type 0 where
   pub version : ℕ
   pub least : length old.known.lists ≤ version

@@ -18,9 +18,9 @@ use std::sync::{MutexGuard, Wait};
 
 /// An operator at a shared desk. It is not `Drop`, so that the seat is given back: end it by [`AtDesk::leave`].
 ///
-/// As a [`LineDesk`] it answers each call by `SharedDesk::call` with its own seat, unless the desk's lease has ended and
-/// is of another name. It wakes the front after each accepted call. What the desk has no answer for ends the connection,
-/// and the bridge.
+/// As a [`LineDesk`] it answers each call by `SharedDesk::call` with its own seat, unless the desk's lease has ended
+/// and is of another name. It wakes the front after each accepted call. What the desk has no answer for ends the
+/// connection, and the bridge.
 pub struct AtDesk<'b, 'a, H: DeskBrand, R: Wait, F: Wake> {
     pub(crate) operators: &'b Operators<'a, H>,
     pub(crate) rt: &'b R,
