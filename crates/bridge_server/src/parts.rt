@@ -74,7 +74,7 @@ pub(crate) fn sockets_of<R: Wait>(
             tcp,
             has_callers: true,
             lobby,
-            moments,
+            moments: moments.again(),
         },
         waker,
         moments,

@@ -37,7 +37,7 @@ form_word_text places.Most = codes "N: how many calls at most, 0 to 184467440737
 form_word_text places.Names = codes "names: each call is told with its moment and its name"
 form_word_text places.Name = codes "NAME: 1 to 64 octets without a space; - is no name"
 form_word_text places.Lease =
-    codes "MS: for how many ms all may call, 0 to 4294967295, or off: for good; what is left, where it is left out"
+    codes "MS: for how many ms all may call, 0 to 4294967295, or off; without it what is left is told"
 form_word_text places.Word = codes "WORD: the first word of a line"
 
 -- the form of a line

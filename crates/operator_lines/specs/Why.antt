@@ -161,7 +161,7 @@ told_lines (Faulty word fault) = fault_advice_line fault
 told_lines (Refused refusal) = refusal_line refusal
 told_lines Taken = codes "refused 22 LogTaken the log is another bridge's: start the bridge anew\n"
 told_lines Closed =
-    codes "refused 27 Closed the lease has ended: only its holder may call, till a new one or `lease off` is given\n"
+    codes "refused 27 Closed the lease has ended: only its holder may call, till a new one or `lease off`\n"
 
 -- the line of the command of a group that is refused, or of the call that stands in the way; commands count from 0
 abbrev pub part_lines : Wrong → List ℕ

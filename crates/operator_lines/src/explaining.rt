@@ -77,7 +77,7 @@ fn append_told(alloc: Global, wrong: Wrong, out: &mut Vec<u8>) -> Result<(), All
             b"refused 22 LogTaken the log is another bridge's: start the bridge anew\n",
         ),
         Wrong::Closed => out.extend_from_slice(
-            b"refused 27 Closed the lease has ended: only its holder may call, till a new one or `lease off` is given\n",
+            b"refused 27 Closed the lease has ended: only its holder may call, till a new one or `lease off`\n",
         ),
     }
 }

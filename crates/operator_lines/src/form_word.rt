@@ -59,7 +59,7 @@ impl FormWord {
             FormWord::Names => b"names: each call is told with its moment and its name",
             FormWord::Name => b"NAME: 1 to 64 octets without a space; - is no name",
             FormWord::Lease =>
-                b"MS: for how many ms all may call, 0 to 4294967295, or off: for good; what is left, where it is left out",
+                b"MS: for how many ms all may call, 0 to 4294967295, or off; without it what is left is told",
             FormWord::Word => b"WORD: the first word of a line",
         }
     }

@@ -8,8 +8,8 @@ use std::marker::Model;
 use std::time::{Clock, Duration, Instant, SystemTime, UNIX_EPOCH};
 
 /// A clock that begins with the system's time and never goes back, whatever happens to the system's time.
-/// Contracts see its beginning, in nanoseconds since 1970. A copy tells the same moments.
-#[derive(Clone, Copy)]
+/// Contracts see its beginning, in nanoseconds since 1970.
+#[derive(Drop)]
 pub struct Moments {
     /// The beginning, in nanoseconds since 1970.
     start: u64,
@@ -40,6 +40,16 @@ impl Moments {
             start: nanos(since_1970),
             begun: Instant::now(rt)?,
         })
+    }
+
+    /// The same clock.
+    pub fn again(&self) -> Self
+        ensures { result ≡ self.now }
+    {
+        Self {
+            start: self.start,
+            begun: self.begun,
+        }
     }
 
     /// The beginning, in nanoseconds since 1970.
