@@ -1,6 +1,6 @@
 -- What is shown of what a bridge counts (own), and its lines.
 use Rattle.std.specs.Prelude.{◌≡◌, ℕ, ◌-◌, ◌/◌, List, [], ◌∷◌, ◌++◌, map, codes, Option, None, Some, ℤ, All}
-use Rattle.std.specs.Prelude.{nat_eq, if◌then◌else◌}
+use Rattle.std.specs.Prelude.{nat_eq, ◌&&◌, if◌then◌else◌}
 use Rattle.std.specs.List.{flat_map}
 use Rattle.rtp_codec.specs.declared.address.Address.{Address}
 use Rattle.ingress.specs.inner.Holding.{IngressOf}
@@ -99,6 +99,13 @@ left_out_line sources strangers streams reports =
     (words (codes "sources") ∷ number sources ∷ words (codes "strangers") ∷ number strangers
     ∷ words (codes "streams") ∷ number streams ∷ words (codes "reports") ∷ number reports ∷ [])
 
+-- this line, if anything was left out
+abbrev pub left_out_text : StatsShown → OthersShown → List ℕ
+left_out_text shown others =
+    if nat_eq shown.left_out_sources 0 && (nat_eq shown.left_out_strangers 0
+    && (nat_eq others.left_out_streams 0 && nat_eq shown.left_out_reports 0)) then []
+    else left_out_line shown.left_out_sources shown.left_out_strangers others.left_out_streams shown.left_out_reports
+
 -- the parts of a source's packet: its SSRC and its extended number, or marks that there is none
 abbrev pub highest_parts : Option (ℕ × ℤ) → List LinePart
 highest_parts None = no_word ∷ no_word ∷ []
@@ -152,6 +159,11 @@ limited_line limited =
     (words (codes "nacks") ∷ number limited.nacks ∷ words (codes "blocks") ∷ number limited.blocks
     ∷ words (codes "plis") ∷ number limited.plis ∷ [])
 
+-- this line, if the rate limiter left out anything
+abbrev pub limited_text : Limited → List ℕ
+limited_text limited =
+    if nat_eq limited.nacks 0 && (nat_eq limited.blocks 0 && nat_eq limited.plis 0) then [] else limited_line limited
+
 -- the drops at a socket, or a mark that the system doesn't tell them
 abbrev pub drops_part : Option ℕ → LinePart
 drops_part None = no_word
@@ -173,13 +185,8 @@ seats_line seats = line_text (codes "seats") (number seats.used ∷ words (codes
 abbrev pub others_text : OthersShown → List ℕ
 others_text others =
     flat_map stream_line others.streams.now ++ (flat_map lane_line others.lanes.now
-    ++ (limited_line others.limited
+    ++ (limited_text others.limited
     ++ (socket_line others.socket ++ (seats_line others.seats ++ codes "end\n"))))
-
--- what was left out
-abbrev pub left_out_text : StatsShown → OthersShown → List ℕ
-left_out_text shown others =
-    left_out_line shown.left_out_sources shown.left_out_strangers others.left_out_streams shown.left_out_reports
 
 -- all that is counted: the outcomes, sources, senders that are no source, what was left out, and what others count
 abbrev pub stats_text : StatsShown → OthersShown → List ℕ

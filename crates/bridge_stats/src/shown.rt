@@ -4,7 +4,7 @@ ghost use Rattle.std.specs.Prelude.{◌≡◌, ◌+◌, ◌<◌, ◌++◌, [], c
 ghost use Rattle.std.specs.List.{flat_map};
 ghost use Rattle.bridge_stats.specs.Shown.{kind_text, source_line, stranger_line, left_out_line, stream_line};
 ghost use Rattle.bridge_stats.specs.Shown.{lane_line, limited_line, socket_line, seats_line};
-ghost use Rattle.bridge_stats.specs.Shown.{left_out_text, others_text, stats_text};
+ghost use Rattle.bridge_stats.specs.Shown.{left_out_text, limited_text, others_text, stats_text};
 ghost use Rattle.bridge_stats.specs.inner.Growing.{buffer_of, Grows};
 
 use crate::appending::{LineField, append, append_line};
@@ -55,7 +55,7 @@ impl StatsShown {
 }
 
 /// Appends the line of what was left out.
-fn append_left_out<A: Allocator>(
+fn append_left_out_line<A: Allocator>(
     sources: u64,
     strangers: u64,
     streams: u64,
@@ -77,8 +77,30 @@ fn append_left_out<A: Allocator>(
     append_line(b"left-out", &fields, out)
 }
 
+/// Appends the line of what was left out, if anything was.
+fn append_left_out<A: Allocator>(
+    shown: &StatsShown,
+    others: &OthersShown<'_>,
+    out: &mut Vec<u8, A>,
+) -> Result<(), AllocError>
+    ensures { Grows (buffer_of out.old) (buffer_of out.new) (left_out_text shown.now others.now) result }
+{
+    let sources = shown.left_out_sources;
+    let strangers = shown.left_out_strangers;
+    let streams = others.left_out_streams;
+    let reports = shown.left_out_reports;
+    if sources == 0 && strangers == 0 && streams == 0 && reports == 0 {
+        append(b"", out)
+    } else {
+        append_left_out_line(sources, strangers, streams, reports, out)
+    }
+}
+
 /// Appends the line of what the rate limiter left out.
-fn append_limited<A: Allocator>(limited: &Limited, out: &mut Vec<u8, A>) -> Result<(), AllocError>
+fn append_limited_line<A: Allocator>(
+    limited: &Limited,
+    out: &mut Vec<u8, A>,
+) -> Result<(), AllocError>
     ensures { Grows (buffer_of out.old) (buffer_of out.new) (limited_line limited.now) result }
 {
     let fields = [
@@ -90,6 +112,17 @@ fn append_limited<A: Allocator>(limited: &Limited, out: &mut Vec<u8, A>) -> Resu
         LineField::Number(limited.plis),
     ];
     append_line(b"limited", &fields, out)
+}
+
+/// Appends the line of what the rate limiter left out, if that is anything.
+fn append_limited<A: Allocator>(limited: &Limited, out: &mut Vec<u8, A>) -> Result<(), AllocError>
+    ensures { Grows (buffer_of out.old) (buffer_of out.new) (limited_text limited.now) result }
+{
+    if limited.nacks == 0 && limited.blocks == 0 && limited.plis == 0 {
+        append(b"", out)
+    } else {
+        append_limited_line(limited, out)
+    }
 }
 
 /// Appends the line of the socket for datagrams.
@@ -145,7 +178,7 @@ fn append_behind_lanes<A: Allocator>(
     out: &mut Vec<u8, A>,
 ) -> Result<(), AllocError>
     ensures { Grows (buffer_of out.old) (buffer_of out.new)
-        (limited_line others.now.limited
+        (limited_text others.now.limited
         ++ (socket_line others.now.socket ++ (seats_line others.now.seats ++ codes "end\n"))) result }
 {
     append_limited(&others.limited, out)?;
@@ -158,7 +191,7 @@ fn append_behind_streams<A: Allocator>(
     out: &mut Vec<u8, A>,
 ) -> Result<(), AllocError>
     ensures { Grows (buffer_of out.old) (buffer_of out.new)
-        (flat_map lane_line others.now.lanes.now ++ (limited_line others.now.limited
+        (flat_map lane_line others.now.lanes.now ++ (limited_text others.now.limited
         ++ (socket_line others.now.socket ++ (seats_line others.now.seats ++ codes "end\n")))) result }
 {
     append_lines(others.lanes, out)?;
@@ -185,14 +218,7 @@ fn append_behind_strangers<A: Allocator>(
     ensures { Grows (buffer_of out.old) (buffer_of out.new)
         (left_out_text shown.now others.now ++ others_text others.now) result }
 {
-    let streams = others.left_out_streams;
-    append_left_out(
-        shown.left_out_sources,
-        shown.left_out_strangers,
-        streams,
-        shown.left_out_reports,
-        out,
-    )?;
+    append_left_out(shown, others, out)?;
     append_others(others, out)
 }
 

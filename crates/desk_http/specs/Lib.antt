@@ -13,6 +13,7 @@ pub mod Admission
 pub mod Startup
 pub mod Names
 pub mod Readings
+pub mod ZeroLines
 pub mod Metrics
 pub mod Rows
 pub mod Speaking

@@ -12,7 +12,8 @@ use Rattle.desk_http.specs.declared.labelling.Labels.TheVariants as labels
 use Rattle.desk_http.specs.declared.metrics.Unit.{Unit}
 use Rattle.desk_http.specs.declared.metrics.Unit.TheVariants as units
 use Rattle.desk_http.specs.declared.metrics.Family.{Family}
-use Rattle.desk_http.specs.Readings.{answer_lines, words_of, leading_word, found}
+use Rattle.desk_http.specs.Readings.{words_of, leading_word, found}
+use Rattle.desk_http.specs.ZeroLines.{whole_lines}
 
 -- nothing is left
 abbrev pub is_ended : Option (List ℕ) → Bool
@@ -94,4 +95,4 @@ families_text lines families = flat_map (family_text lines) families
 
 -- all families, one after another
 abbrev pub metrics_text : List (Bor (List Family)) → List ℕ → List ℕ
-metrics_text tables text = flat_map (λ families. families_text (answer_lines text) families.now) tables
+metrics_text tables text = flat_map (λ families. families_text (whole_lines text) families.now) tables

@@ -12,8 +12,9 @@ use Rattle.desk_http.specs.declared.rows.HistoryPart.TheVariants.{All, Done, Und
 use Rattle.desk_http.specs.declared.rows.RowKind.{RowKind}
 use Rattle.desk_http.specs.declared.rows.RowKind.TheVariants.{Named, Numbered}
 use Rattle.desk_http.specs.declared.rows.RowShape.{RowShape}
-use Rattle.desk_http.specs.Readings.{answer_lines, words_of, leading_word, word_place, found}
+use Rattle.desk_http.specs.Readings.{words_of, leading_word, word_place, found}
 use Rattle.desk_http.specs.Metrics.{is_number}
+use Rattle.desk_http.specs.ZeroLines.{whole_lines}
 
 -- a text as a value: a number, nothing for `-`, or else a string
 abbrev pub text_token : List ℕ → Token
@@ -78,7 +79,7 @@ shape_tokens lines shape =
 
 -- an answer of the bridge as an object
 abbrev pub document_tokens : List RowShape → List ℕ → List Token
-document_tokens shapes text = begin_object ∷ (flat_map (shape_tokens (answer_lines text)) shapes ++ end_object ∷ [])
+document_tokens shapes text = begin_object ∷ (flat_map (shape_tokens (whole_lines text)) shapes ++ end_object ∷ [])
 
 -- an answer of the bridge as JSON
 abbrev pub json_text : List RowShape → List ℕ → List ℕ

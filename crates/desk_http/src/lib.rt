@@ -51,6 +51,7 @@ mod startup;
 mod stats_shapes;
 mod stream_metrics;
 mod text_edit;
+mod zero_lines;
 
 pub use admission::{ClientActivity, ClientStage, Placement, admit, admits_stream, keeps_up};
 pub use bridge_connection::BridgeConnection;

@@ -17,7 +17,8 @@ ghost use Rattle.desk_http.specs.Metrics.{
 ghost use Rattle.desk_http.specs.Readings.{found};
 
 use crate::labelling::{Labels, append_labels, append_texts};
-use crate::reading::{WordPlace, answer_lines, leading_word, text_at, words_of};
+use crate::reading::{WordPlace, leading_word, text_at, words_of};
+use crate::zero_lines::whole_lines;
 use std::alloc::{AllocError, Global};
 
 /// What a number of a line counts.
@@ -189,7 +190,7 @@ pub(crate) fn metrics_text(
 ) -> Result<Vec<u8>, AllocError>
     ensures { IfOk result (λ told. told.items ≡ metrics_text tables.now text.now) }
 {
-    let lines = answer_lines(alloc, text)?;
+    let lines = whole_lines(alloc, text)?;
     let mut out = Vec::new(alloc);
     append_tables(alloc, &mut out, tables, &lines)?;
     Ok(out)

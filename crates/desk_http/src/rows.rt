@@ -20,7 +20,8 @@ ghost use Rattle.desk_http.specs.Rows.{
 };
 
 use crate::metrics::is_number;
-use crate::reading::{WordPlace, answer_lines, leading_word, text_at, word_place, words_of};
+use crate::reading::{WordPlace, leading_word, text_at, word_place, words_of};
+use crate::zero_lines::whole_lines;
 use json::Writer;
 use std::alloc::{AllocError, Global};
 
@@ -275,7 +276,7 @@ pub(crate) fn json_text(
 ) -> Result<Vec<u8>, AllocError>
     ensures { IfOk result (λ told. told.items ≡ json_text shapes.now text.now) }
 {
-    let lines = answer_lines(alloc, text)?;
+    let lines = whole_lines(alloc, text)?;
     let mut writer = Writer::new(Vec::new(alloc));
     writer.begin_object()?;
     write_shapes(alloc, &mut writer, shapes, &lines)?;

@@ -298,7 +298,7 @@ STATS = [
     "datagrams 3 octets 51 dropped rtp 3 Csrc",
     "source 127.0.0.1:6000 201 packets 50 octets 8600 late 0 duplicate 0 dropped 1 expected 50 lost 0 ago 4 jitter 0 "
     "frames - given-up - waiting - samples 8000 energy 7626100", "stranger 10.0.0.9:5000 777 type 100 packets 12",
-    "left-out sources 0 strangers 0 streams 0 reports 0", "limited nacks 4 blocks 0 plis 1", "seats 2 of 4",
+    "left-out sources 0 strangers 3 streams 0 reports 0", "limited nacks 4 blocks 0 plis 1", "seats 2 of 4",
 ]  # fmt: skip
 LEVELS = ["level 127.0.0.1:6000 201 8000 7626100"]
 # The groups that make some rows again.

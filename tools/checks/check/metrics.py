@@ -4,7 +4,7 @@ Each line of /metrics has the text format of Prometheus: a family has its HELP a
 which stand together, and no two of them have the same labels. What a bridge's own `stats` counts is there, number by
 number. A request to send, or one of another host, gets none of it. Where Prometheus is installed (Debian's package
 prometheus), one scrapes the page every second, and has the numbers. With --model a stand-in answers in the place of a
-bridge, by lines that are fixed, and then by a fault, as an older bridge does.
+bridge, by lines that are fixed, then by none, as where all numbers are 0, and then by a fault, as an older bridge does.
 """
 
 import contextlib
@@ -99,6 +99,11 @@ STATS = [
             "round_trip_ms": None,
         },
     ),
+]
+# What stands for a line that isn't there: a key of /stats, a metric, and its kinds.
+ZEROS = [
+    ("left_out", "confbridge_uncounted_datagrams_total", ("sources", "strangers", "streams", "reports")),
+    ("limited", "confbridge_limited_feedback_total", ("nacks", "blocks", "plis")),
 ]
 # The format's lines, as https://prometheus.io/docs/instrumenting/exposition_formats has them.
 NAME = r"[a-zA-Z_:][a-zA-Z0-9_:]*"
@@ -203,13 +208,24 @@ def tells_all(page):
     check(told["seats"] == {"used": 2, "of": 4} and told["left_out"]["strangers"] == 5, f"/stats has {told['seats']}")
 
 
+def tells_zeros(page):
+    """What a bridge tells by no line, since all its numbers are 0, is 0."""
+    found, told = scraped(page), counted(page)
+    for key, name, kinds in ZEROS:
+        check(told[key] == dict.fromkeys(kinds, 0), f"/stats has {told[key]} under {key}")
+        for kind in kinds:
+            check(found.get(f'{name}{{kind="{kind}"}}') == 0, f"{name} of {kind} isn't 0")
+
+
 def by_model(args, folder):
-    """A stand-in counts, and then it is an older one that doesn't."""
+    """A stand-in counts, then it has nothing to count, and then it is an older one that doesn't."""
     one = Standin()
     with running(args, folder, one.server_address[1]) as page:
         is_guarded(page)
         tells_all(page)
         scrapes(args, folder, page.port, SAMPLES)
+        one.counted = "end\n"
+        tells_zeros(page)
         one.counted = "fault 1 3 UnknownWord\n"
         for path in "/metrics", "/stats":
             status, _, text = page.ask("GET", path)
