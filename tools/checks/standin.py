@@ -14,7 +14,8 @@ from operators.models.desk import Log
 from operators.models.lines import COMMANDS, TURNS
 
 RESERVED = (
-    "show", "groups", "history", "calls", "stats", "levels", "watch", "as", "why", "help", "quit", "stop", "names",
+    "show", "groups", "history", "calls", "stats", "levels", "lease", "watch", "as", "why", "help", "quit", "stop",
+    "names",
 )  # fmt: skip
 MOST_CALLS, MOST_PAST = 256, 512
 LONGEST_NAME, LONGEST_CHANGE = 800, 262_144

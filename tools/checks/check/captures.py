@@ -281,7 +281,7 @@ NAMED = [
 LISTED = ["call 1 1800000000001 0 - add-room 1 8000", "call 2 1800000000002 1 mute add-room 2 44100"]
 HELP = [
     "mute SOURCE", "pin ROOM SOURCE", "undo LAST", "group COMMAND / COMMAND ..", "show", "groups", "history [N]",
-    "calls [N]", "stats", "levels", "watch [names]", "as NAME", "why", "help [WORD]", "quit", "stop",
+    "calls [N]", "stats", "levels", "watch [names]", "as NAME", "lease [MS]", "why", "help [WORD]", "quit", "stop",
 ]  # fmt: skip
 HELP_OF_MUTE = [
     "mute SOURCE", "SOURCE: the SSRC of a source, 0 to 4294967295", "refused 10 Already nothing to do",
@@ -306,6 +306,8 @@ GROUPS = [
     "group add-room 1 8000 / add-member 10 1 127.0.0.1:6000 pcmu 9001 0 0 / add-source 201 10 audio",
     "group mute 201 / set-gain 10 201 128",
 ]  # fmt: skip
+# Lines that are about a lease, and their answers, which look like further ones.
+LEASES = [("lease 5000", "lease 5000 agent-fleet"), ("lease", "lease 4200 agent-fleet"), ("lease", "lease 0 -")]
 # What an operator asks that is no call, and the rows of the answer.
 ASKED = {
     "groups": GROUPS, "calls": LISTED, "calls 2": LISTED, "help": HELP, "help mute": HELP_OF_MUTE, "why": WHY,
@@ -331,7 +333,9 @@ def talk(pairs, has_syn):
 def check_asked():
     """What an operator asks has its own answer, also where several lines come at once and some are faulty."""
     asked = [
-        ("as ann", ["as ann"]), ("as", ["fault 2 4 MissingWord"]), ("undo", ["fault 2 4 MissingWord"]),
+        ("lease off", ["lease off"]), ("lease 5000", ["lease 5000 -"]), ("lease", ["lease 4200 agent-fleet"]),
+        ("lease x", ["fault 2 6 BadNumber"]), ("as ann", ["as ann"]), ("as", ["fault 2 4 MissingWord"]),
+        ("undo", ["fault 2 4 MissingWord"]),
         ("why", [*WHY, "end"]), ("why not", ["fault 2 5 ExtraWord"]), ("revert 7", ["no 12 23 NotInForce"]),
         ("why", [*WHY_REFUSED, "end"]), ("help", [*HELP, "end"]), ("help mute", [*HELP_OF_MUTE, "end"]),
         ("stats", [*STATS, "end"]), ("levels", [*LEVELS, "end"]), ("show", [*ROWS, "end 12"]),
@@ -356,6 +360,8 @@ def check_rows():
     count = 0
     for has_syn in True, False:
         others = [[(["help"], [*HELP, "end"])], [(["as ann"], ["as ann"]), (["help"], [*HELP, "end"])]]
+        others += [[([one], [said])] for one, said in LEASES]
+        others += [[(["lease off"], ["lease off"]), (["mute 201"], ["ok 1"])]]
         others += [[([question], [*rows, "end 2"])] for question, rows in ASKED.items()]
         others += [[(["watch names"], ["end 12"]), ([], NAMED)]]
         others += [[(["undo"], ["fault 2 4 MissingWord"]), (["why"], WHY)]]

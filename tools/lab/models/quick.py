@@ -5,7 +5,7 @@ media.
 
 Each has rooms from FIRST on at its begin, with so many members. LOG gets a line for each room that a desk gets (`+`) or
 loses (`-`), with the moment. A line on standard input is answered by how many looks there were at desks to which
-nothing had happened (`history 0`). served.py has all commands, and takes longer for each.
+nothing had happened (`history 0`). No lease closes a desk. served.py has all commands, and takes longer for each.
 """
 
 import asyncio
@@ -112,6 +112,8 @@ class Desk:
             return f"end {self.version}"
         if line.startswith("as "):
             return line
+        if line.startswith("lease "):
+            return f"{line} agent-fleet"
         if line.startswith("history "):
             calls = list(self.calls)[-int(line[8:]) :] if line != "history 0" else []
             return "\n".join([*calls, f"end {self.version}"])

@@ -7,6 +7,7 @@ closes no connection for its silence, and it counts nothing for `stats` and `lev
 answers to these.
 """
 
+import math
 import os
 import pathlib
 import socket
@@ -39,8 +40,30 @@ class Front(socketserver.ThreadingTCPServer):
         self.log.desk.bridge = ssrc
         # The line of each accepted call as `calls` tells it.
         self.stamped = []
+        # The lease: when it ends, and the name of who gave it.
+        self.lease = None
         # The answers to some lines.
         self.answers = {"stats": lambda: ["end"], "levels": lambda: ["end"]}
+
+
+    def leased(self):
+        """What the line `lease` tells."""
+        if self.lease is None:
+            return "lease off"
+        end, name = self.lease
+        return f"lease {max(0, math.ceil(1000 * (end - time.monotonic())))} {name}"
+
+    def gets_lease(self, word, name):
+        """The answer to a line that gives a lease, or takes it."""
+        if word == "off":
+            self.lease = None
+            return "lease off"
+        self.lease = time.monotonic() + int(word) / 1000, name
+        return f"lease {word} {name}"
+
+    def is_closed_to(self, name):
+        """Whether the lease has ended, and was given by another name than this one."""
+        return self.lease is not None and time.monotonic() >= self.lease[0] and not self.lease[1] == name != "-"
 
 
 class Operator(socketserver.StreamRequestHandler):
@@ -108,6 +131,10 @@ class Operator(socketserver.StreamRequestHandler):
             lines = [f"end {log.version}"]
         elif words in (["stats"], ["levels"]):
             lines = self.server.answers[words[0]]()
+        elif words[0] == "lease":
+            lines = [self.server.gets_lease(words[1], self.name) if words[1:] else self.server.leased()]
+        elif self.server.is_closed_to(self.name):
+            lines = [f"no {log.version} 27 Closed"]
         else:
             lines = [log.call(words, seat)]
         self.says("\n".join(lines))

@@ -16,13 +16,15 @@ from operators.models.lines import ALONE
 USUAL_UDP = "5004"
 # A line that a bridge alone says.
 ANSWER = re.compile(
-    r"ok [0-9]+|no [0-9]+ [0-9]+ \w+.*|end( [0-9]+)?|fault [0-9]+ [0-9] \w+|busy|call [0-9]+ [0-9]+ .*", re.ASCII
+    r"ok [0-9]+|no [0-9]+ [0-9]+ \w+.*|end( [0-9]+)?|fault [0-9]+ [0-9] \w+|busy|call [0-9]+ [0-9]+ .*"
+    r"|lease [0-9]{1,10} [!-~]{1,64}",
+    re.ASCII,
 )
 # A line of HTTP. What the page tells browsers are lines of a desk, too.
 HTTP = re.compile(r"[A-Z]{3,7} \S+ HTTP/1\.[01]|HTTP/1\.[01] [0-9]{3}\b.*", re.ASCII)
 # The calls that are spelled as rows of a desk are. Lines that are no calls stand in an answer of `help`, too, and the
-# answer to `as` is spelled as the line is: what says surely who is the bridge counts as so many of these. A group is
-# an operator's call, or stands in an answer of `groups`.
+# answers to `as` and `lease off` are spelled as the lines are: what says surely who is the bridge counts as so many of
+# these. A group is an operator's call, or stands in an answer of `groups`.
 ROWS, SURE, GROUP = ("mute ", "pin "), 100, "group "
 # The header of RTP, in octets.
 HEADER = 12

@@ -62,7 +62,9 @@ ITEMS = {
 # How many octets a line of a script has at most, and one that begins with `item `.
 LINE_LIMIT, ITEM_LIMIT = 2**16, 2**23
 # The first words of operators' lines that are no calls.
-ALONE = ("show", "groups", "history", "calls", "stats", "levels", "watch", "as", "why", "help", "quit", "stop")
+ALONE = (
+    "show", "groups", "history", "calls", "stats", "levels", "lease", "watch", "as", "why", "help", "quit", "stop",
+)  # fmt: skip
 # The most octets of an operator's name.
 NAME_LIMIT = 64
 # How many of a command's last words may be left out.
@@ -148,12 +150,14 @@ def read_call(words):
 
 def read_alone(words):
     """Raises the first fault of the words of an operator's line that is no call."""
-    most = 2 if words[0] in ("history", "calls", "as", "help") or words[:2] == ["watch", "names"] else 1
+    most = 2 if words[0] in ("history", "calls", "lease", "as", "help") or words[:2] == ["watch", "names"] else 1
     if words[0] == "as" and len(words) < 2:
         raise Fault(2, 4)
     if words[1:]:
         if words[0] in ("history", "calls"):
             judge(words[1], U64, 2)
+        elif words[0] == "lease" and words[1] != "off":
+            judge(words[1], U32, 2)
         elif words[0] == "as" and not 1 <= len(words[1]) <= NAME_LIMIT:
             raise Fault(2, 3)
         elif words[0] == "help" and words[1] not in (*COMMANDS, *TURNS, "group", *ALONE):
