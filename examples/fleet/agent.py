@@ -17,15 +17,16 @@ from keeping import Keeping, log
 from known import FLEET, NEW, Store
 from leader import AT_ONCE, EMPTY, Leader
 from leased import Lease
-from past import names_in, rooms_of
+from lost import differing, lost_of
+from past import names_in
 from refused import FAILED, Refused, words_of
 
 # The seconds between two looks where nothing happens, and where something is wrong.
 PAUSE, TROUBLED = 1, 0.25
-# For how many seconds an agent that begins waits for etcd, before it says that there is none.
+# For how many seconds an agent that begins, or has a new lease, waits to know all, before it says that there is no etcd.
 BEGINS = 5
-# How many calls that were taken back are remembered, and how many that were lost.
-TAKEN, LOST = 64, 64
+# How many calls that may be lost are remembered.
+LOST = 64
 
 
 class Agent(Keeping):
@@ -36,21 +37,22 @@ class Agent(Keeping):
         self.copy, self.troubles, self.spoiled = Copy(self.store), {}, set()
         self.lease = Lease(self.store, self.lasts, self.begins, log)
         self.leader = Leader(self)
-        # Calls of operators that were taken back since their rooms might have gone elsewhere, and those that were lost.
-        self.taken, self.lost = collections.deque(maxlen=TAKEN), collections.deque(maxlen=LOST)
-        self.closed = threading.Event()
+        # The revision at which the others know its lease; and calls of operators that may be lost.
+        self.since, self.lost, self.closed = 0, collections.deque(maxlen=LOST), threading.Event()
         self.copy.heard.append(self.hears)
-        self.guards = {one.name: Guard(one, self.lease, self.rooms, self.tells) for one in bridges}
+        self.guards = {one.name: Guard(one, self.lease) for one in bridges}
         for bridge in bridges:
             bridge.remembered = self.remembers
 
     def run(self):
         self.starts(self.copy.run)
         self.starts(self.lease.run)
+        for guard in self.guards.values():
+            # Also without etcd: the desks are closed then.
+            self.starts(guard.run)
         self.copy.until(lambda known: True, BEGINS)
         for name, bridge in self.bridges.items():
             self.starts(self.again, name, bridge.desk.waits, self.tend, bridge)
-            self.starts(self.guards[name].run)
         self.starts(self.again, "the fleet", self.leader.woken.wait, self.leader.settle)
         self.starts(self.again, "bridges without agents", self.leader.late.wait, self.leader.ask_late)
 
@@ -58,7 +60,8 @@ class Agent(Keeping):
         threading.Thread(target=work, args=given, daemon=True).start()
 
     def close(self):
-        """Ends, and lets another agent be the leader."""
+        """Ends, and lets another agent be the leader. The desks close once the lease has ended: nobody keeps what is
+        called there."""
         self.closed.set()
         self.copy.closed.set()
         self.lease.closed.set()
@@ -102,7 +105,7 @@ class Agent(Keeping):
     def begins(self, lease):
         """Has a new lease, by which the others know this agent."""
         key = f"agents/{self.url.partition('//')[2]}"
-        self.copy.put(key, {"url": self.url}, lease)
+        self.since = self.copy.put(key, {"url": self.url}, lease)
 
     def demand(self):
         """Refuses what is asked of a bridge where other agents may have given its rooms away."""
@@ -115,20 +118,10 @@ class Agent(Keeping):
         lost = self.lease.lost_for()
         if str(why) != GONE or not lost:
             return why
-        names = ", ".join(name for name, bridge in self.bridges.items() if bridge.is_there)
+        names = ", ".join(name for name, bridge in self.bridges.items() if bridge.desk.stream)
         words = f"{GONE.partition('. ')[0]}. This agent has had no word of its fleet for {lost:.0f} s."
-        rooms = f" The rooms of {names} may be on others by now, and calls at that desk are taken back." if names else ""
+        rooms = f" The rooms of {names} may be on others by now, and that desk is closed." if names else ""
         return Refused(f"{words}{rooms} Ask another agent.")
-
-    def rooms(self):
-        """The numbers of the fleet's rooms, as far as is known."""
-        with self.copy.lock:
-            return {*self.copy.known.rooms}
-
-    def tells(self, is_taken, words):
-        """Says what has become of an operator's call: it was taken back, or may be lost."""
-        (self.taken if is_taken else self.lost).append(words)
-        log(words)
 
     def tell_of(self, spoiled):
         """Says of keys that they hold what no agent has put there."""
@@ -150,21 +143,31 @@ class Agent(Keeping):
                     self.loses(bridge)
                 raise
             self.announce(bridge)
+            self.learn(bridge)
             self.bring_all(bridge)
             here = {room: one for room, one in self.records(bridge).items() if one[0]["on"] == bridge.name}
             self.keep(bridge, here)
             for room, (record, revision) in here.items():
                 self.end_empty(bridge, room, record, revision)
             bridge.is_anew = False
-            self.give_up(bridge)
             self.end_drain(bridge)
+
+    def learn(self, bridge):
+        """Learns which rooms are a bridge's. From then on its desk takes calls for as long as the lease lasts."""
+        guard, lease = self.guards[bridge.name], self.lease.id
+        # Rooms may have gone elsewhere before the others knew of this lease.
+        if guard.known != lease and not self.copy.until(lambda _: self.copy.revision >= self.since, BEGINS):
+            raise Refused(GONE)
+        self.give_up(bridge)
+        guard.opens(lease)
 
     def bring_all(self, bridge):
         """Brings the rooms that are to come to a bridge, at once. Whoever has the bridge's lock does so first, since they
-        may be nowhere."""
+        may be nowhere. Operators' calls can be made again while the desk is open."""
         may_come = lambda one: one["to"] == bridge.name != one["on"] and (one["on"] is None or one["ready"])
         coming = {room: one for room, one in self.records(bridge).items() if may_come(one[0])}
-        if coming:
+        if coming and self.guards[bridge.name].is_open():
+            self.tell_lost(bridge, coming.keys() & bridge.rooms.keys())
             self.bring(bridge, dict(list(coming.items())[:AT_ONCE]))
 
     def records(self, bridge):
@@ -178,44 +181,56 @@ class Agent(Keeping):
         with self.copy.lock:
             known = self.copy.known
             before, revision = known.bridges.get(bridge.name), known.revisions.get(f"bridges/{bridge.name}", 0)
-        bridge.is_there, bridge.kept = False, {}
+        bridge.kept = {}
         if before and before["agent"] == self.url:
             self.copy.swap([(f"{FLEET}bridges/{bridge.name}", None, revision)])
 
     def give_up(self, bridge):
         """Gives up the rooms of a desk that have gone elsewhere, and takes in those that an operator has added."""
-        added = {}
+        added, leaving, here = {}, {}, {*bridge.rooms, *bridge.sure}
         with self.copy.lock:
             known = self.copy.known
-            found = {room: (known.rooms.get(room, (None, 0))[0], known.revision(room)) for room in bridge.rooms}
-        leaving = {}
+            found = {room: (known.rooms.get(room, (None, 0))[0], known.revision(room)) for room in here}
         for room, (record, revision) in found.items():
             if record is None:
-                added[room] = NEW | {"on": bridge.name}, revision
+                added |= {room: (NEW | {"on": bridge.name}, revision)} if room in bridge.rooms else {}
             elif bridge.name not in (record["on"], record["to"]):
                 leaving[room] = record["on"]
-        if leaving:
-            self.remove(bridge, leaving)
+        self.tell_lost(bridge, leaving)
+        for room, on in leaving.items():
+            if room in bridge.rooms:
+                log(f"room {room} leaves {bridge.name}: it is on {on}")
+                bridge.remove(room)
+                bridge.left += 1
+            bridge.forget(room)
         # If a number is taken by now, the next look removes the room.
         self.put(bridge, added)
-        guard = self.guards[bridge.name]
-        if guard.is_cut and self.lease.is_good():
-            guard.end()
-            log(f"{bridge.name} is back: {bridge.left} of its rooms had gone elsewhere")
-        bridge.left = bridge.left if guard.is_cut else 0
 
-    def remove(self, bridge, rooms):
-        """Removes rooms that are on other bridges, and says which calls of operators these don't have."""
-        names, sure = names_in(bridge.rooms), {room: bridge.sure.get(room, 0) for room in rooms}
-        for room, on in rooms.items():
-            log(f"room {room} leaves {bridge.name}: it is on {on}")
-            bridge.remove(room)
-            bridge.left += 1
-        for call in bridge.desk.calls_after(min(sure.values()))[0]:
-            of = {room for room in rooms_of(call.words, names) if room is None or room in rooms}
-            late = [room for room in of if call.number > sure.get(room, min(sure.values()))]
-            if late and call.is_persons() and call.number not in self.guards[bridge.name].taken:
-                self.tells(False, f"{call.who()} at {bridge.name} may be lost, since rooms had gone: {call.words}")
+    def tell_lost(self, bridge, rooms):
+        """Says which calls of operators may be lost with rooms that are elsewhere now. An agent that has just begun sees
+        so by their rows, and by what the desk hasn't got any more."""
+        gone = self.others(bridge) if self.guards[bridge.name].known is None else {}
+        if not rooms and not gone:
+            return
+        sure = {room: bridge.sure[room] for room in rooms if room in bridge.sure}
+        kept = self.store.restored(room for room in rooms if room not in sure)
+        differ = {}
+        for room, one in kept.items():
+            differ |= differing(bridge.rooms[room], one.rows if one else [])
+        first = 0 if kept or gone else min(sure.values())
+        calls, why = bridge.desk.calls_after(first), f"at {bridge.name} may be lost, since rooms had gone"
+        told = [f"{one.who()} {why}: {one.words}" for one in lost_of(calls, sure, differ, names_in(bridge.rooms), gone)]
+        if first and calls and calls[0].number > first + 1:
+            told.insert(0, f"calls {first + 1} to {calls[0].number - 1} {why}")
+        for words in told:
+            self.lost.append(words)
+            log(words)
+
+    def others(self, bridge):
+        """The rooms on other bridges that this one's desk hasn't got, and when each was given its first bridge."""
+        with self.copy.lock:
+            rooms = [(room, one) for room, (one, _) in self.copy.known.rooms.items() if room not in bridge.rooms]
+        return {room: one["placed"] for room, one in rooms if bridge.name not in (one["on"], one["to"])}
 
     def end_drain(self, bridge):
         """Stops a bridge that is drained. What etcd says of a drain stops none: somebody has to ask this agent."""
@@ -239,7 +254,6 @@ class Agent(Keeping):
             known = self.copy.known
             before, revision = known.bridges.get(bridge.name), known.revisions.get(f"bridges/{bridge.name}", 0)
             others = before and before["agent"] != self.url and known.has_agent(bridge.name)
-        bridge.is_there = True
         if others:
             raise Refused(f"the agent at {before['agent']} has a bridge of this name")
         if not self.lease.id:

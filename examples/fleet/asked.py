@@ -1,6 +1,6 @@
 """What signalling asks of an agent, by JSON over HTTP. Any agent answers, and passes on what is another one's.
 
-    GET  /                all bridges and rooms, and the calls of operators that were taken back or lost
+    GET  /                all bridges and rooms, and the calls of operators that may be lost
     GET  /where?room=12   its bridge, or the one that it would get now. It is a question: nothing changes. `at` says by
                           its `udp` which one is best for a room without a bridge
     GET  /where?room=12&follow   the same as server-sent events: now, and whenever it changes. Without `room`: those of
@@ -288,5 +288,5 @@ class ForFleet(Handler):
             known = copy.current(READING)
             rooms = {room: record for room, (record, _) in known.rooms.items()}
             told = {"bridges": known.bridges, "draining": known.draining, "agents": [*known.agents]}
-            told |= {"leader": known.leader, "taken_back": [*agent.taken], "lost": [*agent.lost]}
+            told |= {"leader": known.leader, "lost": [*agent.lost]}
             return told | {"rooms": rooms}

@@ -12,10 +12,12 @@ from kept import ROW, by_room, change_of, commands_of, further, groups_of, whole
 from past import LOOKED_AT, MEMBERS, MOVING, History, Past, Pasts, added_by, lines_of
 from printable import printable
 from refused import Refused
-from seat import ANSWERS, Seat, is_end
+from seat import ANSWERS, CLOSED, Seat, is_end
 
 # After how many seconds a bridge that has told nothing is asked.
 HEARTBEAT = 1
+# What is said where the desk is closed while rooms are brought.
+ENDED = "This agent has lost its lease meanwhile. Try again in a second."
 # A room's rows are put whole where there are so many changes to them, or where these have more octets than the rows,
 # and than so many.
 MOST_CHANGES, LEAST_OCTETS = 64, 2000
@@ -39,8 +41,8 @@ class Bridge:
         self.name, self.settings, self.lock = name, settings, threading.Lock()
         host, _, port = settings["tcp"].rpartition(":")
         self.desk = Seat((host, int(port)), settings.get("answers", ANSWERS))
-        # Whether it answers, None before it was asked. Whether it is another one than the last time.
-        self.is_there, self.is_anew = None, False
+        # Whether it is another one than the last time.
+        self.is_anew = False
         # The desk as it was last seen, and when that was; the rows of each room, and those that are kept.
         self.version, self.seen, self.rooms, self.kept = 0, 0.0, {}, {}
         # The rows of the last look, which have the form of rows.
@@ -99,8 +101,7 @@ class Bridge:
             self.pasts.of, self.remembered = self.remembered(self), None
         calls = None if version < self.version else self.desk.taken(self.version, version)
         history = None
-        if calls is None or self.desk.has_turned or any(call.startswith(MOVING) for _, _, call in calls):
-            self.desk.has_turned = False
+        if calls is None or any(call.startswith(MOVING) for _, _, call in calls):
             history = History(self.desk.ask(f"history {LOOKED_AT}", is_end), version)
         self.pasts.follow(self.rooms, rooms, calls, history)
 
@@ -172,6 +173,9 @@ class Bridge:
         Those of a room have to make the rows that it had."""
         calls = sorted((number, room, call) for room, one in rooms.items() for number, call in one.calls)
         said = self.desk.ask_again([call for _, _, call in calls])
+        if any(one.endswith(CLOSED) for one in said):
+            # Once there is a lease again, these rooms are brought anew.
+            raise Refused(ENDED)
         made = {room: [] for _, room, _ in calls}
         for (_, room, call), answer in zip(calls, said):
             if answer.startswith("ok "):
@@ -190,6 +194,9 @@ class Bridge:
 
     def remove(self, room):
         self.desk.group([f"remove-room {room}"])
+        self.forget(room)
+
+    def forget(self, room):
         for one in self.rooms, self.kept, self.sure, self.empty, self.pasts.of:
             one.pop(room, None)
 

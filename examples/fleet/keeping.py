@@ -39,7 +39,7 @@ class Keeping:
 
     def misses(self, bridge, room, record, revision):
         """A room isn't on the desk of its bridge any more."""
-        bridge.kept.pop(room, None)
+        bridge.forget(room)
         if bridge.is_anew or bridge.version < record["version"]:
             log(f"{bridge.name} was started anew, without room {room}")
             self.copy.put_room(room, record | {"on": None, "ready": False}, revision)

@@ -10,11 +10,12 @@ MOST, TIMES = 5, 2.5
 
 
 class Lease:
-    """`begun` is called with each new lease. An answer that comes late is one: only etcd says that a lease is lost."""
+    """`begun` is called with each new lease. An answer that comes late is one: only etcd says that a lease is lost.
+    `heard` are called where it lasts until another moment."""
 
     def __init__(self, store, lasts, begun, log):
         self.store, self.lasts, self.begun, self.log = store, lasts, begun, log
-        self.id, self.until, self.asking, self.trouble = None, 0.0, [], ""
+        self.id, self.until, self.asking, self.trouble, self.heard = None, time.monotonic(), [], "", []
         # `patient`: before this moment others may be as late as this agent was.
         self.patient, self.lost, self.closed = 0.0, threading.Event(), threading.Event()
 
@@ -23,8 +24,8 @@ class Lease:
         return time.monotonic() < self.until
 
     def lost_for(self):
-        """For how many seconds others may know no more that this agent runs: 0 where they know, or never did."""
-        return max(0.0, time.monotonic() - self.until) if self.until else 0.0
+        """For how many seconds others may not know that this agent runs."""
+        return max(0.0, time.monotonic() - self.until)
 
     def run(self):
         while not self.closed.is_set():
@@ -44,6 +45,7 @@ class Lease:
             lease = self.store.lease(self.lasts)
             self.begun(lease)
             self.id, self.until = lease, began + self.lasts
+            self.tell()
             self.says("")
         except Refused as why:
             self.says(str(why))
@@ -59,10 +61,15 @@ class Lease:
                 # Other agents may have lost theirs as well.
                 self.id, self.until = None, min(self.until, time.monotonic())
                 self.lost.set()
+            self.tell()
             self.says("")
         except Refused as why:
             self.patient = time.monotonic() + self.lasts + 2
             self.says(str(why))
+
+    def tell(self):
+        for one in self.heard:
+            one()
 
     def says(self, trouble):
         """Tells once what is wrong."""

@@ -5,6 +5,7 @@ import contextlib
 import select
 import socket
 import threading
+import time
 
 from desk import BUSY, GONE, Desk
 from refused import Refused
@@ -19,10 +20,14 @@ NAME, ELSEWHERE = "agent-fleet", "elsewhere"
 PROGRAM = "agent-"
 # How many seconds a bridge has for an answer, where the settings don't say: after that it is taken for one that is gone.
 ANSWERS = 10
+# The most milliseconds of a lease. After how many seconds its answer is late, so that it is given anew, and how often.
+MOST_MS, LATE, TURNS = 2**32 - 1, 0.1, 2
+# How a bridge answers a call of another name than the lease's, once that has ended; and one before leases to a lease.
+CLOSED, OLDER = " 27 Closed", "fault 1 3 UnknownWord"
 
 
-class Call(collections.namedtuple("Call", "number operator name words")):
-    """A call of somebody else, as `calls` has it."""
+class Call(collections.namedtuple("Call", "number moment operator name words")):
+    """A call, as `calls` has it. Its moment is in milliseconds since 1970."""
 
     def is_persons(self):
         """Whether a person has made it here, and not a program."""
@@ -44,55 +49,83 @@ class Seat(Desk):
         self.seconds = seconds
         self.address, self.lock, self.stream, self.octets, self.is_new = address, threading.Lock(), None, b"", False
         # The number of the last call that was told. All that nobody has looked at yet: their numbers, operators and
-        # words. The numbers of those that the agent made itself; and whether some of these took others' back.
-        self.told, self.fresh, self.own, self.has_turned = 0, collections.deque(maxlen=FRESH), set(), False
+        # words. And the numbers of those that the agent made itself.
+        self.told, self.fresh, self.own = 0, collections.deque(maxlen=FRESH), set()
+        # Says until when others' calls are certainly kept, by this process's clock; how many milliseconds that was when
+        # the desk got a lease, and what it answered.
+        self.until, self.given, self.leased = None, 0, ""
         # What wakes who waits for a call.
         self.bell, self.rope = socket.socketpair()
         self.bell.setblocking(False)
         self.rope.setblocking(False)
 
-    def ask(self, line, is_last=lambda said: True, count=1):
+    @contextlib.contextmanager
+    def held(self):
+        """The connection, for one alone. It is closed where the bridge doesn't answer."""
         with self.lock:
             try:
-                if self.stream is None:
-                    self.connect()
-                said = self.asked(line, is_last, count)
+                yield
             except OSError as why:
                 self.close()
                 raise Refused(BUSY if str(why) == "busy" else GONE) from why
+
+    def ask(self, line, is_last=lambda said: True, count=1):
+        with self.held():
+            if self.stream is None:
+                self.connect()
+            said = self.asked(line, is_last, count)
             self.own |= {int(one[3:]) for one in said if one.startswith("ok ")}
             if len(self.own) > OWN:
                 self.own = {*sorted(self.own)[OWN // 2 :]}
             return said
 
     def ask_again(self, calls):
-        """What the bridge answers to calls that operators made elsewhere."""
-        return self.ask_as(ELSEWHERE, calls)
-
-    def ask_as(self, name, calls):
-        """What the bridge answers to calls that are given under another name."""
-        lines = [f"as {name}", *calls, f"as {NAME}"]
+        """What the bridge answers to calls that operators made elsewhere: they have another name than the lease."""
+        lines = [f"as {ELSEWHERE}", *calls, f"as {NAME}"]
         return self.ask("\n".join(lines), count=len(lines))[1:-1] if calls else []
+
+    def lease(self):
+        """Has the desk take others' calls for as long as they are certainly kept. A new connection begins with that."""
+        with self.held():
+            if self.stream is None:
+                self.connect()
+            else:
+                self.give()
+
+    def give(self):
+        """Gives the desk the lease, again where the answer is late: the bridge has counted from a later moment on."""
+        for _ in range(TURNS):
+            now = time.monotonic()
+            self.given = max(0, min(MOST_MS, int(1000 * (self.until() - now))))
+            (self.leased,) = self.asked(f"lease {self.given}", lambda said: True, 1)
+            if time.monotonic() - now < LATE:
+                break
+
+    def is_older(self):
+        """Whether the bridge knows no leases."""
+        return self.leased == OLDER
 
     def version(self):
         """How many calls there were."""
         return int(self.ask("history 0", is_end)[-1][4:])
 
     def calls_after(self, version):
-        """What others have called since a version, the last ones of very many; and the version now."""
+        """What was called since a version, the last ones of very many."""
         now, asked = self.version(), -1
         while asked < min(now - version, ASKED):
             asked = min(now - version, ASKED)
             *lines, end = self.ask(f"calls {asked}", is_end)
             now = int(end[4:])
         found = [line.split(" ", 5) for line in lines]
-        calls = [Call(int(number), int(operator), name, words) for _, number, _, operator, name, words in found]
-        return [one for one in calls if one.number > version and one.number not in self.own], now
+        calls = [Call(int(number), int(when), int(operator), *more) for _, number, when, operator, *more in found]
+        return [one for one in calls if one.number > version]
 
     def connect(self):
         self.stream, self.octets = socket.create_connection(self.address, self.seconds), b""
         # The page's Undo leaves what a program of such a name did.
         self.asked(f"as {NAME}", lambda said: True, 1)
+        if self.until:
+            self.give()
         self.told, self.is_new = int(self.asked("watch", lambda said: True, 1)[0][4:] or 0), True
         self.fresh.clear()
         if self.told < max(self.own, default=0):

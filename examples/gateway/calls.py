@@ -11,7 +11,7 @@ import time
 import sdp
 from again import NO_MEMBER, Absents, calls_of, key_of, opened_by, screens_in, tied
 from call import Call, log
-from desk import FULL, MUSIC, ROOMS, SPEECH, Desk, Rows, groups_of, in_words
+from desk import FULL, MUSIC, ROOMS, SPEECH, Desk, Rows, groups_of, in_words, is_closed
 from fleet_rooms import LEAST, Fleet
 from invitations import CLOSED, GUEST, HOST
 from keys import Pins
@@ -388,14 +388,17 @@ class Calls(PhoneCalls, Meeting, Mutes):
             time.sleep(0.3)
 
     def clear(self):
-        """Takes the members that have to go from the desk. Where the desk is out of reach, the watch tries again."""
+        """Takes the members that have to go from the desk. Where it is out of reach or closed, the watch tries again."""
         with self.lock:
             while self.leaving:
                 member, camera = self.leaving[0]
                 rows = self.desk.rows()
                 group, *more = groups_of(self.parting(member, camera, rows) if member in rows.members else [])
-                if group and self.desk.group(group) is not None:
-                    self.desk.group([f"remove-member {member}"])
+                refusal = self.desk.group(group) if group else None
+                if refusal is not None and not is_closed(refusal):
+                    refusal = self.desk.group([f"remove-member {member}"])
+                if is_closed(refusal):
+                    return
                 self.do_all(more)
                 self.leaving.pop(0)
 

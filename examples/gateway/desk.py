@@ -13,7 +13,8 @@ SAME_SSRC = "Another member sends under your SSRC, a number that a program draws
 TAKEN = "Another member has the {0} that the gateway took for you. Join again: you get another one."
 FULL = "The bridge is full: it has {1} {0} already. Try again when somebody has left."
 MUSIC = "This room is for music at 44100 Hz. Browsers and phones can join a room for speech."
-REFUSALS = {"Exists": SAME_SSRC, "SsrcTaken": SAME_SSRC, "Full": FULL, "RateMismatch": MUSIC}
+CLOSED = "This bridge takes no changes now: it has lost its fleet, and your room may be on another one. Try again soon."
+REFUSALS = {"Exists": SAME_SSRC, "SsrcTaken": SAME_SSRC, "Full": FULL, "RateMismatch": MUSIC, "Closed": CLOSED}
 # How many rooms a desk has at most (12 Full of docs/FORMATS.md), and the rate of a room for speech.
 ROOMS, SPEECH = 64, 8000
 # How many commands a group has at most, and how many octets a line.
@@ -34,6 +35,11 @@ def in_words(refusal, group=()):
         if name in ("Exists", "SsrcTaken"):
             return TAKEN.format(what)
     return REFUSALS[name].format(*more) if name in REFUSALS else f"The bridge refuses: {refusal}"
+
+
+def is_closed(refusal):
+    """Whether the desk takes no calls for now, as at a bridge that is cut off from its fleet."""
+    return refusal is not None and refusal.split()[2:4] == ["27", "Closed"]
 
 
 def line_of(commands):

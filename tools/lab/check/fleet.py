@@ -12,9 +12,9 @@ What operators do travels with a room: its bridge is killed, its agent is killed
 be undone and reverted where it is then. On desks of calls that are drawn what is kept has to make the rows.
 
 An agent is killed while its bridge runs, and the leader's stands still: no room goes elsewhere. A machine is cut off:
-its agent takes back what operators do there, under a name that says why, and tells what is lost. Once the way is there
-again, calls stay. Signalling follows a room. A watch of etcd ends, and its revisions are compacted. 10,000 changes of
-rooms have to leave a database below 20 MB.
+its desk is closed to operators in time, also where its agent is started anew, is killed or stands still, and what is
+lost is told. Once the way is there again, calls are taken and kept. Signalling follows a room. A watch of etcd ends,
+and its revisions are compacted. 10,000 changes of rooms have to leave a database below 20 MB.
 
 Strangers send requests without the fleet's secret, by other names, twice, and by halves; ask for rooms and never join;
 name members of other rooms; send SIP with routes of their own; and write to etcd what no agent would. Nothing of it may
@@ -64,7 +64,7 @@ PARTS = [
         "step_opens", "step_bodies", "step_secret", "step_questions", "step_leave", "step_halves", "step_kill",
         "step_etcd_lines", "step_empty", "step_move", "step_past", "step_past_and_agent", "step_past_of_two",
         "step_past_refused", "step_past_bounded", "step_cut_moves", "step_agent_alone", "step_lease_lost",
-        "step_leader", "step_follows", "step_cut_off", "step_taken_back", "step_gateways", "step_etcd",
+        "step_leader", "step_follows", "step_cut_off", "step_closes", "step_closed_anew", "step_gateways", "step_etcd",
         "step_full_and_busy", "step_machine", "step_dispatcher", "step_drain",
     ]),
 ]  # fmt: skip

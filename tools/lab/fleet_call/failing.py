@@ -7,8 +7,9 @@ import time
 import urllib.request
 
 from lab.fleet_call.gateways import Engine, Gateway
+from lab.fleet_call.guarding import LONG, NOWHERE
 from lab.fleet_call.machines import Clock, Way
-from lab.fleet_call.parts import LEASE, PAGES, SECRET, AgentPart, BridgePart, signed
+from lab.fleet_call.parts import CLOSED, LEASE, PAGES, SECRET, AgentPart, BridgePart, signed
 from lab.gateway_call.again import Page
 
 from copied import Copy  # noqa: E402
@@ -19,8 +20,6 @@ from known import FLEET, NEW  # noqa: E402
 FOLLOWED, CUT = 62, 63
 # Rooms of the bridges that are drained for a while: a drained bridge without a room is stopped.
 HELD = {"a": 6301, "b": 6302}
-# An address that no machine has here.
-NOWHERE = "198.18.0.1"
 
 
 class Following(threading.Thread):
@@ -60,6 +59,7 @@ class Failing:
         self.comes(said, "an agent is killed alone: the leader says that its bridge runs", 30)
         time.sleep(LEASE)
         self.check(self.places() == where, "no room goes elsewhere", (where, self.places()))
+        self.comes(self.bridges["b"].is_closed, "its desk is closed")
         said = self.agents["a"].sent(signed(SECRET, f"{self.agents['a'].url}/where?room={room}"))
         self.check(said[0] == 200 and said[1]["bridge"] == "b", "a question for one says where it is", said)
         words = "The agent of this room's bridge doesn't answer"
@@ -70,6 +70,7 @@ class Failing:
         self.agents["b"].close()
         self.agents["b"].start()
         self.comes(lambda: self.join("a", room)[0] == 200, "it is started anew: members join there again", 60)
+        self.comes(lambda: self.bridges["b"].lease(), "and the desk is open")
         after = self.desks()
         same = [name for name in "ac" if after[name][0] != before[name][0]]
         self.check(not same, "the other desks have what they had", (before, after))
@@ -155,7 +156,8 @@ class Failing:
         """A machine that members reach, and the others don't: their way to etcd and to its address is cut."""
         way = self.begun(Way(self.folder, self.etcd.ports[0]))
         bridge = self.begun(BridgePart("d", self.folder, self.bridges["a"].program))
-        agent = self.begun(AgentPart(bridge, self.folder, self.etcd, etcd_url=way.url, udp=f"{NOWHERE}:{bridge.udp}"))
+        more = {"etcd_url": way.url, "udp": f"{NOWHERE}:{bridge.udp}", "lease": LONG}
+        agent = self.begun(AgentPart(bridge, self.folder, self.etcd, **more))
         self.comes(lambda: agent.knows() == 4, "a fourth machine comes", 60)
         members = {}
         for name, room in HELD.items():
@@ -173,20 +175,17 @@ class Failing:
         bridge.do(f"set-gain {member} {ssrc} 7")
         self.comes(lambda: "d is cut off" in agent.log.read_text(), "it is cut off, and its agent says so", 30)
         self.refuses(agent)
-        bridge.do(f"group mute {ssrc}")
-        muted = lambda: f"mute {ssrc}" in bridge.desk()[0][CUT]
-        self.comes(lambda: not muted(), "what an operator does there is taken back")
+        self.comes(bridge.is_closed, "its desk is closed", 30)
+        said = bridge.operator.ask(f"group mute {ssrc}")
+        self.check(said.endswith(CLOSED), "what an operator does there is refused", said)
         on = lambda: (self.records().get(CUT) or {}).get("on") in (*"abc",)
         self.comes(on, "its room goes elsewhere", 30)
         self.leaves_cut_off(page, there)
         way.tell("join")
         self.comes(lambda: CUT not in bridge.desk()[0], "the way is there again: it gives the room up", 60)
-        taken = lambda: self.tells(agent, f"mute {ssrc}", "taken_back")
-        self.comes(taken, "it says which call was taken back")
-        # On a machine that is late this one was taken back as well.
         gain = f"set-gain {member} {ssrc} 7"
-        text = "and which one is lost, since it came between the cut and the end of the lease"
-        self.comes(lambda: self.tells(agent, gain, "lost", "taken_back"), text)
+        text = "it says which call is lost, since it came between the cut and the end of the lease"
+        self.comes(lambda: self.tells_lost(agent, gain), text)
         page.parts.ask("leave", id=page.id)
         member = next(int(row.split(" ")[2]) for row in self.rows(CUT) if row.startswith("member "))
         self.agents["a"].ask("leave", room=CUT, member=member)
@@ -229,7 +228,7 @@ class Failing:
 
     def refuses(self, agent):
         """An agent that is cut off refuses each request, and says what may be lost."""
-        words = "The rooms of d may be on others by now, and calls at that desk are taken back. Ask another agent."
+        words = "The rooms of d may be on others by now, and that desk is closed. Ask another agent."
         asked = [("join", {"address": "127.0.0.1:9"}), ("leave", {"member": 1}), ("move", {"to": "a"})]
         said = [agent.ask(path, room=CUT, **more) for path, more in asked] + [agent.ask("drain", bridge="d")]
         said += [agent.sent(signed(SECRET, f"{agent.url}/{path}")) for path in ("", f"where?room={CUT}", "pages")]

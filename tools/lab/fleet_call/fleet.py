@@ -227,6 +227,7 @@ class Fleet(Dispatched, Failing, Gatewayed, Guarded, Operated, Strangers):
         self.settles(everywhere)
         room = self.one_on("b")
         self.agents["c"].close()
+        self.bridges["c"].operator.ask("lease off")
         for group in store.groups([room])[room]:
             self.bridges["c"].do(group)
         record, revision = store.room(room)
@@ -238,6 +239,7 @@ class Fleet(Dispatched, Failing, Gatewayed, Guarded, Operated, Strangers):
         self.settles(everywhere)
         room = self.one_on("b")
         self.agents["c"].close()
+        self.bridges["c"].operator.ask("lease off")
         for group in store.groups([room])[room]:
             self.bridges["c"].do(group)
         self.bridges["c"].do(f"remove-room {room}")

@@ -1,170 +1,192 @@
-"""Bridges whose agents have lost the others: what operators do there is taken back, or told."""
+"""Bridges whose agents have lost the others, stand still or have ended: their desks are closed to operators."""
 
+import signal
+
+from lab.fleet_call.gateways import Engine, Gateway
 from lab.fleet_call.machines import Clock, Way
-from lab.fleet_call.parts import AgentPart, BridgePart
+from lab.fleet_call.parts import CLOSED, LEASE, AgentPart, BridgePart
+from lab.gateway_call.again import Page
 
-# A room of a bridge whose agent is cut off, and one that an operator opens there. How many seats the bridge has.
-ALONE, OPENED, SEATS = 67, 6401, 5
-# After how many seconds at most a call is taken back, and the name under which it is.
-BACK, MOVED = 2, "this-room-has-moved"
-
-
-class Told:
-    """A watch with names, at a bridge."""
-
-    def __init__(self, bridge):
-        self.operator = bridge.seated()
-        self.operator.ask("watch names")
-
-    def until(self, words):
-        """The lines that are told, up to one that ends with some words."""
-        lines = []
-        while not lines or not lines[-1].endswith(words):
-            lines.append(self.operator.lines.readline().strip())
-        return lines
-
-    def close(self):
-        self.operator.tell("quit")
+# A room of a bridge whose agent is cut off, and two of a machine whose agent is started anew meanwhile. For how many
+# seconds the lease of that one lasts: operators call between the cut and its end.
+ALONE, KEPT, REMOVED, LONG = 67, 68, 69, 10
+# How many seconds a desk may be open for longer than its lease, and an address that no machine has here.
+LATE, NOWHERE = 1, "198.18.0.1"
 
 
 class Guarded:
-    """The step of a fleet's check in which an agent loses the others, and its bridge keeps its rooms."""
+    """The steps of a fleet's check in which a desk is closed."""
 
-    def step_taken_back(self):
+    def step_closes(self):
         """An agent's way to etcd is cut. The leader reaches its bridge, so that the rooms stay."""
         way = self.begun(Way(self.folder, self.etcd.ports[0]))
-        bridge = self.begun(BridgePart("e", self.folder, self.bridges["a"].program, operators=SEATS))
+        bridge = self.begun(BridgePart("e", self.folder, self.bridges["a"].program))
         agent = self.begun(AgentPart(bridge, self.folder, self.etcd, etcd_url=way.url))
         self.comes(lambda: agent.knows() == 4, "a further machine comes", 60)
         member, voice, camera = self.alone_on(bridge)
-        way.tell("cut")
-        self.comes(lambda: "e is cut off" in agent.log.read_text(), "its way to etcd is cut, and its agent says so", 30)
-        self.takes_back(bridge, agent, voice, camera)
-        self.takes_several_back(bridge, member, voice)
-        self.is_hindered(bridge, agent, member)
-        self.leaves_alone(bridge)
+        gateway = self.begun(Gateway(self.folder, bridge, self.begun(Engine()), agent, 1_000_400_000))
+        page = Page(gateway, "closed", next(self.ports), ALONE)
+        self.check(page.said[0] == 200, "a browser joins at its gateway", page.said)
+        bridge.operator.ask("as ann")
+        bridge.do(f"mute {voice}")
+        self.closes(bridge, agent, lambda: way.tell("cut"), "its way to etcd is cut")
+        self.comes(lambda: "e is cut off" in agent.log.read_text(), "and its agent says so", 30)
+        self.refuses_calls(bridge, voice, camera)
+        self.refuses_page(bridge, page)
+        self.is_opened_by_hand(bridge, agent, voice, page)
         way.tell("join")
-        back = "e is back: 0 of its rooms had gone elsewhere"
-        self.comes(lambda: back in agent.log.read_text(), "the way is there again: the room is its own still", 60)
-        self.stays(bridge, agent, voice, camera)
-        for room, one in (ALONE, member), (OPENED, OPENED * 1000 + 1):
-            self.agents["a"].ask("leave", room=room, member=one)
-        gone = lambda: not {ALONE, OPENED} & self.records().keys()
-        self.comes(gone, "its rooms end")
-        for part in agent, bridge, way:
+        self.opens(bridge, agent, f"pin {ALONE} {camera}", "the way is there again")
+        self.stands_still(bridge, agent, member, voice)
+        self.dies(bridge, agent, member, voice)
+        calls = [f"mute {voice}", f"unmute {voice}", f"pin {ALONE} {camera}"]
+        calls += [f"set-gain {member} {voice} {q8}" for q8 in (8, 9)]
+        self.calls_are(ALONE, calls, "all that was accepted is kept, and nothing else")
+        self.check(agent.ask("")[1]["lost"] == [], "nothing is lost", agent.ask(""))
+        self.agents["a"].ask("leave", room=ALONE, member=member)
+        self.comes(lambda: ALONE not in self.records(), "its room ends")
+        self.goes_off(gateway, agent, bridge, way)
+
+    def goes_off(self, *parts):
+        for part in parts:
             part.close()
         self.comes(lambda: self.agents["a"].knows() == 3, "it is switched off, and forgotten", 30)
 
-    def alone_on(self, bridge):
+    def alone_on(self, bridge, room=ALONE):
         """A member of a room on a bridge, with its voice and its camera."""
         voice = next(self.ports)
-        said = self.join("a", ALONE, voice=voice, camera=voice + 100_000)
+        said = self.join("a", room, voice=voice, camera=voice + 100_000)
         self.check(said[0] == 200, "a member joins a room", said)
-        self.goes_to(ALONE, bridge.name)
+        self.goes_to(room, bridge.name)
         return said[1]["member"], voice, voice + 100_000
 
-    def takes_back(self, bridge, agent, voice, camera):
-        """A call of an operator is taken back, and all operators are told why."""
-        clock, told, rows = Clock(lambda: [agent.process.pid, bridge.process.pid]), Told(bridge), self.rows_at(bridge)
-        bridge.operator.ask("as ann")
-        number, begun = bridge.desk()[1] + 1, clock.now()
-        bridge.do(f"group mute {voice} / pin {ALONE} {camera}")
-        lines = told.until(f" revert {number}")
+    def closes(self, bridge, agent, ends, text, lease=LEASE):
+        """Something ends the lease of an agent: the desk closes in time."""
+        good = lambda: 0 < (bridge.lease() or 0) <= 1000 * lease
+        self.comes(good, "an agent gives its desk a lease, which is no longer than its own")
+        clock = Clock(lambda: [agent.process.pid, bridge.process.pid])
+        begun = clock.now()
+        ends()
+        self.comes(bridge.is_closed, f"{text}: the desk closes", 10 * lease)
         took = clock.now() - begun
-        self.check(took <= BACK, f"an operator's group is taken back there, after {took:.1f} s", took)
-        good = [line.split(" ")[4] for line in lines] == ["ann", MOVED]
-        self.check(good, f"the calls say why, by the name {MOVED}", lines)
-        self.check(self.rows_at(bridge) == rows, "the room is as it was", self.rows_at(bridge))
-        words = f"call {number} of operator {lines[0].split(' ')[3]} (ann) at e is taken back"
-        self.comes(lambda: words in agent.log.read_text(), f"and its agent says so: `{words}`")
-        told.close()
+        self.check(took <= lease + LATE, f"after {took:.1f} s, at a lease of {lease} s", took)
 
-    def takes_several_back(self, bridge, member, voice):
-        """Calls of which one needs another; a revert and an undo."""
-        rows, new = self.rows_at(bridge), next(self.ports)
-        was = lambda: self.rows_at(bridge) == rows
-        # At once: none is taken back before the other one is there.
-        lines = [f"add-source {new} {member} audio", f"mute {new}", f"set-gain {member} {new} 7"]
-        for line in lines:
-            bridge.operator.tell(line)
-        said = [bridge.operator.lines.readline().strip() for _ in lines]
-        self.check(said[0].startswith("ok "), f"{len(lines)} calls, of which some need another one", said)
-        self.comes(was, "each is taken back")
-        number = bridge.desk()[1]
-        bridge.operator.ask(f"undo {number}")
-        self.comes(lambda: was() and bridge.desk()[1] > number, "an undo of that is taken back")
-        number = bridge.desk()[1]
-        bridge.operator.ask("as agent-test")
-        bridge.do(f"mute {voice}")
-        bridge.operator.ask("as -")
-        bridge.do(f"revert {number + 1}")
-        self.comes(lambda: f"mute {voice}" in self.rows_at(bridge), "what a program does stays: a revert of it doesn't")
-        bridge.operator.ask("as agent-test")
-        bridge.do(f"unmute {voice}")
-        bridge.operator.ask("as -")
-        self.check(was(), "the room is as it was", self.rows_at(bridge))
+    def refuses_calls(self, bridge, voice, camera):
+        """A closed desk refuses each call, and tells all else."""
+        rows, version = bridge.desk()
+        calls = [f"unmute {voice}", f"group unmute {voice} / pin {ALONE} {camera}", f"remove-room {ALONE}"]
+        calls += [f"undo {version}", f"redo {version}", f"revert {version}", "add-room 6401"]
+        said = {bridge.operator.ask(line) for line in calls}
+        self.check(said == {f"no {version}{CLOSED}"}, f"{len(calls)} calls are refused by{CLOSED}", said)
+        said = bridge.operator.ask("mute x")
+        self.check(said == "fault 2 6 BadNumber", "a faulty line is told as one", said)
+        said = bridge.operator.ask("lease")
+        self.check(said == "lease 0 agent-fleet", "`lease` tells by whom the desk is closed", said)
+        bridge.operator.ask(calls[0])
+        why = bridge.operator.shown("why")
+        good = any(line.startswith("refused 27 Closed") for line in why)
+        self.check(good or not bridge.program, "`why` says so in words", why)
+        self.check(bridge.desk() == (rows, version), "nothing has changed", bridge.desk())
 
-    def is_hindered(self, bridge, agent, member):
-        """A call that can't be taken back, since a program's call needs it."""
-        rows, new, said = self.rows_at(bridge), next(self.ports), ["", "", "", ""]
-        for _ in range(20):
-            # At once, or the agent is faster.
-            lines = ["as -", f"add-source {new} {member} audio", "as agent-test", f"mute {new}"]
-            bridge.operator.tell("\n".join(lines))
-            said = [bridge.operator.lines.readline().strip() for _ in said]
-            if said[-1].startswith("ok "):
-                break
-        words = "can't be taken back (no "
-        self.comes(lambda: self.tells(agent, words, "log"), f"a program's call needs an operator's: it `{words}..`")
-        bridge.operator.ask(f"revert {said[-1].removeprefix('ok ')}")
-        bridge.operator.ask("as -")
-        was = lambda: self.rows_at(bridge) == rows
-        self.comes(was, "the program takes its call back: the other one is taken back, too")
-
-    def leaves_alone(self, bridge):
-        """A room that isn't the fleet's."""
-        first, voice = OPENED * 1000 + 1, next(self.ports)
-        bridge.do(f"group add-room {OPENED} / add-member {first} {OPENED} 127.0.0.1:{voice} pcmu {voice} 0 0")
-        bridge.do(f"add-source {voice + 100_000} {first} audio")
-        number = bridge.desk()[1]
-        bridge.do(f"mute {voice + 100_000}")
-        # What is taken back comes after all that was done before.
-        bridge.do(f"set-gain {first} {voice + 100_000} 9")
-        bridge.operator.ask("redo 1")
-        room = self.at_rest(bridge)
-        rows = bridge.desk()[0].get(OPENED, [])
-        good = f"mute {voice + 100_000}" in rows and room == number + 2
-        self.check(good, "an operator opens a room there, and what is done in it stays", (rows, room, number))
-
-    def at_rest(self, bridge):
-        """The version of a desk, once a call of another room was taken back."""
-        version = bridge.desk()[1]
-        voice = next(row.split(" ")[1] for row in self.rows_at(bridge) if row.endswith(" audio"))
-        bridge.do(f"mute {voice}")
-        self.comes(lambda: bridge.desk()[1] == version + 2, "and a call in the fleet's room isn't")
-        return version
-
-    def stays(self, bridge, agent, voice, camera):
-        """What operators do once the lease is back stays."""
-        bridge.do(f"mute {voice}")
-        bridge.do(f"pin {ALONE} {camera}")
-        calls = lambda: self.calls(ALONE) or []
-        self.comes(lambda: calls()[-2:] == [f"mute {voice}", f"pin {ALONE} {camera}"], "calls stay now, and are kept")
-        good = {f"mute {voice}", f"pin {ALONE} {camera}"} <= {*self.rows_at(bridge)}
-        self.check(good, "they are in force", self.rows_at(bridge))
-        back = [one for one in calls() if one.startswith(("group ", "add-source ", "set-gain "))]
-        self.check(not back, "those that were taken back don't travel", calls())
-        group = f"group mute {voice} / pin {ALONE} {camera}"
-        self.comes(lambda: self.tells(agent, group, "taken_back"), "its agent tells what it has taken back")
-        lost = agent.ask("")[1]["lost"]
-        self.check(len(lost) == 1 and "can't be taken back" in lost[0], "and which call it couldn't take back", lost)
-
-    def tells(self, agent, words, *keys):
-        """Whether an agent has some words in its log, or among the calls that were taken back, or that are lost."""
-        if "log" in keys:
-            return words in agent.log.read_text()
-        status, told = agent.ask("")
-        return status == 200 and any(words in one for key in keys for one in told[key])
+    def has_page(self, bridge, page):
+        """Whether a page's member is on the desk."""
+        members = [row.split(" ")[2] for row in self.rows_at(bridge) if row.startswith("member ")]
+        return str(page.told["member"]) in members
 
     def rows_at(self, bridge):
         return bridge.desk()[0].get(ALONE, [])
+
+    def refuses_page(self, bridge, page):
+        """A page at a closed desk is told so, and leaves."""
+        said = page.parts.ask("screen", id=page.id, shown=True)
+        self.told(said, 503, "This bridge takes no changes now", "a page that shows its screen")
+        page.goes_on = False
+        said = page.parts.ask("leave", id=page.id)
+        good = said[0] == 200 and self.has_page(bridge, page)
+        self.check(good, "a page that leaves is a member still", (said, self.rows_at(bridge)))
+
+    def is_opened_by_hand(self, bridge, agent, voice, page):
+        """An operator opens the desk. The agent is started anew, still without etcd: it closes it."""
+        said = bridge.operator.ask("lease off")
+        self.check(said == "lease off", "an operator opens the desk", said)
+        bridge.do(f"unmute {voice}")
+        self.comes(lambda: not self.has_page(bridge, page), "who has left goes from the desk")
+        agent.close()
+        self.check(bridge.lease() is None, "its agent ends, and the desk stays open", bridge.lease())
+        agent.start()
+        self.comes(bridge.is_closed, "its agent is started anew while it is cut off: the desk is closed at once", 60)
+        said = bridge.operator.ask(f"mute {voice}")
+        self.check(said.endswith(CLOSED), "a call is refused", said)
+
+    def opens(self, bridge, agent, line, text):
+        """The desk opens again, and takes a call."""
+        self.comes(lambda: bridge.lease(), f"{text}: the desk opens", 60)
+        bridge.do(line)
+        kept = lambda: (self.calls(ALONE) or [""])[-1] == line
+        self.comes(kept, "a call is taken, and kept", 60)
+
+    def stands_still(self, bridge, agent, member, voice):
+        """An agent stands still for longer than its lease, and goes on."""
+        stops = lambda: agent.process.send_signal(signal.SIGSTOP)
+        self.closes(bridge, agent, stops, "its agent stands still")
+        said = bridge.operator.ask(f"set-gain {member} {voice} 7")
+        self.check(said.endswith(CLOSED), "a call is refused", said)
+        agent.process.send_signal(signal.SIGCONT)
+        self.opens(bridge, agent, f"set-gain {member} {voice} 8", "it goes on")
+
+    def dies(self, bridge, agent, member, voice):
+        """An agent dies, and another one is started."""
+        self.closes(bridge, agent, lambda: agent.process.send_signal(signal.SIGKILL), "its agent is killed")
+        said = bridge.operator.ask(f"set-gain {member} {voice} 7")
+        self.check(said.endswith(CLOSED), "a call is refused", said)
+        agent.close()
+        agent.start()
+        self.opens(bridge, agent, f"set-gain {member} {voice} 9", "another one is started")
+
+    def step_closed_anew(self):
+        """A machine is cut off, and its agent is started anew meanwhile: it tells which calls are lost."""
+        way = self.begun(Way(self.folder, self.etcd.ports[0]))
+        bridge = self.begun(BridgePart("f", self.folder, self.bridges["a"].program))
+        more = {"etcd_url": way.url, "udp": f"{NOWHERE}:{bridge.udp}", "lease": LONG}
+        agent = self.begun(AgentPart(bridge, self.folder, self.etcd, **more))
+        self.comes(lambda: agent.knows() == 4, "a machine comes", 60)
+        members = {room: self.alone_on(bridge, room) for room in (KEPT, REMOVED)}
+        member, voice, camera = members[KEPT]
+        bridge.do(f"mute {voice}")
+        bridge.do(f"pin {KEPT} {camera}")
+        self.calls_are(KEPT, [f"mute {voice}", f"pin {KEPT} {camera}"], "operators' calls are kept")
+        lines = self.calls_late(way, bridge, *members[KEPT])
+        agent.process.send_signal(signal.SIGKILL)
+        agent.close()
+        agent.start()
+        self.comes(bridge.is_closed, "its agent is started anew meanwhile: the desk is closed", 60)
+        on = lambda room: (self.records().get(room) or {}).get("on") in (*"abc",)
+        self.comes(lambda: on(KEPT) and on(REMOVED), "its rooms go elsewhere", 60)
+        way.tell("join")
+        self.comes(lambda: KEPT not in bridge.desk()[0], "the way is there again: it gives the room up", 60)
+        lost = agent.ask("")[1]["lost"]
+        told = [one.partition(" since rooms had gone: ")[2] for one in lost]
+        self.check(told == lines, f"it tells which {len(lines)} calls are lost, and no other one", (told, lines))
+        self.check(all(one in agent.log.read_text() for one in lost), "also in its log", lost)
+        self.comes(lambda: bridge.lease(), "the desk is open again", 60)
+        for room, (one, _, _) in members.items():
+            self.agents["a"].ask("leave", room=room, member=one)
+        self.comes(lambda: not {KEPT, REMOVED} & self.records().keys(), "the rooms end")
+        self.goes_off(agent, bridge, way)
+
+    def calls_late(self, way, bridge, member, voice, camera):
+        """Operators call between the cut and the end of the lease. Their calls that count still."""
+        way.tell("cut")
+        # It answers once it is cut.
+        way.octets()
+        bridge.do(f"set-gain {member} {voice} 7")
+        bridge.do(f"unmute {voice}")
+        bridge.do(f"undo {bridge.desk()[1]}")
+        bridge.do(f"group unpin {KEPT} / give-floor {KEPT} {member}")
+        bridge.do(f"remove-room {REMOVED}")
+        late = [f"set-gain {member} {voice} 7", f"group unpin {KEPT} / give-floor {KEPT} {member}"]
+        return [*late, f"remove-room {REMOVED}"]
+
+    def tells_lost(self, agent, words):
+        """Whether an agent names a call among those that may be lost."""
+        status, told = agent.ask("")
+        return status == 200 and any(one.endswith(words) for one in told["lost"])

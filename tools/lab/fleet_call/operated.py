@@ -117,6 +117,8 @@ class Operated:
         bridge.do(f"set-gain {one} {voice} 7")
         self.calls_are(ROOM, [*before, f"set-gain {one} {voice} 7"], "an operator does more")
         self.agents["a"].close()
+        # Else the desk closes once the agent's lease has ended.
+        bridge.operator.ask("lease off")
         bridge.do(f"mute {voice}")
         bridge.do(f"set-gain {one} {voice} 8")
         bridge.do(f"undo {bridge.desk()[1]}")

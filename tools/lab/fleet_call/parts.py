@@ -13,7 +13,7 @@ import time
 import urllib.error
 import urllib.request
 
-from checks.bridges import accepted, operator_at
+from checks.bridges import operator_at
 from lab import waits
 from operators.serving import free_port, started
 from operators.shared import ROOT, fail
@@ -36,6 +36,8 @@ ROOMS, MEMBERS, LEASE, ROOMS_OF_SOURCE = 20, 256, 3, 4
 SECRET, USER = b"the secret of a fleet that is tried", ("fleet", "a password that nobody has drawn")
 # How many seconds a bridge has for an answer: on a machine that has no time for it, it isn't gone.
 ANSWERS = 300
+# How a desk answers a call once its lease has ended, and how many seconds it may take to open again.
+CLOSED, OPENS = " 27 Closed", 60
 # How many seconds a look takes at most, where a machine has time for it.
 LOOK = 0.1
 # Where browsers are told to join the rooms of a bridge.
@@ -113,8 +115,19 @@ class BridgePart:
         return by_room(shown[0]), shown[1]
 
     def do(self, line):
-        """A call that has to be accepted."""
-        accepted(self.operator, line)
+        """A call that has to be accepted, once the desk takes any: it is closed while its agent begins, or is late."""
+        said = []
+        until(lambda: said.append(self.operator.ask(line)) or not said[-1].endswith(CLOSED), OPENS)
+        if not said[-1].startswith("ok "):
+            fail(f"`{line}` is answered `{said[-1]}`")
+
+    def lease(self):
+        """For how many milliseconds the desk takes calls yet: None where it takes them always."""
+        left = self.operator.ask("lease").split(" ")[1]
+        return None if left == "off" else int(left)
+
+    def is_closed(self):
+        return self.lease() == 0
 
     def close(self):
         ended(self.process)
@@ -124,12 +137,12 @@ class BridgePart:
 class AgentPart:
     """An agent with one bridge."""
 
-    def __init__(self, bridge, folder, etcd, sip="", start=None, etcd_url="", udp=""):
+    def __init__(self, bridge, folder, etcd, sip="", start=None, etcd_url="", udp="", lease=LEASE):
         self.bridge, self.log = bridge, folder / f"agent_{bridge.name}.log"
         self.port, self.path = free_port(socket.SOCK_STREAM), folder / f"agent_{bridge.name}.toml"
         self.url = f"http://127.0.0.1:{self.port}"
         self.path.write_text(
-            f'[agent]\nlisten = "127.0.0.1:{self.port}"\nurl = "{self.url}"\nlease = {LEASE}\n'
+            f'[agent]\nlisten = "127.0.0.1:{self.port}"\nurl = "{self.url}"\nlease = {lease}\n'
             f'secret = "{secret_file(folder)}"\nrooms_of_source = {ROOMS_OF_SOURCE}\n'
             f'[etcd]\nservers = ["{etcd_url or etcd.url}"]\nuser = "{USER[0]}"\npassword = "{etcd.password}"\n'
             f'[bridges.{bridge.name}]\nudp = "{udp or f"127.0.0.1:{bridge.udp}"}"\n'
