@@ -9,7 +9,8 @@ import secrets
 import threading
 import time
 
-from checks.make.page import PARTS, TOKEN, WEB
+from checks.make.page import TOKEN, WEB
+from checks.newer import newer_call
 from operators.models.desk import Log
 from operators.models.lines import COMMANDS, TURNS
 
@@ -17,6 +18,7 @@ RESERVED = (
     "show", "groups", "history", "calls", "stats", "levels", "lease", "watch", "as", "why", "help", "quit", "stop",
     "names",
 )  # fmt: skip
+KINDS = {"js": "text/javascript", "css": "text/css"}
 MOST_CALLS, MOST_PAST = 256, 512
 LONGEST_NAME, LONGEST_CHANGE = 800, 262_144
 # About how many octets the head of a response has.
@@ -43,7 +45,7 @@ class Standin:
         self.path, self.names, self.version = names and pathlib.Path(names), text, 0
         self.lock, self.is_gone, self.counted = threading.Lock(), False, None
         self.pause, self.run, self.text, self.number = 0, secrets.token_hex(16), None, 0
-        self.has_events, self.octets = True, 0
+        self.has_events, self.octets, self.closed = True, 0, None
 
     def waits(self):
         """Answers late, by a pause that may end earlier."""
@@ -57,11 +59,25 @@ class Standin:
         if words[0] not in (*COMMANDS, *TURNS, "group"):
             return "fault 1 3 UnknownWord"
         with self.lock:
+            if self.closed not in (None, name):
+                return f"no {self.log.version} 27 Closed"
             answer = self.log.call(words, operator)
             if answer.startswith("ok "):
                 told = f"call {answer[3:]} {time.time_ns() // 1_000_000} {operator} {name} {line}"
                 self.logged().append(told)
             return answer
+
+    def judged(self, line, name, seen):
+        """What the page's program answers to a call, and its status: the call isn't sent where another one came first
+        after the version that its person saw."""
+        newer = seen and newer_call(self.past(), line, name, int(seen))
+        if newer:
+            return 409, f"Newer: another person touched that row after this desk was seen, nothing was sent\n{newer}"
+        return 200, self.call(line, name=name)
+
+    def lease(self):
+        """What the stream of events says of the desk's lease."""
+        return "open" if self.closed is None else f"closed {self.closed}"
 
     def ask(self, line, name="-"):
         """Another operator's call."""
@@ -124,16 +140,9 @@ class Standin:
         """A web file as the program serves it, and its kind."""
         if path == "/":
             return (WEB / "page.html").read_text().replace(TOKEN, self.token), "text/html"
-        if path == "/page.css":
-            return (WEB / "page.css").read_text(), "text/css"
-        if path == "/page.js":
-            files = [
-                name
-                for _, _, constants in PARTS
-                for _, _, names, _ in constants
-                for name in names.split() if name.endswith(".js")
-            ]
-            return "\n".join((WEB / name).read_text() for name in files), "text/javascript"
+        kind = KINDS.get(path.rpartition(".")[2])
+        if kind and path in (f"/{file.name}" for file in WEB.iterdir()):
+            return (WEB / path[1:]).read_text(), kind
         return None
 
 
@@ -172,7 +181,8 @@ def handler_of(standin):
             self.end_headers()
             key, lines, told = standin.key(), standin.desk(), len(standin.logged())
             self.event("hello", lines[-1].partition(" ")[2])
-            was_gone, beat = False, time.monotonic()
+            was_gone, beat, lease = False, time.monotonic(), standin.lease()
+            self.event("lease", lease)
             while True:
                 time.sleep(0.02)
                 if standin.pause:
@@ -180,6 +190,9 @@ def handler_of(standin):
                 if standin.is_gone != was_gone:
                     was_gone = standin.is_gone
                     self.event("bridge", "gone" if was_gone else "anew")
+                if standin.lease() != lease:
+                    lease = standin.lease()
+                    self.event("lease", lease)
                 if not was_gone and standin.key() != key:
                     told = told if key[0] is standin.log else 0
                     for line in standin.logged()[told:]:
@@ -236,7 +249,8 @@ def handler_of(standin):
                 return self.tell(400, told)
             if standin.is_gone:
                 return self.tell(502, "Gone: the bridge is not there, nothing was sent\n")
-            return self.tell(200, standin.call(body, name=self.headers["X-Desk-Person"] or "page") + "\n")
+            status, told = standin.judged(body, self.headers["X-Desk-Person"] or "page", self.headers["X-Desk-Seen"])
+            return self.tell(status, f"{told}\n")
 
     return Handler
 

@@ -4,7 +4,7 @@ use Rattle.std.proofs.Common.{append_assoc}
 use Rattle.std.specs.Str.{bytes_eq}
 use Rattle.std.proofs.lemmas.List.{take-append-drop, drop-drop}
 use Rattle.std.proofs.lemmas.Slice.Eq.{bytes_eq-Decides}
-use Rattle.desk_http.specs.Events.{MakesText, has_ends}
+use Rattle.desk_http.specs.Events.{MakesText}
 
 -- a text is its front, so many octets behind it, and the rest
 in_three : (text : List ℕ) (start count : ℕ)

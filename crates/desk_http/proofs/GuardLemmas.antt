@@ -5,15 +5,15 @@ use Rattle.http.specs.Request.{head_of, body_of}
 use Rattle.http_uri.specs.Uri.{uri_path}
 use Rattle.desk_http.specs.declared.site.Site.{Site}
 use Rattle.desk_http.specs.declared.routing.Route.{Route}
-use Rattle.desk_http.specs.declared.routing.Route.TheVariants.{Page, Script, Style, Read, Events, Call, Names}
+use Rattle.desk_http.specs.declared.routing.Route.TheVariants.{Page, File, Read, Events, Call, Names}
 use Rattle.desk_http.specs.declared.routing.Route.TheVariants.{ChangeNames, Refused}
 use Rattle.desk_http.specs.declared.routing.PageRefusal.{PageRefusal}
 use Rattle.desk_http.specs.declared.routing.PageRefusal.TheVariants.{ForeignHost, ForeignOrigin, NotAllowed, NoToken}
-use Rattle.desk_http.specs.declared.routing.PageRefusal.TheVariants.{NoPerson, NoLine, Reserved, NoNames}
+use Rattle.desk_http.specs.declared.routing.PageRefusal.TheVariants.{NoPerson, NoVersion, NoLine, Reserved, NoNames}
 use Rattle.desk_http.specs.declared.routing.Resource.{Resource}
 use Rattle.desk_http.specs.declared.routing.Resource.TheVariants as resources
 use Rattle.desk_http.specs.Routes.{route_of, resource_route, call_route, names_route, line_route, resource_at}
-use Rattle.desk_http.specs.Routes.{has_own_host, has_own_origin, has_token, has_person, is_method}
+use Rattle.desk_http.specs.Routes.{has_own_host, has_own_origin, has_token, has_person, has_seen, is_method}
 use Rattle.desk_http.specs.Lines.{is_line, is_reserved, is_change}
 use Rattle.desk_http.specs.Guarded.{Passes}
 
@@ -64,8 +64,8 @@ at_call : (site : Site) (request : Request (List ℕ)) (p : Option Resource) →
     → call_route site request ≡ Call
 at_call site request None e = absurd (cc)
 at_call site request (Some resources.Page) e = absurd (get_no (is_method request (codes "GET")) Page (λ h. cc) e)
-at_call site request (Some resources.Script) e = absurd (get_no (is_method request (codes "GET")) Script (λ h. cc) e)
-at_call site request (Some resources.Style) e = absurd (get_no (is_method request (codes "GET")) Style (λ h. cc) e)
+at_call site request (Some (resources.File kind)) e =
+    absurd (get_no (is_method request (codes "GET")) (File kind) (λ h. cc) e)
 at_call site request (Some (resources.Read query form)) e =
     absurd (get_no (is_method request (codes "GET")) (Read query form) (λ h. cc) e)
 at_call site request (Some resources.Events) e = absurd (get_no (is_method request (codes "GET")) Events (λ h. cc) e)
@@ -79,15 +79,18 @@ call-passes site request e =
     (resource_route site request resource) e in
     let called = at_call site request resource own.2 in
     let posted = two_tests (is_method request (codes "POST")) (has_token site request) NotAllowed NoToken
-    (if not (has_person request) then Refused NoPerson else line_route (body_of request)) called in
-    let named = one_test (has_person request) NoPerson (line_route (body_of request)) posted.2 in
-    let line = line_tests (is_line (body_of request)) (is_reserved (body_of request)) named.1 in
+    (if not (has_person request) then Refused NoPerson else if not (has_seen request) then Refused NoVersion
+    else line_route (body_of request)) called in
+    let named = two_tests (has_person request) (has_seen request) NoPerson NoVersion (line_route (body_of request))
+    posted.2 in
+    let line = line_tests (is_line (body_of request)) (is_reserved (body_of request)) named.2 in
     record {
       host = own.0;
       origin = own.1;
       method = posted.0;
       token = posted.1;
       person = named.0;
+      seen = named.1;
       line = line.0;
       open_word = line.1;
     }

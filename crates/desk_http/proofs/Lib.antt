@@ -4,3 +4,4 @@ pub mod ReadingLemmas
 pub mod RelayLemmas
 mod SpeechLemmas
 mod EditLemmas
+pub mod VersionLemmas

@@ -1,6 +1,7 @@
 -- A line is handed over at most once.
 use Rattle.std.proofs.Common.{◌≡◌, ℕ, ◌≤◌, Bool, true, false, List, [], ◌∷◌, ◌++◌, length, refl, sym, subst, arith}
 use Rattle.desk_http.specs.PendingLines.{Event, queues, takes, takes_query, takes_call, takes_names, takes_events}
+use Rattle.desk_http.specs.PendingLines.{takes_file, has_file_line}
 use Rattle.desk_http.specs.PendingLines.{reading, queued, dispatched, lines_dispatched, listed, line_if, after_take_if}
 use Rattle.desk_http.specs.PendingLines.{has_query, has_call, has_names_line, has_events_line}
 
@@ -12,6 +13,7 @@ lines-dispatched (takes_query query ∷ events) = lines-dispatched events
 lines-dispatched (takes_call ∷ events) = lines-dispatched events
 lines-dispatched (takes_names ∷ events) = lines-dispatched events
 lines-dispatched (takes_events ∷ events) = lines-dispatched events
+lines-dispatched (takes_file ∷ events) = lines-dispatched events
 lines-dispatched (takes ∷ events) = lines-dispatched events
 
 -- a line that is handed over is the last one
@@ -34,6 +36,7 @@ lines-queued (takes_call ∷ events) line = once_if (has_call (queued line)) eve
 lines-queued (takes_names ∷ events) line = once_if (has_names_line (queued line)) events line (lines-queued events line)
 lines-queued (takes_events ∷ events) line =
     once_if (has_events_line (queued line)) events line (lines-queued events line)
+lines-queued (takes_file ∷ events) line = once_if (has_file_line (queued line)) events line (lines-queued events line)
 lines-queued (takes ∷ events) line = only_one events line
 
 pub lines-reading : (events : List Event) → length (lines_dispatched events reading) ≤ 1
@@ -43,4 +46,5 @@ lines-reading (takes_query query ∷ events) = lines-reading events
 lines-reading (takes_call ∷ events) = lines-reading events
 lines-reading (takes_names ∷ events) = lines-reading events
 lines-reading (takes_events ∷ events) = lines-reading events
+lines-reading (takes_file ∷ events) = lines-reading events
 lines-reading (takes ∷ events) = lines-reading events

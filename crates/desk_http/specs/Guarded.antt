@@ -4,7 +4,7 @@ use Rattle.http.specs.declared.request.Request.{Request}
 use Rattle.http.specs.Request.{body_of}
 use Rattle.desk_http.specs.declared.site.Site.{Site}
 use Rattle.desk_http.specs.declared.routing.Route.TheVariants.{Call}
-use Rattle.desk_http.specs.Routes.{route_of, has_own_host, has_own_origin, has_token, has_person, is_method}
+use Rattle.desk_http.specs.Routes.{route_of, has_own_host, has_own_origin, has_token, has_person, has_seen, is_method}
 use Rattle.desk_http.specs.Lines.{is_line, is_reserved}
 
 -- a call passes all of these
@@ -14,6 +14,7 @@ pub record Passes (site : Site) (request : Request (List ℕ)) : Type 0 where
   pub method : is_method request (codes "POST") ≡ true
   pub token : has_token site request ≡ true
   pub person : has_person request ≡ true
+  pub seen : has_seen request ≡ true
   pub line : is_line (body_of request) ≡ true
   pub open_word : is_reserved (body_of request) ≡ false
 

@@ -18,3 +18,7 @@ pub mod Metrics
 pub mod Rows
 pub mod Speaking
 pub mod Events
+pub mod Versions
+pub mod Newer
+pub mod Leases
+pub mod Files

@@ -1,5 +1,5 @@
 -- The lines that the page takes for the bridge (own).
-use Rattle.std.specs.Prelude.{ℕ, Bool, not, ◌&&◌, ◌||◌, List, length, take, nat_lt, nat_le, nat_eq, codes}
+use Rattle.std.specs.Prelude.{ℕ, Bool, not, ◌&&◌, ◌||◌, List, length, take, nat_lt, nat_le, nat_eq, codes, slice_index}
 use Rattle.std.specs.List.{list_all, prefix_len}
 use Rattle.std.specs.Str.{bytes_eq}
 
@@ -43,6 +43,10 @@ is_names_line line = bytes_eq (first_word line) (codes "names")
 abbrev pub is_events_line : List ℕ → Bool
 is_events_line line = bytes_eq (first_word line) (codes "events")
 
+-- the line is a path, which begins with a slash (47): it never goes to the bridge, since it asks for a file
+abbrev pub is_file_line : List ℕ → Bool
+is_file_line line = nat_le 1 (length line) && nat_eq (slice_index line 0) 47
+
 -- the most octets of a change of names
 abbrev pub longest_change : ℕ
 longest_change = 262144
@@ -51,14 +55,14 @@ longest_change = 262144
 abbrev pub is_change : List ℕ → Bool
 is_change body = nat_le (length body) longest_change && is_names_line body
 
--- the word asks about the log, the desk's groups, the connection or its lines
+-- the word asks about the log, the desk's groups, its lease, the connection or its lines
 abbrev pub is_asking : List ℕ → Bool
 is_asking word =
-    bytes_eq word (codes "calls") || bytes_eq word (codes "groups") || bytes_eq word (codes "as")
-    || bytes_eq word (codes "why") || bytes_eq word (codes "help")
+    bytes_eq word (codes "calls") || bytes_eq word (codes "groups") || bytes_eq word (codes "lease")
+    || bytes_eq word (codes "as") || bytes_eq word (codes "why") || bytes_eq word (codes "help")
 
 -- the first word asks for more than one line, for lines from then on, for the end of the connection or of the bridge,
--- for something of the connection's own, for names, or for the stream of events
+-- for something of the connection's own, for names, for the stream of events, or for a file
 abbrev pub is_reserved : List ℕ → Bool
 is_reserved line =
     bytes_eq (first_word line) (codes "show") || bytes_eq (first_word line) (codes "history")
@@ -66,3 +70,4 @@ is_reserved line =
     || bytes_eq (first_word line) (codes "watch")
     || bytes_eq (first_word line) (codes "quit") || bytes_eq (first_word line) (codes "stop")
     || is_asking (first_word line) || is_names_line line || is_events_line line
+    || is_file_line line

@@ -2,7 +2,7 @@
 use Rattle.std.specs.Prelude.{ℕ, ◌≤◌, Bool, false, not, ◌&&◌, if◌then◌else◌, List, [], ◌∷◌, ◌++◌, length, Option}
 use Rattle.std.specs.Prelude.{Some, None}
 use Rattle.std.specs.Str.{bytes_eq}
-use Rattle.desk_http.specs.Lines.{is_names_line, is_events_line}
+use Rattle.desk_http.specs.Lines.{is_names_line, is_events_line, is_file_line}
 use Rattle.desk_http.specs.Queries.{query_line, is_query}
 use Rattle.desk_http.specs.declared.query.Query.{Query}
 use Rattle.desk_http.specs.declared.pending_line.PendingLine.{PendingLine}
@@ -56,20 +56,28 @@ has_events_line reading = false
 has_events_line (queued line) = is_events_line line
 has_events_line dispatched = false
 
--- a call is queued: the line is no query, not about names, and doesn't ask for events
+-- a line that asks for a file is queued
+abbrev pub has_file_line : Stage → Bool
+has_file_line reading = false
+has_file_line (queued line) = is_file_line line
+has_file_line dispatched = false
+
+-- a call is queued: the line is no query, not about names, and asks neither for events nor for a file
 abbrev pub has_call : Stage → Bool
 has_call reading = false
-has_call (queued line) = not (is_query line) && not (is_names_line line) && not (is_events_line line)
+has_call (queued line) =
+    not (is_query line) && not (is_names_line line) && not (is_events_line line) && not (is_file_line line)
 has_call dispatched = false
 
 -- what happens to a request's line: it is queued, or it is taken if it is that of a query, if it is a call, if it is
--- about names, if it asks for events, or whatever it is
+-- about names, if it asks for events, if it asks for a file, or whatever it is
 pub data Event : Type 0 where
   queues : List ℕ → Event
   takes_query : Query → Event
   takes_call : Event
   takes_names : Event
   takes_events : Event
+  takes_file : Event
   takes : Event
 
 -- the line that is handed over if it fits
@@ -87,6 +95,7 @@ after_event (takes_query query) stage = after_take_if (has_query query stage) st
 after_event takes_call stage = after_take_if (has_call stage) stage
 after_event takes_names stage = after_take_if (has_names_line stage) stage
 after_event takes_events stage = after_take_if (has_events_line stage) stage
+after_event takes_file stage = after_take_if (has_file_line stage) stage
 after_event takes stage = after_take stage
 
 -- a line, if there is one, as a list
@@ -101,6 +110,7 @@ dispatched_by (takes_query query) stage = listed (line_if (has_query query stage
 dispatched_by takes_call stage = listed (line_if (has_call stage) stage)
 dispatched_by takes_names stage = listed (line_if (has_names_line stage) stage)
 dispatched_by takes_events stage = listed (line_if (has_events_line stage) stage)
+dispatched_by takes_file stage = listed (line_if (has_file_line stage) stage)
 dispatched_by takes stage = listed (line_at stage)
 
 -- the lines that events hand over, one after another

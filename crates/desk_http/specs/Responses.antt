@@ -1,15 +1,19 @@
 -- The responses to requests (own; the status codes are those of RFC 9110 section 15).
-use Rattle.std.specs.Prelude.{ℕ, List, [], ◌∷◌, ◌++◌, codes}
+use Rattle.std.specs.Prelude.{ℕ, List, [], ◌∷◌, ◌++◌, codes, Option, Some, None}
 use Rattle.http1.specs.Fields.{Header}
 use Rattle.http_server.specs.declared.response.Response.{Response}
 use Rattle.http_server.specs.Response.{IsResponse}
 use Rattle.desk_http.specs.declared.site.Site.{Site}
 use Rattle.desk_http.specs.declared.site.Assets.{Assets}
+use Rattle.desk_http.specs.declared.files.FileKind.{FileKind}
+use Rattle.desk_http.specs.declared.files.FileKind.TheVariants.{Script, Style}
+use Rattle.desk_http.specs.Files.{content_of, name_at}
 use Rattle.desk_http.specs.declared.routing.Route.{Route}
 use Rattle.desk_http.specs.declared.routing.Route.TheVariants as routes
 use Rattle.desk_http.specs.declared.routing.PageRefusal.{PageRefusal}
 use Rattle.desk_http.specs.declared.routing.PageRefusal.TheVariants.{ForeignHost, ForeignOrigin, NotFound, NotAllowed}
-use Rattle.desk_http.specs.declared.routing.PageRefusal.TheVariants.{NoToken, NoPerson, NoLine, Reserved, NoNames}
+use Rattle.desk_http.specs.declared.routing.PageRefusal.TheVariants.{NoToken, NoPerson, NoVersion, NoLine}
+use Rattle.desk_http.specs.declared.routing.PageRefusal.TheVariants.{Reserved, NoNames}
 
 -- a status, a content type and a body
 pub record PageResponse : Type 0 where
@@ -58,13 +62,10 @@ abbrev pub page_response : Assets → List ℕ → PageResponse
 page_response assets token =
     record { status = 200; content_type = html_type; body = assets.html_before.now ++ token ++ assets.html_after.now }
 
--- the page's script, from its two parts
-abbrev pub script_of : Assets → List ℕ
-script_of assets = assets.script_lines.now ++ assets.script_view.now
-
-abbrev pub script_response : Assets → PageResponse
-script_response assets =
-    record { status = 200; content_type = script_type; body = script_of assets }
+-- the content type of a file
+abbrev pub media_type : FileKind → List ℕ
+media_type Script = script_type
+media_type Style = style_type
 
 -- the status of a refusal
 abbrev pub refusal_status : PageRefusal → ℕ
@@ -74,6 +75,7 @@ refusal_status NotFound = 404
 refusal_status NotAllowed = 405
 refusal_status NoToken = 403
 refusal_status NoPerson = 400
+refusal_status NoVersion = 400
 refusal_status NoLine = 400
 refusal_status Reserved = 400
 refusal_status NoNames = 400
@@ -87,6 +89,7 @@ refusal_text NotFound =
 refusal_text NotAllowed = codes "NotAllowed: POST to /call, GET or POST to /names, GET elsewhere\n"
 refusal_text NoToken = codes "NoToken: load the page again, its token is of an earlier run\n"
 refusal_text NoPerson = codes "NoPerson: X-Desk-Person is a name of 1 to 64 octets from ! to ~, or isn't there\n"
+refusal_text NoVersion = codes "NoVersion: X-Desk-Seen is the number of a version of the desk, or isn't there\n"
 refusal_text NoLine = codes "NoLine: a call is one line of 1 to 4096 printed octets\n"
 refusal_text Reserved = codes "Reserved: calls alone are for the page, and no line such as show, watch, as or help\n"
 refusal_text NoNames =
@@ -96,22 +99,30 @@ refusal_text NoNames =
 abbrev pub refusal_response : PageRefusal → PageResponse
 refusal_response refusal = text_response (refusal_status refusal) (refusal_text refusal)
 
+-- the response where there is no such file
+abbrev pub missing_response : PageResponse
+missing_response = refusal_response NotFound
+
+-- a file of this kind, if it is there
+abbrev pub file_response : FileKind → Option (List ℕ) → PageResponse
+file_response kind None = missing_response
+file_response kind (Some content) = record { status = 200; content_type = media_type kind; body = content }
+
 -- a placeholder while the bridge or the store of names is asked, or a stream begins, which no browser gets
 abbrev pub waiting_response : PageResponse
 waiting_response = text_response 503 (codes "Waiting: the bridge is asked\n")
 
--- the response that needs no bridge
-abbrev pub direct_response : Site → Assets → Route → PageResponse
-direct_response site assets routes.Page = page_response assets site.token.items
-direct_response site assets routes.Script = script_response assets
-direct_response site assets routes.Style =
-    record { status = 200; content_type = style_type; body = assets.style.now }
-direct_response site assets (routes.Read query form) = waiting_response
-direct_response site assets routes.Events = waiting_response
-direct_response site assets routes.Call = waiting_response
-direct_response site assets routes.Names = waiting_response
-direct_response site assets routes.ChangeNames = waiting_response
-direct_response site assets (routes.Refused refusal) = refusal_response refusal
+-- the response that needs no bridge, to a request for this path
+abbrev pub direct_response : Site → Assets → List ℕ → Route → PageResponse
+direct_response site assets path routes.Page = page_response assets site.token.items
+direct_response site assets path (routes.File kind) =
+    file_response kind (content_of (name_at path) assets.files.now)
+direct_response site assets path (routes.Read query form) = waiting_response
+direct_response site assets path routes.Events = waiting_response
+direct_response site assets path routes.Call = waiting_response
+direct_response site assets path routes.Names = waiting_response
+direct_response site assets path routes.ChangeNames = waiting_response
+direct_response site assets path (routes.Refused refusal) = refusal_response refusal
 
 -- the response to a request whose line isn't the one that was replied to
 abbrev pub mismatch_response : PageResponse

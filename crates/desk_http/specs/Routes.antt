@@ -2,6 +2,7 @@
 use Rattle.std.specs.Prelude.{ℕ, Bool, true, false, not, ◌&&◌, ◌||◌, if◌then◌else◌, List, ◌-◌, length, take, drop}
 use Rattle.std.specs.Prelude.{nat_le, codes, Option, Some, None}
 use Rattle.std.specs.Str.{bytes_eq}
+use Rattle.std.specs.Option.{is_some}
 use Rattle.http.specs.declared.request.Request.{Request}
 use Rattle.http.specs.Request.{head_of, body_of}
 use Rattle.http_header.specs.FieldValue.{FieldValue}
@@ -11,12 +12,16 @@ use Rattle.desk_http.specs.declared.site.Site.{Site}
 use Rattle.desk_http.specs.declared.routing.Route.{Route}
 use Rattle.desk_http.specs.declared.routing.Route.TheVariants as routes
 use Rattle.desk_http.specs.declared.routing.PageRefusal.TheVariants.{ForeignHost, ForeignOrigin, NotFound, NotAllowed}
-use Rattle.desk_http.specs.declared.routing.PageRefusal.TheVariants.{NoToken, NoPerson, NoLine, Reserved, NoNames}
+use Rattle.desk_http.specs.declared.routing.PageRefusal.TheVariants.{NoToken, NoPerson, NoVersion, NoLine}
+use Rattle.desk_http.specs.declared.routing.PageRefusal.TheVariants.{Reserved, NoNames}
 use Rattle.desk_http.specs.declared.query.Query.TheVariants.{Desk, History, Calls, Stats}
 use Rattle.desk_http.specs.declared.query.AnswerForm.TheVariants.{Lines, Json, Metrics}
 use Rattle.desk_http.specs.declared.routing.Resource.{Resource}
 use Rattle.desk_http.specs.declared.routing.Resource.TheVariants as resources
 use Rattle.desk_http.specs.Lines.{is_line, is_person, is_reserved, is_change}
+use Rattle.desk_http.specs.Versions.{version_of}
+use Rattle.desk_http.specs.declared.files.FileKind.{FileKind}
+use Rattle.desk_http.specs.Files.{kind_at}
 
 -- the name ends with port 80
 abbrev pub has_port_80 : List ℕ → Bool
@@ -70,23 +75,43 @@ person_of request = value_or (codes "page") (header_field request (codes "x-desk
 abbrev pub has_person : Request (List ℕ) → Bool
 has_person request = is_person (person_of request)
 
+-- the version that a field says, if it is there
+abbrev pub seen_in : Option FieldValue → Option ℕ
+seen_in None = None
+seen_in (Some value) = version_of value.bytes
+
+-- the version of the desk that the person saw, where the request says it
+abbrev pub seen_of : Request (List ℕ) → Option ℕ
+seen_of request = seen_in (header_field request (codes "x-desk-seen"))
+
+-- the request says a version, or none
+abbrev pub has_seen : Request (List ℕ) → Bool
+has_seen request = test_or true (λ value. is_some (version_of value)) (header_field request (codes "x-desk-seen"))
+
 -- the request has this method
 abbrev pub is_method : Request (List ℕ) → List ℕ → Bool
 is_method request method = bytes_eq (head_of request).method method
 
--- what is written at a path
+-- a kind of file as what the page has
+abbrev pub file_of : Option FileKind → Option Resource
+file_of None = None
+file_of (Some kind) = Some (resources.File kind)
+
+-- the file at a path
+abbrev pub file_at : List ℕ → Option Resource
+file_at path = file_of (kind_at path)
+
+-- what is written at a path, or the file there
 abbrev pub written_at : List ℕ → Option Resource
 written_at path =
     if bytes_eq path (codes "/call") then Some resources.Call
     else if bytes_eq path (codes "/names") then Some resources.Names
-    else None
+    else file_at path
 
 -- what the page has at a path
 abbrev pub resource_at : List ℕ → Option Resource
 resource_at path =
     if bytes_eq path (codes "/") then Some resources.Page
-    else if bytes_eq path (codes "/page.js") then Some resources.Script
-    else if bytes_eq path (codes "/page.css") then Some resources.Style
     else if bytes_eq path (codes "/desk") then Some (resources.Read Desk Json)
     else if bytes_eq path (codes "/desk.txt") then Some (resources.Read Desk Lines)
     else if bytes_eq path (codes "/history") then Some (resources.Read History Json)
@@ -111,6 +136,7 @@ call_route site request =
     if not (is_method request (codes "POST")) then routes.Refused NotAllowed
     else if not (has_token site request) then routes.Refused NoToken
     else if not (has_person request) then routes.Refused NoPerson
+    else if not (has_seen request) then routes.Refused NoVersion
     else line_route (body_of request)
 
 -- the route if the method is GET; other methods are refused
@@ -135,14 +161,13 @@ names_route site request =
 abbrev pub resource_route : Site → Request (List ℕ) → Option Resource → Route
 resource_route site request None = routes.Refused NotFound
 resource_route site request (Some resources.Page) = get_only request routes.Page
-resource_route site request (Some resources.Script) = get_only request routes.Script
-resource_route site request (Some resources.Style) = get_only request routes.Style
+resource_route site request (Some (resources.File kind)) = get_only request (routes.File kind)
 resource_route site request (Some (resources.Read query form)) = get_only request (routes.Read query form)
 resource_route site request (Some resources.Events) = get_only request routes.Events
 resource_route site request (Some resources.Call) = call_route site request
 resource_route site request (Some resources.Names) = names_route site request
 
--- the route of a request: host, origin, path, method, token, person and body are tested in this order
+-- the route of a request: host, origin, path, method, token, person, version and body are tested in this order
 abbrev pub route_of : Site → Request (List ℕ) → Route
 route_of site request =
     if not (has_own_host site request) then routes.Refused ForeignHost

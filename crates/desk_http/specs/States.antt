@@ -1,5 +1,5 @@
 -- The desk's texts, numbered, and which of them a browser has (own).
-use Rattle.std.specs.Prelude.{ℕ, ◌+◌, ◌-◌, ◌^◌, min, Bool, true, false, ◌&&◌, if◌then◌else◌, nat_le, List, [], ◌++◌}
+use Rattle.std.specs.Prelude.{ℕ, ◌+◌, ◌-◌, ◌^◌, min, Bool, true, false, ◌&&◌, if◌then◌else◌, nat_le, List, ◌++◌}
 use Rattle.std.specs.Prelude.{codes, length, take, drop, Option, Some, None}
 use Rattle.std.specs.Str.{bytes_eq}
 use Rattle.std.specs.Fmt.{decimal}
@@ -9,7 +9,8 @@ use Rattle.desk_http.specs.declared.query.AnswerForm.TheVariants.{Lines, Json, M
 use Rattle.desk_http.specs.declared.routing.Route.{Route}
 use Rattle.desk_http.specs.declared.routing.Route.TheVariants as routes
 use Rattle.desk_http.specs.declared.responding.BridgeReply.{BridgeReply}
-use Rattle.desk_http.specs.declared.responding.BridgeReply.TheVariants.{Text, Busy, Gone, Lost, Full}
+use Rattle.desk_http.specs.declared.responding.BridgeReply.TheVariants.{Text, Busy, Gone, Lost, Full, Newer}
+use Rattle.desk_http.specs.declared.responding.BridgeReply.TheVariants.{Missing}
 use Rattle.desk_http.specs.BridgeRequests.{before_last_lf, last_line}
 
 -- the number of a text that comes after others: a text that is as the last one keeps its number
@@ -46,8 +47,7 @@ is_desk_lines (routes.Read History form) = false
 is_desk_lines (routes.Read Calls form) = false
 is_desk_lines (routes.Read Stats form) = false
 is_desk_lines routes.Page = false
-is_desk_lines routes.Script = false
-is_desk_lines routes.Style = false
+is_desk_lines (routes.File kind) = false
 is_desk_lines routes.Events = false
 is_desk_lines routes.Call = false
 is_desk_lines routes.Names = false
@@ -63,3 +63,5 @@ is_known route (Some query) Busy = false
 is_known route (Some query) Gone = false
 is_known route (Some query) Lost = false
 is_known route (Some query) Full = false
+is_known route (Some query) (Newer call) = false
+is_known route (Some query) Missing = false

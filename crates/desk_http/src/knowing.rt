@@ -45,8 +45,7 @@ fn is_desk_lines(route: Route) -> bool
         Route::Read(Query::Desk, AnswerForm::Json | AnswerForm::Metrics) => false,
         Route::Read(Query::History | Query::Calls | Query::Stats, _) => false,
         Route::Page
-        | Route::Script
-        | Route::Style
+        | Route::File(_)
         | Route::Events
         | Route::Call
         | Route::Names
@@ -63,8 +62,8 @@ pub(crate) fn is_known(route: Route, query: Option<&str>, reply: &BridgeReply) -
         (Some(query), BridgeReply::Text(answer)) => {
             is_desk_lines(route) && is_seen(state_in(query.as_bytes()), before_last_lf(answer))
         }
-        (Some(_), BridgeReply::Busy | BridgeReply::Gone | BridgeReply::Lost | BridgeReply::Full) =>
-            { false }
+        (Some(_), BridgeReply::Busy | BridgeReply::Gone | BridgeReply::Lost) => false,
+        (Some(_), BridgeReply::Full | BridgeReply::Newer(_) | BridgeReply::Missing) => false,
         (None, _) => false,
     }
 }

@@ -4,8 +4,8 @@ ghost use Rattle.desk_http.specs.PendingLines.{IsSentAtMostOnce};
 ghost use Rattle.desk_http.specs.Guarded.{IsGuarded};
 ghost use Rattle.desk_http.specs.Events.{MakesText};
 
-/// A request is a call only if it is a POST to the page's own host, from no other origin, with its token, a line, and a
-/// name that the bridge takes.
+/// A request is a call only if it is a POST to the page's own host, from no other origin, with its token, a line, a
+/// name that the bridge takes, and a version of the desk or none.
 pub fn calls_are_guarded()
     ensures { IsGuarded }
 {}

@@ -10,6 +10,7 @@ ghost use Rattle.desk_http.specs.Lines.{
   first_word,
   is_names_line,
   is_events_line,
+  is_file_line,
   is_change,
   is_reserved,
   is_asking,
@@ -78,6 +79,13 @@ pub(crate) fn is_events_line(line: &[u8]) -> bool
     first_word(line) == b"events".as_slice()
 }
 
+/// Whether a line is a path, which begins with a slash. Such a line never goes to the bridge: it asks for a file.
+pub(crate) fn is_file_line(line: &[u8]) -> bool
+    ensures { result ≡ is_file_line line.now }
+{
+    line.len() >= 1 && line[0] == b'/'
+}
+
 /// Whether a body is a change of names: it begins with that word, and isn't too long.
 pub(crate) fn is_change(body: &[u8]) -> bool
     ensures { result ≡ is_change body.now }
@@ -100,14 +108,16 @@ pub(crate) fn is_reserved(line: &[u8]) -> bool
         || is_asking(word)
         || is_names_line(line)
         || is_events_line(line)
+        || is_file_line(line)
 }
 
-/// Whether a word begins a line about the log, the desk's groups, the connection or its lines.
+/// Whether a word begins a line about the log, the desk's groups, its lease, the connection or its lines.
 fn is_asking(word: &[u8]) -> bool
     ensures { result ≡ is_asking word.now }
 {
     word == b"calls".as_slice()
         || word == b"groups".as_slice()
+        || word == b"lease".as_slice()
         || word == b"as".as_slice()
         || word == b"why".as_slice()
         || word == b"help".as_slice()

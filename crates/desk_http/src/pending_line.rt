@@ -10,12 +10,13 @@ ghost use Rattle.desk_http.specs.PendingLines.{
   has_call,
   has_names_line,
   has_events_line,
+  has_file_line,
   line_at,
   line_if,
 };
 
 use crate::Query;
-use crate::lines::{is_events_line, is_names_line};
+use crate::lines::{is_events_line, is_file_line, is_names_line};
 use crate::query::is_query;
 use std::mem;
 
@@ -27,7 +28,7 @@ use std::mem;
 pub enum PendingLine {
     /// No request is whole yet.
     Reading,
-    /// This line is to be handed to the bridge, to the store of names, or to the stream of events.
+    /// This line is to be handed to the bridge, to the store of names, to the stream of events, or to the folder.
     Queued(Vec<u8>),
     /// The line was handed over, which happens once.
     Dispatched,
@@ -70,15 +71,37 @@ impl PendingLine {
         }
     }
 
-    /// Whether a line is queued that is no query, not about names, and doesn't ask for events.
+    fn has_file_line(&self) -> bool
+        ensures { result ≡ has_file_line (stage_of self.now) }
+    {
+        match self {
+            PendingLine::Queued(line) => is_file_line(line),
+            PendingLine::Reading | PendingLine::Dispatched => false,
+        }
+    }
+
+    /// Whether a line is queued that is no query, not about names, and asks neither for events nor for a file.
     pub fn has_call(&self) -> bool
         ensures { result ≡ has_call (stage_of self.now) }
     {
         match self {
             PendingLine::Queued(line) => {
-                !is_query(line) && !is_names_line(line) && !is_events_line(line)
+                !is_query(line)
+                    && !is_names_line(line)
+                    && !is_events_line(line)
+                    && !is_file_line(line)
             }
             PendingLine::Reading | PendingLine::Dispatched => false,
+        }
+    }
+
+    /// The line, if it is a call that is queued.
+    pub fn call(&self) -> Option<&[u8]>
+        ensures { option_map (λ x. x.now) result ≡ line_if (has_call (stage_of self.now)) (stage_of self.now) }
+    {
+        match self {
+            PendingLine::Queued(line) if self.has_call() => Some(line),
+            PendingLine::Queued(_) | PendingLine::Reading | PendingLine::Dispatched => None,
         }
     }
 
@@ -138,6 +161,19 @@ impl PendingLine {
         ensures stage { stage_of self.new ≡ after_take_if (has_events_line (stage_of self.old)) (stage_of self.old) }
     {
         if self.has_events_line() {
+            self.take()
+        } else {
+            None
+        }
+    }
+
+    /// Takes the line if it asks for a file, which the page's folder has: the bridge never gets it.
+    pub fn take_file(&mut self) -> Option<Vec<u8>>
+        ensures line { option_map (λ v. v.items) result
+            ≡ line_if (has_file_line (stage_of self.old)) (stage_of self.old) }
+        ensures stage { stage_of self.new ≡ after_take_if (has_file_line (stage_of self.old)) (stage_of self.old) }
+    {
+        if self.has_file_line() {
             self.take()
         } else {
             None

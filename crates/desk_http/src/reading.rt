@@ -45,7 +45,7 @@ pub(crate) fn leading_word(line: &str) -> &str
 }
 
 /// The line behind its first word, if it has another one.
-fn behind_first(line: &str) -> Option<&str>
+pub(crate) fn behind_first(line: &str) -> Option<&str>
     ensures { option_map (λ x. x.now) result ≡ behind_first line.now }
 {
     match line.split_once(' ') {
@@ -56,7 +56,7 @@ fn behind_first(line: &str) -> Option<&str>
 
 /// The line behind so many words.
 #[tactic(auto, using(crate::proofs::ReadingLemmas::behind_step))]
-fn behind(line: &str, count: usize) -> Option<&str>
+pub(crate) fn behind(line: &str, count: usize) -> Option<&str>
     ensures { option_map (λ x. x.now) result ≡ behind count line.now }
 {
     let mut rest = line;

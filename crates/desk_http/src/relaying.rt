@@ -11,6 +11,7 @@ ghost use Rattle.desk_http.specs.Relays.{
   told_response,
   form_response,
   text_response_of,
+  newer_response,
   relayed_response,
 };
 
@@ -20,7 +21,7 @@ use crate::call_shapes::{calls_shapes, history_shapes};
 use crate::desk_shapes::desk_shapes;
 use crate::media_metrics::media_families;
 use crate::metrics::{Family, metrics_text};
-use crate::responding::{fill, fill_text};
+use crate::responding::{fill, fill_missing, fill_text, media_type};
 use crate::rows::{RowShape, json_text};
 use crate::stats_shapes::stats_shapes;
 use crate::stream_metrics::stream_families;
@@ -189,18 +190,30 @@ fn fill_answer(
 {
     match route {
         Route::Read(query, form) => fill_form(alloc, response, tables, query, form, answer),
-        Route::Page
-        | Route::Script
-        | Route::Style
-        | Route::Events
-        | Route::Call
-        | Route::Names
-        | Route::ChangeNames
-        | Route::Refused(_) => {
+        Route::Page => {
+            let content_type = HeaderValue::from_static("text/html; charset=utf-8");
+            fill_body(response, content_type, answer)
+        }
+        Route::File(kind) => fill_body(response, media_type(kind), answer),
+        Route::Events | Route::Call | Route::Names | Route::ChangeNames | Route::Refused(_) => {
             let content_type = HeaderValue::from_static("text/plain; charset=utf-8");
             fill_body(response, content_type, answer)
         }
     }
+}
+
+/// Fills in the response to a call that isn't sent, since this one of the log came first.
+fn fill_newer(response: &mut Response, call: &[u8]) -> Result<(), AllocError>
+    requires { IsBlank response.old }
+    ensures { OnOk result (IsPageResponse (newer_response call.now) response.new) }
+{
+    fill_text(
+        response,
+        StatusCode::CONFLICT,
+        b"Newer: another person touched that row after this desk was seen, nothing was sent\n",
+    )?;
+    response.body.put_slice(call)?;
+    response.body.put_slice(b"\n")
 }
 
 /// Fills in the response to a request of this route by the bridge's reply.
@@ -236,5 +249,7 @@ pub(crate) fn relay(
             StatusCode::SERVICE_UNAVAILABLE,
             b"Full: 24 pages have the events, ask for the desk now and then\n",
         ),
+        BridgeReply::Newer(call) => fill_newer(response, call),
+        BridgeReply::Missing => fill_missing(response),
     }
 }

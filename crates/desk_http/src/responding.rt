@@ -1,14 +1,15 @@
 //! The responses to requests.
 
-ghost use Rattle.std.specs.Prelude.{◌≡◌, ◌++◌, ◌∷◌, [], codes, OnOk};
+ghost use Rattle.std.specs.Prelude.{◌≡◌, ◌++◌, ◌∷◌, [], codes, OnOk, option_map};
 ghost use Rattle.http_server.specs.Response.{IsBlank, fields_of};
 ghost use Rattle.desk_http.specs.Responses.{
   common_headers,
   html_type,
-  style_type,
   text_response,
   page_response,
-  script_response,
+  media_type,
+  missing_response,
+  file_response,
   refusal_status,
   refusal_text,
   refusal_response,
@@ -18,7 +19,8 @@ ghost use Rattle.desk_http.specs.Responses.{
   IsPageResponse,
 };
 
-use crate::{Assets, PageRefusal, Route, Site};
+use crate::files::{content_of, name_at};
+use crate::{Assets, FileKind, PageRefusal, Route, Site};
 use bytes::{BufMut, Bytes};
 use http::{HeaderName, HeaderValue, StatusCode, header};
 use http_server::Response;
@@ -37,6 +39,10 @@ pub enum BridgeReply {
     Lost,
     /// As many browsers have the stream of events as may have it.
     Full,
+    /// This call of the log came first. Nothing of the line was sent.
+    Newer(Vec<u8>),
+    /// The folder has no such file.
+    Missing,
 }
 
 /// Adds the headers that all responses have.
@@ -113,18 +119,46 @@ fn fill_page(response: &mut Response, assets: Assets, token: &[u8]) -> Result<()
     response.body.put_slice(assets.html_after)
 }
 
-fn fill_script(response: &mut Response, assets: Assets) -> Result<(), AllocError>
-    requires { IsBlank response.old }
-    ensures { OnOk result (IsPageResponse (script_response assets) response.new) }
+/// The content type of a file.
+pub(crate) fn media_type(kind: FileKind) -> HeaderValue
+    ensures { result.bytes ≡ media_type kind }
 {
-    let content_type = HeaderValue::from_static("text/javascript; charset=utf-8");
-    fill(
-        response,
-        StatusCode::OK,
-        content_type,
-        Bytes::from_static(assets.script_lines),
-    )?;
-    response.body.put_slice(assets.script_view)
+    match kind {
+        FileKind::Script => HeaderValue::from_static("text/javascript; charset=utf-8"),
+        FileKind::Style => HeaderValue::from_static("text/css; charset=utf-8"),
+    }
+}
+
+/// Fills in that there is no such file.
+pub(crate) fn fill_missing(response: &mut Response) -> Result<(), AllocError>
+    requires { IsBlank response.old }
+    ensures { OnOk result (IsPageResponse missing_response response.new) }
+{
+    let refusal = PageRefusal::NotFound;
+    fill_text(response, refusal_status(refusal), refusal_text(refusal))
+}
+
+/// Fills in a file of this kind, if it is there.
+fn fill_file(
+    response: &mut Response,
+    kind: FileKind,
+    content: Option<&'static [u8]>,
+) -> Result<(), AllocError>
+    requires { IsBlank response.old }
+    ensures { OnOk result
+        (IsPageResponse (file_response kind (option_map (λ x. x.now) content.entry)) response.new) }
+{
+    match content {
+        Some(content) => {
+            fill(
+                response,
+                StatusCode::OK,
+                media_type(kind),
+                Bytes::from_static(content),
+            )
+        }
+        None => fill_missing(response),
+    }
 }
 
 fn refusal_status(refusal: PageRefusal) -> StatusCode
@@ -136,6 +170,7 @@ fn refusal_status(refusal: PageRefusal) -> StatusCode
         PageRefusal::NotFound => StatusCode::NOT_FOUND,
         PageRefusal::NotAllowed => StatusCode::METHOD_NOT_ALLOWED,
         PageRefusal::NoPerson
+        | PageRefusal::NoVersion
         | PageRefusal::NoLine
         | PageRefusal::Reserved
         | PageRefusal::NoNames => StatusCode::BAD_REQUEST,
@@ -156,6 +191,8 @@ fn refusal_text(refusal: PageRefusal) -> &'static [u8]
         PageRefusal::NoToken => b"NoToken: load the page again, its token is of an earlier run\n",
         PageRefusal::NoPerson =>
             b"NoPerson: X-Desk-Person is a name of 1 to 64 octets from ! to ~, or isn't there\n",
+        PageRefusal::NoVersion =>
+            b"NoVersion: X-Desk-Seen is the number of a version of the desk, or isn't there\n",
         PageRefusal::NoLine => b"NoLine: a call is one line of 1 to 4096 printed octets\n",
         PageRefusal::Reserved =>
             b"Reserved: calls alone are for the page, and no line such as show, watch, as or help\n",
@@ -170,22 +207,17 @@ pub(crate) fn respond(
     response: &mut Response,
     site: &Site,
     assets: Assets,
+    path: &str,
     route: Route,
 ) -> Result<(), AllocError>
     requires { IsBlank response.old }
-    ensures { OnOk result (IsPageResponse (direct_response site.now assets route) response.new) }
+    ensures { OnOk result (IsPageResponse (direct_response site.now assets path.now route) response.new) }
 {
     match route {
         Route::Page => fill_page(response, assets, &site.token),
-        Route::Script => fill_script(response, assets),
-        Route::Style => {
-            let content_type = HeaderValue::from_static("text/css; charset=utf-8");
-            fill(
-                response,
-                StatusCode::OK,
-                content_type,
-                Bytes::from_static(assets.style),
-            )
+        Route::File(kind) => {
+            let content = content_of(assets.files, name_at(path.as_bytes()));
+            fill_file(response, kind, content)
         }
         Route::Refused(refusal) => {
             fill_text(response, refusal_status(refusal), refusal_text(refusal))

@@ -5,6 +5,7 @@ ghost use Rattle.desk_http.specs.Routes.{
   change_route,
   post_names_route,
   names_route,
+  file_at,
   written_at,
   resource_at,
   line_route,
@@ -15,12 +16,12 @@ ghost use Rattle.desk_http.specs.Routes.{
   has_own_host,
   has_own_origin,
   has_token,
-  person_of,
-  has_person,
 };
 
-use crate::lines::{is_change, is_line, is_person, is_reserved};
-use crate::{AnswerForm, Query, Site};
+use crate::files::kind_at;
+use crate::lines::{is_change, is_line, is_reserved};
+use crate::person::{has_person, has_seen};
+use crate::{AnswerForm, FileKind, Query, Site};
 use bytes::Bytes;
 use http::{Request, header};
 
@@ -29,10 +30,8 @@ use http::{Request, header};
 pub enum Route {
     /// The page in HTML.
     Page,
-    /// The page's script.
-    Script,
-    /// The page's style sheet.
-    Style,
+    /// A part of the page's script, or its style sheet.
+    File(FileKind),
     /// What the bridge answers to a query, handed on like this.
     Read(Query, AnswerForm),
     /// The stream of what happens from now on.
@@ -62,6 +61,8 @@ pub enum PageRefusal {
     NoToken,
     /// Its person's name isn't 1 to 64 octets from 33 to 126.
     NoPerson,
+    /// The version that its person saw isn't a number below 2^64.
+    NoVersion,
     /// Its body isn't 1 to 4,096 octets from 32 to 126.
     NoLine,
     /// Its body begins with `names`, or as a line of an operator that is no call, such as `show` or `help`.
@@ -74,15 +75,24 @@ pub enum PageRefusal {
 #[derive(Clone, Copy)]
 pub(crate) enum Resource {
     Page,
-    Script,
-    Style,
+    File(FileKind),
     Read(Query, AnswerForm),
     Events,
     Call,
     Names,
 }
 
-/// What is written at a path.
+/// The file at a path.
+fn file_at(path: &str) -> Option<Resource>
+    ensures { result ≡ file_at path.now }
+{
+    match kind_at(path.as_bytes()) {
+        Some(kind) => Some(Resource::File(kind)),
+        None => None,
+    }
+}
+
+/// What is written at a path, or the file there.
 fn written_at(path: &str) -> Option<Resource>
     ensures { result ≡ written_at path.now }
 {
@@ -91,7 +101,7 @@ fn written_at(path: &str) -> Option<Resource>
     } else if path == "/names" {
         Some(Resource::Names)
     } else {
-        None
+        file_at(path)
     }
 }
 
@@ -100,10 +110,6 @@ fn resource_at(path: &str) -> Option<Resource>
 {
     if path == "/" {
         Some(Resource::Page)
-    } else if path == "/page.js" {
-        Some(Resource::Script)
-    } else if path == "/page.css" {
-        Some(Resource::Style)
     } else if path == "/desk" {
         Some(Resource::Read(Query::Desk, AnswerForm::Json))
     } else if path == "/desk.txt" {
@@ -167,22 +173,6 @@ fn has_token(site: &Site, request: &Request<Bytes>) -> bool
     }
 }
 
-/// Who gives the request's line: `page` where the request doesn't say it.
-pub(crate) fn person_of(request: &Request<Bytes>) -> &[u8]
-    ensures { result.now ≡ person_of request.now }
-{
-    match request.headers().get("x-desk-person") {
-        Some(value) => value.as_bytes(),
-        None => b"page",
-    }
-}
-
-fn has_person(request: &Request<Bytes>) -> bool
-    ensures { result ≡ has_person request.now }
-{
-    is_person(person_of(request))
-}
-
 /// The route of a request to `/call`.
 fn call_route(site: &Site, request: &Request<Bytes>) -> Route
     ensures { result ≡ call_route site.now request.now }
@@ -193,6 +183,8 @@ fn call_route(site: &Site, request: &Request<Bytes>) -> Route
         Route::Refused(PageRefusal::NoToken)
     } else if !has_person(request) {
         Route::Refused(PageRefusal::NoPerson)
+    } else if !has_seen(request) {
+        Route::Refused(PageRefusal::NoVersion)
     } else {
         line_route(request.body().as_slice())
     }
@@ -247,8 +239,7 @@ fn resource_route(site: &Site, request: &Request<Bytes>, resource: Option<Resour
 {
     match resource {
         Some(Resource::Page) => get_only(request, Route::Page),
-        Some(Resource::Script) => get_only(request, Route::Script),
-        Some(Resource::Style) => get_only(request, Route::Style),
+        Some(Resource::File(kind)) => get_only(request, Route::File(kind)),
         Some(Resource::Read(query, form)) => get_only(request, Route::Read(query, form)),
         Some(Resource::Events) => get_only(request, Route::Events),
         Some(Resource::Call) => call_route(site, request),

@@ -4,12 +4,19 @@
 ghost use Rattle.std.specs.Prelude.{◌≡◌, IfOk, option_map};
 ghost use Rattle.http.specs.Request.{body_of};
 ghost use Rattle.desk_http.specs.Routes.{route_of};
-ghost use Rattle.desk_http.specs.Services.{bridge_line, is_line_wanted, RoutesRequest, Responds};
+ghost use Rattle.desk_http.specs.Services.{
+  bridge_line,
+  is_file,
+  requested_line,
+  is_line_wanted,
+  RoutesRequest,
+  Responds,
+};
 
 use crate::knowing::is_known;
+use crate::person::{person_of, seen_of};
 use crate::relaying::{Tables, relay};
 use crate::responding::{respond, respond_known, respond_mismatch};
-use crate::routing::person_of;
 use crate::{Assets, BridgeReply, Route, Site, route_of};
 use bytes::Bytes;
 use http::Request;
@@ -26,7 +33,34 @@ fn bridge_line(route: Route, body: &[u8]) -> Option<&[u8]>
         Route::Call => Some(body),
         Route::Names => Some(b"names"),
         Route::ChangeNames => Some(body),
-        Route::Page | Route::Script | Route::Style | Route::Refused(_) => None,
+        Route::Page | Route::File(_) | Route::Refused(_) => None,
+    }
+}
+
+/// Whether a route is to a file of the page.
+fn is_file(route: Route) -> bool
+    ensures { result ≡ is_file route }
+{
+    match route {
+        Route::Page | Route::File(_) => true,
+        Route::Read(_, _)
+        | Route::Events
+        | Route::Call
+        | Route::Names
+        | Route::ChangeNames
+        | Route::Refused(_) => false,
+    }
+}
+
+/// The line of a request: its path where it asks for a file of a folder, and else what its route hands over.
+fn requested_line<'a>(site: &Site, request: &'a Request<Bytes>) -> Option<&'a [u8]>
+    ensures { option_map (λ x. x.now) result ≡ requested_line site.now request.now }
+{
+    let route = route_of(site, request);
+    if site.has_folder && is_file(route) {
+        Some(request.uri().path().as_bytes())
+    } else {
+        bridge_line(route, request.body().as_slice())
     }
 }
 
@@ -50,7 +84,10 @@ pub struct Router {
     pub assets: Assets,
     /// Who gave the last request, as the request says it.
     pub person: Vec<u8>,
-    /// The request's line for the bridge. While there is one, what the connection would send is a placeholder.
+    /// The version of the desk that this person saw, where the request says it.
+    pub seen: Option<u64>,
+    /// The request's line for the bridge, the store of names, the stream of events or the folder. While there is one,
+    /// what the connection would send is a placeholder.
     pub line: Option<Vec<u8>>,
 }
 
@@ -63,10 +100,17 @@ impl Service for Router {
         response: &mut Response,
     ) -> Result<(), AllocError> {
         let route = route_of(&self.site, request);
-        respond(response, &self.site, self.assets, route)?;
+        respond(
+            response,
+            &self.site,
+            self.assets,
+            request.uri().path(),
+            route,
+        )?;
         let person = Vec::from_slice(self.alloc, person_of(request))?;
-        let line = copy_of(self.alloc, bridge_line(route, request.body().as_slice()))?;
+        let line = copy_of(self.alloc, requested_line(&self.site, request))?;
         self.person = person;
+        self.seen = seen_of(request);
         self.line = line;
         Ok(())
     }
@@ -95,9 +139,9 @@ impl<'a> Responder<'a> {
     fn is_for(&self, request: &Request<Bytes>) -> bool
         ensures { result
             ≡ is_line_wanted self.now.line.now
-            (bridge_line (route_of self.now.site.now request.now) (body_of request.now)) }
+            (requested_line self.now.site.now request.now) }
     {
-        match bridge_line(route_of(self.site, request), request.body().as_slice()) {
+        match requested_line(self.site, request) {
             Some(line) => self.line == line,
             None => false,
         }

@@ -1,11 +1,12 @@
 //! The page's own hosts, token and files.
 
-ghost use Rattle.std.specs.Prelude.{◌≡◌, ◌++◌, codes, IfOk};
+ghost use Rattle.std.specs.Prelude.{◌≡◌, ◌++◌, codes, IfOk, false};
 ghost use Rattle.std.specs.Fmt.{decimal};
 ghost use Rattle.std.specs.Net.Socket.{socket_port};
 ghost use Rattle.std.specs.Net.Text.{socket_text};
 ghost use Rattle.desk_http.specs.Routes.{has_port_80, is_named, is_host_of, is_origin_of};
 
+use crate::AssetFile;
 use std::alloc::{AllocError, Global};
 use std::net::SocketAddr;
 
@@ -18,6 +19,8 @@ pub struct Site {
     pub local: Vec<u8>,
     /// A secret of this run, of any length. The page holds it, and each POST sends it back.
     pub token: Vec<u8>,
+    /// The page's files are those of a folder, which is read at each request, in place of the built-in ones.
+    pub has_folder: bool,
 }
 
 /// The page's files, which the program embeds.
@@ -27,12 +30,8 @@ pub struct Assets {
     pub html_before: &'static [u8],
     /// The page in HTML, after the token.
     pub html_after: &'static [u8],
-    /// The first part of the script: the bridge's texts, and lines for the bridge.
-    pub script_lines: &'static [u8],
-    /// The rest of the script: what is drawn, and what operators do.
-    pub script_view: &'static [u8],
-    /// The page's style sheet.
-    pub style: &'static [u8],
+    /// The parts of its script, and its style sheet.
+    pub files: &'static [AssetFile],
 }
 
 fn has_port_80(name: &[u8]) -> bool
@@ -51,16 +50,22 @@ fn is_named(name: &[u8], host: &[u8]) -> bool
 }
 
 impl Site {
-    /// The page at this address, with this token.
+    /// The page at this address, with this token and its built-in files.
     pub fn new(alloc: Global, address: SocketAddr, token: Vec<u8>) -> Result<Self, AllocError>
         ensures host { IfOk result (λ site. site.host.items ≡ socket_text address) }
         ensures local { IfOk result (λ site. site.local.items ≡ codes "localhost:" ++ decimal (socket_port address)) }
         ensures token { IfOk result (λ site. site.token ≡ token) }
+        ensures has_folder { IfOk result (λ site. site.has_folder ≡ false) }
     {
         let port = address.port();
         let host = format!(in alloc; "{address}")?.into_bytes();
         let local = format!(in alloc; "localhost:{port}")?.into_bytes();
-        Ok(Self { host, local, token })
+        Ok(Self {
+            host,
+            local,
+            token,
+            has_folder: false,
+        })
     }
 
     pub(crate) fn is_host(&self, host: &[u8]) -> bool

@@ -28,7 +28,9 @@ pub(crate) struct Client {
     request: Vec<u8>,
     pub(crate) pending: PendingLine,
     /// Who gave the line.
-    person: Vec<u8>,
+    pub(crate) person: Vec<u8>,
+    /// The version of the desk that this person saw, if the request says it.
+    pub(crate) seen: Option<u64>,
     /// Its line was handed to the bridge and has no reply yet.
     awaits_reply: bool,
     /// What the stream of events has for the browser, and how much of it was sent.
@@ -66,6 +68,7 @@ impl Client {
             request: Vec::new(config.alloc),
             pending: PendingLine::Reading,
             person: Vec::new(config.alloc),
+            seen: None,
             awaits_reply: false,
             events: Vec::new(config.alloc),
             sent: 0,
@@ -238,6 +241,7 @@ impl Client {
         feed(&mut self.connection, octets)?;
         self.connection.advance(router);
         self.person = Vec::from_slice(router.alloc, &router.person)?;
+        self.seen = router.seen;
         self.proceed(router.line.take(), now);
         Ok(())
     }

@@ -16,7 +16,7 @@ use std::io;
 #[derive(Drop)]
 pub(crate) struct Clients {
     /// The oldest is the first.
-    connected: Vec<Client>,
+    pub(crate) connected: Vec<Client>,
     /// The number of the next connection.
     next_id: usize,
 }

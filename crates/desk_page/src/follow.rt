@@ -5,13 +5,15 @@
 //! calls, so that calls are told before the desk that they made.
 
 use desk_http::{
-    BridgeReply, DeskTexts, Query, answer_lines, append_event, edit_between, known_lines,
-    latest_line,
+    BridgeReply, DeskTexts, Query, answer_lines, append_event, closed_by, edit_between,
+    known_lines, latest_line, lease_line,
 };
 use std::alloc::{AllocError, Global};
 
 /// How many milliseconds are between two looks at the newest call.
 const LOOK_INTERVAL: u64 = 100;
+/// How many milliseconds are between two questions for the lease of the desk.
+const LEASE_INTERVAL: u64 = 1_000;
 /// How many milliseconds are between two beats, by which a browser knows that its stream is alive.
 const BEAT_INTERVAL: u64 = 2_000;
 
@@ -30,7 +32,10 @@ impl BridgeState {
     /// What a reply says of the bridge.
     pub(crate) fn by(reply: &BridgeReply) -> Self {
         match reply {
-            BridgeReply::Text(_) | BridgeReply::Full => BridgeState::There,
+            BridgeReply::Text(_)
+            | BridgeReply::Full
+            | BridgeReply::Newer(_)
+            | BridgeReply::Missing => BridgeState::There,
             BridgeReply::Gone | BridgeReply::Lost => BridgeState::Gone,
             BridgeReply::Busy => BridgeState::Busy,
         }
@@ -48,17 +53,21 @@ impl BridgeState {
 /// What is known of the desk, and what is to be asked.
 #[derive(Drop)]
 pub(crate) struct Follow {
-    /// When the newest call is asked for, and when the next beat is due.
+    /// When the newest call is asked for, when the lease is, and when the next beat is due.
     next_look: u64,
+    next_lease: u64,
     next_beat: u64,
     /// The answer to that question.
     newest: Vec<u8>,
-    /// The last calls of the log.
+    /// The last calls of the log, and whether they have come just now: nothing was sent to the bridge since.
     log: Vec<u8>,
+    pub(crate) has_log: bool,
     /// Calls were accepted since the desk, or since the log.
     wants_desk: bool,
     wants_log: bool,
     state: BridgeState,
+    /// Who held the lease of the desk, where it has ended.
+    closed: Option<Vec<u8>>,
     /// What became of the desk since the log.
     edits: Vec<u8>,
     /// The events that no browser has yet.
@@ -99,17 +108,36 @@ fn append_calls(
     Ok(())
 }
 
+/// Appends an event that tells whether the desk is closed, and who held its lease.
+fn append_lease(
+    alloc: Global,
+    closed: &Option<Vec<u8>>,
+    out: &mut Vec<u8>,
+) -> Result<(), AllocError> {
+    match closed {
+        Some(name) => {
+            let mut told = Vec::from_slice(alloc, b"closed ")?;
+            told.extend_from_slice(name)?;
+            append_event(out, b"lease", &told)
+        }
+        None => append_event(out, b"lease", b"open"),
+    }
+}
+
 impl Follow {
     /// Nothing is known.
     pub(crate) fn new(alloc: Global) -> Self {
         Self {
             next_look: 0,
+            next_lease: 0,
             next_beat: 0,
             newest: Vec::new(alloc),
             log: Vec::new(alloc),
+            has_log: false,
             wants_desk: true,
             wants_log: true,
             state: BridgeState::There,
+            closed: None,
             edits: Vec::new(alloc),
             events: Vec::new(alloc),
         }
@@ -126,13 +154,17 @@ impl Follow {
         } else if now >= self.next_look {
             self.next_look = now.saturating_add(LOOK_INTERVAL);
             Some(latest_line())
+        } else if now >= self.next_lease {
+            self.next_lease = now.saturating_add(LEASE_INTERVAL);
+            Some(lease_line())
         } else {
             None
         }
     }
 
-    /// Notes that calls may have been accepted: the desk and the log are asked for.
+    /// Notes that calls may have been accepted or refused: the desk, the log and the lease are asked for.
     pub(crate) fn note_change(&mut self) {
+        self.next_lease = 0;
         self.wants_desk = true;
         self.wants_log = true;
     }
@@ -141,6 +173,12 @@ impl Follow {
     pub(crate) fn clear(&mut self) {
         self.events.clear();
         self.edits.clear();
+        self.next_lease = 0;
+    }
+
+    /// The log, as the bridge told it last.
+    pub(crate) fn log(&self) -> &[u8] {
+        &self.log
     }
 
     /// Whether all that was asked of the desk is still right, as far as is known.
@@ -168,6 +206,7 @@ impl Follow {
             append_calls(alloc, before, after, &mut self.events)?;
         }
         self.log = Vec::from_slice(alloc, text)?;
+        self.has_log = true;
         self.events.extend_from_slice(&self.edits)?;
         self.edits.clear();
         Ok(())
@@ -208,8 +247,21 @@ impl Follow {
         append_event(&mut self.events, b"bridge", state.word())
     }
 
-    /// The first events of a stream: the state of the desk's text, as `/desk.txt` names it, and that the bridge isn't
-    /// there where it isn't.
+    /// Takes what the bridge says of its lease, and tells browsers where the desk was closed or is open again.
+    pub(crate) fn note_lease(&mut self, alloc: Global, answer: &[u8]) -> Result<(), AllocError> {
+        let closed = match closed_by(answer) {
+            Some(name) => Some(Vec::from_slice(alloc, name)?),
+            None => None,
+        };
+        if self.closed != closed {
+            self.closed = closed;
+            append_lease(alloc, &self.closed, &mut self.events)?;
+        }
+        Ok(())
+    }
+
+    /// The first events of a stream: the state of the desk's text, as `/desk.txt` names it, whether the desk is closed,
+    /// and that the bridge isn't there where it isn't.
     pub(crate) fn hello(
         &self,
         alloc: Global,
@@ -219,6 +271,7 @@ impl Follow {
         let mut events = Vec::new(alloc);
         let told = format!(in alloc; "{run}-{number}")?;
         append_event(&mut events, b"hello", told.as_bytes())?;
+        append_lease(alloc, &self.closed, &mut events)?;
         if self.state != BridgeState::There {
             append_event(&mut events, b"bridge", self.state.word())?;
         }

@@ -19,15 +19,19 @@ mod page_sockets;
 mod query_timer;
 mod script_lines;
 mod script_view;
+mod seen_calls;
 mod server;
 mod server_bridge;
 mod server_config;
 mod setup;
 mod style;
+mod web_files;
+mod web_folder;
 
 use crate::names_store::NamesStore;
 use crate::options::{ExitReason, Options, parse_options};
 use crate::server::Server;
+use crate::web_folder::checked_folder;
 use desk_http::Addresses;
 use std::io::ErrorKind;
 use std::process::ExitCode;
@@ -51,15 +55,17 @@ fn exit_by(rt: &HostRuntime, error: &io::Error) -> ExitReason {
     ExitReason::from_kind(error.kind())
 }
 
-/// The page's addresses, and the names of the file if the arguments name one.
-fn startup(rt: &HostRuntime) -> Result<(Addresses, NamesStore), ExitReason> {
+/// The page's addresses, the names of the file if the arguments name one, and the folder with its files if they do.
+fn startup(rt: &HostRuntime) -> Result<(Addresses, NamesStore, Option<String>), ExitReason> {
     let options = read_options(rt)?;
-    Ok((options.addresses, NamesStore::open(rt, options.names)?))
+    let folder = checked_folder(rt, options.web)?;
+    let store = NamesStore::open(rt, options.names)?;
+    Ok((options.addresses, store, folder))
 }
 
 fn main(rt: HostRuntime) -> ExitCode {
     let reason = match startup(&rt) {
-        Ok((addresses, store)) => match Server::serve(&rt, addresses, store) {
+        Ok((addresses, store, folder)) => match Server::serve(&rt, addresses, store, folder) {
             Ok(()) => ExitReason::Served,
             Err(error) => exit_by(&rt, &error),
         },

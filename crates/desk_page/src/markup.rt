@@ -10,13 +10,34 @@ pub(crate) const HTML_BEFORE: &[u8] = br##"<!doctype html>
 <meta name="viewport" content="width=device-width, initial-scale=1">
 <title>Desk</title>
 <link rel="stylesheet" href="/page.css">
+<script src="/advice.js" defer></script>
+<script src="/lines.js" defer></script>
+<script src="/overview.js" defer></script>
+<script src="/kept.js" defer></script>
+<script src="/levels.js" defer></script>
+<script src="/stats.js" defer></script>
+<script src="/people.js" defer></script>
+<script src="/news.js" defer></script>
+<script src="/plots.js" defer></script>
+<script src="/rules.js" defer></script>
+<script src="/history.js" defer></script>
+<script src="/view.js" defer></script>
+<script src="/rows.js" defer></script>
 <script src="/page.js" defer></script>
+<script src="/taking.js" defer></script>
+<script src="/link.js" defer></script>
+<script src="/stream.js" defer></script>
+<script src="/counts.js" defer></script>
+<script src="/places.js" defer></script>
+<script src="/drawing.js" defer></script>
+<script src="/hands.js" defer></script>
 <meta name="desk-token" content=""##;
 
 /// The page behind its token.
 pub(crate) const HTML_AFTER: &[u8] = br##"">
 </head>
 <body>
+<p id="closed" role="status"></p>
 <header>
   <h1>Desk</h1>
   <p id="status" role="status" aria-live="polite">Asking the bridge</p>

@@ -17,6 +17,8 @@ pub(crate) enum ExitReason {
     Io,
     /// The file of names isn't one.
     NoNames,
+    /// The folder hasn't the page.
+    NoPage,
     /// The arguments are wrong.
     Usage,
 }
@@ -28,6 +30,8 @@ pub(crate) struct Options {
     pub(crate) addresses: Addresses,
     /// The file of names, if there is one.
     pub(crate) names: Option<String>,
+    /// The folder with the page's files, if it isn't the built-in ones that are served.
+    pub(crate) web: Option<String>,
 }
 
 impl ExitReason {
@@ -44,7 +48,7 @@ impl ExitReason {
             ExitReason::Served => 0,
             ExitReason::OutOfMemory => 2,
             ExitReason::Io => 3,
-            ExitReason::NoNames | ExitReason::Usage => 4,
+            ExitReason::NoNames | ExitReason::NoPage | ExitReason::Usage => 4,
         }
     }
 }
@@ -64,11 +68,15 @@ fn command<'a>(alloc: Global) -> Result<Command<'a>, AllocError> {
         .long("names")
         .value_name("FILE")
         .help("where names are kept; with none they end with the program");
+    let web = Arg::new(alloc, "web").long("web").value_name("FOLDER").help(
+        "a folder with the page's files, each read at each request; else the built-in ones",
+    );
     Command::new(alloc, "desk_page")
         .about("The operators' desk as a page in a browser")
         .arg(address_option(alloc, "bridge", bridge, "127.0.0.1:7000"))?
         .arg(address_option(alloc, "listen", listen, "127.0.0.1:7080"))?
-        .arg(names)
+        .arg(names)?
+        .arg(web)
 }
 
 /// Prints what is wrong with the arguments, or the help that they ask for.
@@ -126,6 +134,7 @@ pub(crate) fn parse_options<R: AllocGlobal + Print + Eprint>(
         Ok(matches) => Ok(Options {
             addresses: parse_addresses(rt, matches.get_str("bridge"), matches.get_str("listen"))?,
             names: copy_of(rt.alloc(), matches.get_str("names"))?,
+            web: copy_of(rt.alloc(), matches.get_str("web"))?,
         }),
         Err(error) => Err(report_usage(rt, &error)),
     }

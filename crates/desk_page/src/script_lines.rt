@@ -2,8 +2,8 @@
 //! `tools/bridge make page` writes this file, from these files of web/:
 //! advice.js, lines.js, overview.js, kept.js, levels.js, stats.js, people.js, news.js, plots.js, rules.js, history.js.
 
-/// The first part of the page's script.
-pub(crate) const LINES: &[u8] = br##""use strict";
+/// advice.js
+pub(crate) const ADVICE_JS: &[u8] = br##""use strict";
 // What refusals and faults mean, and what to do. `tools/bridge make words` writes this.
 const advice = {
   1: "it is there already: take another number, address, SSRC or index, or remove what is there",
@@ -43,7 +43,10 @@ const faults = {
   8: "those are no octets in hexadecimal",
   9: "those packets make no frame",
 };
+"##;
 
+/// lines.js
+pub(crate) const LINES_JS: &[u8] = br##""use strict";
 // What the page makes of the desk's text, and the lines that clicks send. No function touches the page.
 
 // The rates of rooms, in Hz.
@@ -247,6 +250,7 @@ function replyInWords(status, text, seen) {
   if (text.startsWith("Busy")) {
     return { good: false, text: `all seats of the bridge are taken, so nothing was done. ${NO_SEAT}` };
   }
+  if (newerIn(text)) return { good: false, text: `not sent. ${callerInWords(newerIn(text), seen)}` };
   const plain = status === 413 ? "a call is one line of up to 4096 octets" : String(status);
   return { good: false, text: text || plain };
 }
@@ -290,7 +294,10 @@ function changes(before, after) {
   const went = old.filter((row) => !has.has(row)), came = now.filter((row) => !had.has(row));
   return [...went.map((row) => `- ${row}`), ...came.map((row) => `+ ${row}`)];
 }
+"##;
 
+/// overview.js
+pub(crate) const OVERVIEW_JS: &[u8] = br##""use strict";
 // Names, what the overview says, and what is done with many members. No function touches the page.
 
 // Names. They are kept by `member 10`, `room 1` or `source 201`, and a source without one has its member's.
@@ -399,7 +406,10 @@ function goesAlong(desk, room) {
     ["slot", members.flatMap((m) => slotsOf(desk, m)).length]];
   return counts.map(([what, count]) => `${count} ${what}${count === 1 ? "" : "s"}`).join(", ");
 }
+"##;
 
+/// kept.js
+pub(crate) const KEPT_JS: &[u8] = br##""use strict";
 // The desk as a file: groups that make all its rows again, as `tools/bridge keep` prints them. No function touches the
 // page.
 
@@ -448,7 +458,10 @@ function groupsIn(text) {
   const areGroups = groups.every((group) => group.startsWith("group ") && group.length <= MOST_OCTETS);
   return areGroups && lines[lines.length - 1] === endOf(groups) ? groups : null;
 }
+"##;
 
+/// levels.js
+pub(crate) const LEVELS_JS: &[u8] = br##""use strict";
 // How loud a source of sound is, and who speaks, by what two counts differ in. No function touches the page.
 
 // The energy of the loudest sample in the bridge's units, and how many times less -45 and -52 dBov are.
@@ -498,7 +511,10 @@ const gainInWords = (q8) => `x${(q8 / 256).toFixed(2)}`;
 function spanInWords(ms) {
   return ms === null || ms > LONGEST_SPAN ? "" : `last ${Math.max(1, Math.round(ms / 1000))} s`;
 }
+"##;
 
+/// stats.js
+pub(crate) const STATS_JS: &[u8] = br##""use strict";
 
 // What the bridge counts, as /stats tells it. No function touches the page.
 
@@ -657,7 +673,10 @@ function newcomer(desk, stats, { room, address, sees }) {
   if (sees) parts.push(lines.addSlot({ ssrc: unused(501), member, index: 0 }));
   return { member, parts };
 }
+"##;
 
+/// people.js
+pub(crate) const PEOPLE_JS: &[u8] = br##""use strict";
 // Who gave a call, and when. No function touches the page.
 
 // The name of somebody who has said none, how the name of a program begins, and the most octets of a name.
@@ -709,11 +728,20 @@ function timeOf(moment, now) {
   const when = new Date(moment), [day, time] = [when.toDateString(), when.toTimeString().slice(0, 5)];
   return day === new Date(now).toDateString() ? time : `${day.slice(4, 10)} ${time}`;
 }
+// Another person's call, by which a line wasn't sent, in the answer to that line; or null.
+function newerIn(said) { return said.startsWith("Newer: ") ? [...callsIn(said).values()][0] ?? null : null; }
+// Who gave a call, when, and what it did.
+function callerInWords(call, { names, desk, past }, now = Date.now()) {
+  return `${timeOf(call.moment, now)} ${whoOf(call)}: ${worded(names, desk, call.line, past?.known)}.`;
+}
 // Whether a call is another one's: neither this page's, nor by the name that its operator has.
 function isOthers(call, me, mine) { return call !== undefined && !mine.has(call.number) && call.name !== me; }
 // Whether a call makes rooms as a restored desk's first group does: with it all of its members go.
 function makesRooms(call) { return call !== undefined && call.line.startsWith("group add-room "); }
+"##;
 
+/// news.js
+pub(crate) const NEWS_JS: &[u8] = br##""use strict";
 // What the stream of events says. No function touches the page.
 
 // The most calls of the log that a page keeps.
@@ -747,6 +775,19 @@ function withCalls(calls, told) {
   return all;
 }
 
+// Who held the lease of the desk, by an event `lease`, where it has ended; or null.
+function closedBy(told) { return told.startsWith("closed ") ? told.slice(7) : null; }
+// What that means. A fleet takes the rooms of a bridge that it doesn't reach to another one.
+const FLEET = "agent-fleet";
+function closedInWords(name) {
+  const why = name === "-" ? "nobody holds its lease" : `the lease of ${whoOf({ name })} has ended`;
+  const moved = name === FLEET ? " The rooms may be on another bridge by now." : "";
+  return `The desk is closed: ${why}. Calls are refused. Sound and pictures go on.${moved}`;
+}
+"##;
+
+/// plots.js
+pub(crate) const PLOTS_JS: &[u8] = br##""use strict";
 // Two minutes of a member's figures, and the lines that draw them. No function touches the page.
 
 // How far back a trace goes, in milliseconds, and the size of a plot in units of its own.
@@ -780,7 +821,10 @@ function plotted(trace, place, now) {
   });
   return path;
 }
+"##;
 
+/// rules.js
+pub(crate) const RULES_JS: &[u8] = br##""use strict";
 // The rules of the page: what stays in its place, when a press is meant, and who is in trouble. No function touches the
 // page.
 
@@ -925,7 +969,10 @@ function linkInWords(link, quiet, since) {
   if (link === "gone") return `No news${from || " yet"} \u2026`;
   return "Asking the bridge";
 }
+"##;
 
+/// history.js
+pub(crate) const HISTORY_JS: &[u8] = br##""use strict";
 // The history of calls, as the bridge tells it. No function touches the page.
 
 // The calls in force and those that can be redone, in the order of the text: each with its number, its operator and its
@@ -1071,6 +1118,6 @@ if (typeof module !== "undefined") {
     streamInWords, turnedRooms, strangersIn, personWord, personName, callsIn, whoOf, timeOf, isOthers, makesRooms,
     undoOf, redoOf, newcomer, editedText, isOlderText, withCalls, traced, tracedAll, plotted, figuresOf, levelOf,
     speechAfter, levelInWords, gainInWords, spanInWords, objectsOfRow, objectsOfLine, othersObjects, placeChanges,
-    inOldPlaces, troubleOf, tallyOf, isCounted, linkOf, linkInWords };
+    inOldPlaces, troubleOf, tallyOf, isCounted, linkOf, linkInWords, newerIn, callerInWords, closedBy, closedInWords };
 }
 "##;

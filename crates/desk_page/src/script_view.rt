@@ -2,8 +2,9 @@
 //! `tools/bridge make page` writes this file, from these files of web/:
 //! view.js, rows.js, page.js, taking.js, link.js, stream.js, counts.js, places.js, drawing.js, hands.js.
 
-/// The rest of the page's script.
-pub(crate) const VIEW: &[u8] = br##"// Drawing.
+/// view.js
+pub(crate) const VIEW_JS: &[u8] = br##""use strict";
+// Drawing.
 // What is drawn is changed in place, so that focus, scrolling and what is typed stay.
 const at = (id) => document.getElementById(id);
 
@@ -258,7 +259,10 @@ function wayOf(way) {
   const count = way.calls.length, word = way.word === "undo" ? "Undo" : "Redo";
   return { text: wayWords(way, count === 0), count, label: count > 1 ? `${word} these ${count}` : word };
 }
+"##;
 
+/// rows.js
+pub(crate) const ROWS_JS: &[u8] = br##""use strict";
 // A member's row of the overview: its state, its name, its figures, what it sees and sends, and its mute.
 
 // What stands out of how a source's packets come: a class, and words.
@@ -382,7 +386,10 @@ function memberRow({ model, room, figures }) {
     hasAudio ? does(muted ? "Unmute" : "Mute", "toggle", member, who,
       { class: `small${muted ? " danger" : ""}`, tabindex: -1, "aria-keyshortcuts": "m", ...off }) : el("span", {}));
 }
+"##;
 
+/// page.js
+pub(crate) const PAGE_JS: &[u8] = br##""use strict";
 // What the page knows, and what goes out.
 const EVERY = 250, JUDGED_EVERY = 500, TRIES = 3, PATIENCE = 8000, REST = 400, SLOW = 1000;
 const FEW_ROOMS = 8, FEW_MEMBERS = 4, ROW_HEIGHT = 25, HEAD_HEIGHT = 34, FADES = 5000, MARKED = 3000;
@@ -450,8 +457,9 @@ function showWaits() {
 }
 
 // Sends a line once, unless there is a reason not to, which is told. The version as which it is accepted, or 0.
-// Whatever comes of it, the desk is shown again; the line is never sent again by itself.
-async function call(line, words = line, key = pressed) {
+// Whatever comes of it, the desk is shown again; the line is never sent again by itself. `saw` is the version of the
+// desk that the person saw.
+async function call(line, words = line, key = pressed, saw = desk?.version) {
   const why = whyNot(line, key);
   if (why) {
     notice(`${words}: not sent. ${why}`);
@@ -461,20 +469,25 @@ async function call(line, words = line, key = pressed) {
   const control = key ?? `line ${line} ${performance.now()}`;
   waitsFor(control, line);
   const slow = setTimeout(() => notice(`${words}: sent, no answer yet.`), SLOW);
-  let version = 0;
-  try {
-    const reply = await post("/call", line);
-    const said = (await reply.text()).trim(), { good, text } = replyInWords(reply.status, said, { names, desk, past });
-    if (good) version = Number(said.split(" ")[1]);
-    if (version) mine.add(version);
-    notice(said.startsWith("NoToken") ? `${words}: ${ANEW}` : `${words}: ${text}`, good, callInTheWay(said));
-  } catch {
-    notice(`${words}: no answer came. It may have been done: look at the desk before you press again.`);
-  }
+  const { version, other } = await sent(line, words, saw);
   clearTimeout(slow);
   answered(control, version);
   if (!isFollowed()) show();
-  return version;
+  return other && !at("ask").open ? sendsAfter(other, line, words, key) : version;
+}
+// The version as which a line is accepted, or 0; and another person's call that came first, if one did.
+async function sent(line, words, saw) {
+  try {
+    const reply = await post("/call", line, saw), seen = { names, desk, past };
+    const said = (await reply.text()).trim(), { good, text } = replyInWords(reply.status, said, seen);
+    const version = good ? Number(said.split(" ")[1]) : 0;
+    if (version) mine.add(version);
+    notice(said.startsWith("NoToken") ? `${words}: ${ANEW}` : `${words}: ${text}`, good, callInTheWay(said));
+    return { version, other: newerIn(said) };
+  } catch {
+    notice(`${words}: no answer came. It may have been done: look at the desk before you press again.`);
+    return { version: 0, other: null };
+  }
 }
 
 // Hands the desk to the browser as a file.
@@ -619,13 +632,13 @@ const acts = {
     if (name !== null) rename(kind, Number(number), name);
   },
   "remove-room": async (of) => {
-    const room = Number(of);
+    const room = Number(of), saw = desk.version;
     if (membersIn(desk, room).length > FEW_MEMBERS && !at("collect").checked) {
       const text = `${goesAlong(desk, room)} go along. Undo brings all of it back, and Revert in the history later on.`;
       const what = spoken(nameOf(names, "room", room), "room", room);
       if (await question(`Remove ${what}?`, text, "Remove") === null) return;
     }
-    call(lines.removeRoom(room));
+    call(lines.removeRoom(room), undefined, undefined, saw);
   },
 };
 
@@ -655,7 +668,10 @@ function setHere(member) {
   const row = memberOf(desk, member);
   if (row) here.set(row.room, member);
 }
+"##;
 
+/// taking.js
+pub(crate) const TAKING_JS: &[u8] = br##""use strict";
 // Taking calls back, and doing them again.
 
 // Asks before another one's calls, or a restored desk, are taken back. A change that comes meanwhile closes the
@@ -677,6 +693,12 @@ function closeStale() {
   at("ask").close();
   notice("Not done: another change came first. Look, and press again.");
 }
+// Sends a line that wasn't sent since another person's call of its row came first, if that is still wanted.
+async function sendsAfter(other, line, words, key) {
+  const text = `${callerInWords(other, { names, desk, past })} Yours was not sent: ${words}.`;
+  if (await question("Send yours all the same?", text, "Send") === null) return 0;
+  return call(line, words, key, Math.max(other.number, desk.version));
+}
 // Takes a call back, or does one again, by a line.
 async function takes({ number, line }, words, key, word) {
   if (word === "Redo" || whyNot(line, key) || await mayTake([number], word)) await call(line, words, key);
@@ -691,7 +713,10 @@ async function goes({ word, calls: those }) {
     if (version) version = await call(`${word} ${version}`, `${name}: ${saidOf(number)}`, null);
   }
 }
+"##;
 
+/// link.js
+pub(crate) const LINK_JS: &[u8] = br##""use strict";
 // Asking the page's program, and what comes in: the desk, its history, and what others did.
 
 async function ask(path, options) {
@@ -710,9 +735,12 @@ async function get(path) {
   }
 }
 
-// Posts. A token of an earlier run of the program is replaced, but nothing is sent twice.
-async function post(path, body) {
-  const reply = await ask(path, { method: "POST", headers: { "X-Desk-Token": token, "X-Desk-Person": me }, body });
+// Posts. A call says which version of the desk its person saw. A token of an earlier run of the program is replaced,
+// but nothing is sent twice.
+async function post(path, body, saw) {
+  const headers = { "X-Desk-Token": token, "X-Desk-Person": me };
+  if (saw !== undefined) headers["X-Desk-Seen"] = saw;
+  const reply = await ask(path, { method: "POST", headers, body });
   if (reply.status === 403) await takeToken().catch(() => {});
   return reply;
 }
@@ -861,7 +889,10 @@ function tellOthers(before) {
   if (last) tellNews(`${who}: ${worded(names, desk, last.line, past.known)}${more}`);
   else if (taken) tellNews(`${told ? who : "another operator"} ${is}: ${saidOf(taken.number)}${more}`);
 }
+"##;
 
+/// stream.js
+pub(crate) const STREAM_JS: &[u8] = br##""use strict";
 // The stream of events: the page's program tells what happens, and isn't asked for it. Where no stream can be had, the
 // page asks as often as it does without one.
 
@@ -889,6 +920,7 @@ const onEvent = {
     const text = shownText === null || drag ? null : editedText(shownText, edit);
     return text === null ? show() : take(text);
   },
+  lease: (state) => showClosed(closedBy(state)),
   call: (line) => { calls = withCalls(calls, line); },
   bridge: (word) => {
     told = { gone: "bridge", busy: "seats" }[word] ?? "";
@@ -901,6 +933,14 @@ const onEvent = {
     return isBehind ? take(shownText) : null;
   },
 };
+// Says at the top that the desk is closed. The list moves by that line, so that a press just then is refused.
+function showClosed(name) {
+  const text = name === null ? "" : closedInWords(name);
+  if (at("closed").textContent === text) return;
+  at("closed").textContent = at("closed").title = text;
+  document.body.classList.toggle("closed", name !== null);
+  movedAt = performance.now();
+}
 function openStream() {
   closeStream();
   openedAt = performance.now();
@@ -929,7 +969,10 @@ document.addEventListener("visibilitychange", () => {
   if (document.visibilityState !== "visible") hiding = setTimeout(closeStream, KEPT_HIDDEN);
   else if (!stream) openStream();
 });
+"##;
 
+/// counts.js
+pub(crate) const COUNTS_JS: &[u8] = br##""use strict";
 
 // What the bridge counts: asking for it, and the senders that are no source.
 // How long after a count the next one is asked for, in milliseconds. An answer for many sources is long.
@@ -981,7 +1024,10 @@ function fillSource(ssrc) {
   if (member !== null) fields.member.value = member;
   fields.member.focus();
 }
+"##;
 
+/// places.js
+pub(crate) const PLACES_JS: &[u8] = br##""use strict";
 // What stands where: the rooms, their members, and the numbers of the whole bridge.
 
 // Places. Nothing comes, goes or moves in the list or beside it while the pointer is there, a button is held, or a menu
@@ -1136,7 +1182,10 @@ function renderSum() {
     number(unknown, "unknown", { "data-key": "unknown", "data-act": "unknown", "data-of": "",
       disabled: unknown === 0 })]);
 }
+"##;
 
+/// drawing.js
+pub(crate) const DRAWING_JS: &[u8] = br##""use strict";
 // Drawing what stands around the rooms, and all of the page.
 
 // Undo and Redo name the call that they take. Their line has the version at which that is so, or is a revert that
@@ -1307,7 +1356,10 @@ function heirsOf(node) {
   const others = besides([...document.querySelectorAll("#board .member")], row).slice(0, 64);
   return others.map((one) => `open ${one.dataset.member}`);
 }
+"##;
 
+/// hands.js
+pub(crate) const HANDS_JS: &[u8] = br##""use strict";
 // What clicks, keys and drags do.
 
 // Clicks and choices.

@@ -45,6 +45,8 @@ pub(crate) struct Server {
     pub(crate) router: Router,
     pub(crate) store: NamesStore,
     pub(crate) texts: DeskTexts,
+    /// The folder with the page's files, if it isn't the built-in ones that are served.
+    folder: Option<String>,
     /// What this run of the program is called.
     pub(crate) run_name: Vec<u8>,
     pub(crate) clients: Clients,
@@ -70,13 +72,14 @@ impl Server {
         rt: &R,
         addresses: Addresses,
         store: NamesStore,
+        folder: Option<String>,
     ) -> io::Result<()> {
         let alloc = rt.alloc();
         let config = server_config(rt, alloc)?;
         let begun = Instant::now(rt)?;
         let sockets = PageSockets::open(rt, alloc, addresses.listen)?;
         let address = sockets.listener.local_addr()?;
-        let router = router_at(rt, alloc, address)?;
+        let router = router_at(rt, alloc, address, folder.is_some())?;
         let mut server = Self {
             config,
             sockets,
@@ -85,6 +88,7 @@ impl Server {
             router,
             store,
             texts: DeskTexts::new(alloc),
+            folder,
             run_name: run_name(rt, alloc)?,
             clients: Clients::new(alloc, FIRST_CLIENT),
             bridge: BridgeClient::new(alloc),
@@ -103,7 +107,11 @@ impl Server {
     }
 
     /// Prints where it listens, and serves.
-    fn run<R: Runtime + Net + Wait>(&mut self, rt: &R, address: SocketAddr) -> io::Result<()> {
+    fn run<R: Runtime + AllocGlobal + Net + Wait>(
+        &mut self,
+        rt: &R,
+        address: SocketAddr,
+    ) -> io::Result<()> {
         self.chunk.resize(CHUNK_SIZE, 0)?;
         let _ = eprintln!(rt; "desk_page: http://{address}/");
         for _ in rt.forever() {
@@ -113,13 +121,14 @@ impl Server {
     }
 
     /// One round: waits 25 ms at most, and does what the sockets allow.
-    fn round<R: Net + Clock + Files>(&mut self, rt: &R) -> io::Result<()> {
+    fn round<R: AllocGlobal + Net + Clock + Files>(&mut self, rt: &R) -> io::Result<()> {
         self.sockets.wait()?;
         let now = millis_since(rt, self.begun)?;
         self.note_events();
         self.accept(now);
         self.poll_clients(now);
         self.serve_names(rt, now)?;
+        self.serve_files(rt, now)?;
         self.serve_events(now)?;
         self.serve_kept(now);
         // The second time sends the line of the request that the first time began.
@@ -153,6 +162,15 @@ impl Server {
             .serve_names(rt, self.config, &self.router.site, &mut self.store, now)?;
         if self.store.names.version != version {
             self.note_change();
+        }
+        Ok(())
+    }
+
+    /// Responds by the files of the folder.
+    fn serve_files<R: AllocGlobal + Files>(&mut self, rt: &R, now: u64) -> io::Result<()> {
+        if let Some(folder) = &self.folder {
+            self.clients
+                .serve_files(rt, self.config, &self.router.site, folder, now)?;
         }
         Ok(())
     }

@@ -3,10 +3,20 @@
 use crate::follow::BridgeState;
 use crate::server::{BRIDGE, Server};
 use crate::setup::run_text;
-use desk_http::{BridgeReply, Query, is_naming, latest_line};
+use desk_http::{BridgeReply, Query, is_naming, latest_line, lease_line};
 use std::alloc::AllocError;
 use std::io;
 use std::net::Net;
+
+/// Whether a line only asks the bridge.
+fn is_question(line: &[u8]) -> bool {
+    line == Query::Desk.line()
+        || line == Query::History.line()
+        || line == Query::Calls.line()
+        || line == Query::Stats.line()
+        || line == latest_line()
+        || line == lease_line()
+}
 
 impl Server {
     /// Finishes the request that has ended, and begins the next one.
@@ -17,11 +27,25 @@ impl Server {
         if self.bridge.is_idle() {
             self.begin_request(rt, now)?;
         }
+        self.follow.has_log = false;
         Ok(())
+    }
+
+    /// The line that asks for the log, where the next call is judged by it.
+    fn judging_line(&mut self) -> Result<Option<Vec<u8>>, AllocError> {
+        if self.follow.has_log || !self.clients.wants_log() {
+            return Ok(None);
+        }
+        let line = Query::Calls.line();
+        self.join(line);
+        Ok(Some(Vec::from_slice(self.config.alloc, line)?))
     }
 
     /// The next line for the bridge: the oldest connection's call, or else a query.
     fn next_line(&mut self, now: u64) -> Result<Option<Vec<u8>>, AllocError> {
+        if let Some(line) = self.judging_line()? {
+            return Ok(Some(line));
+        }
         if let Some(line) = self.clients.next_call() {
             return Ok(Some(line));
         }
@@ -81,8 +105,17 @@ impl Server {
         }
     }
 
+    /// Refuses the next call where another person's call came first. Returns whether it did.
+    fn refuse_newer(&mut self, now: u64) -> Result<bool, AllocError> {
+        if !self.follow.has_log {
+            return Ok(false);
+        }
+        let (config, site, log) = (self.config, &self.router.site, self.follow.log());
+        self.clients.refuse_newer(config, site, log, now)
+    }
+
     fn begin_request<R: Net>(&mut self, rt: &R, now: u64) -> io::Result<()> {
-        if self.begin_naming(rt, now)? {
+        if self.begin_naming(rt, now)? || self.refuse_newer(now)? {
             return Ok(());
         }
         if let Some(line) = self.next_line(now)? {
@@ -112,7 +145,12 @@ impl Server {
         self.note_reply(&line, &mut reply)?;
         self.complete(&line, &reply, now);
         match reply {
-            BridgeReply::Text(_) | BridgeReply::Full => self.refuse_unnamed(&line, &reply, now),
+            BridgeReply::Text(_)
+            | BridgeReply::Full
+            | BridgeReply::Newer(_)
+            | BridgeReply::Missing => {
+                self.refuse_unnamed(&line, &reply, now);
+            }
             BridgeReply::Busy => self.complete_queued(&BridgeReply::Busy, now),
             BridgeReply::Gone | BridgeReply::Lost => self.complete_queued(&BridgeReply::Gone, now),
         }
@@ -156,6 +194,8 @@ impl Server {
             self.note_desk(text)
         } else if line == Query::Calls.line() {
             self.follow.note_log(self.config.alloc, text)
+        } else if line == lease_line() {
+            self.follow.note_lease(self.config.alloc, text)
         } else if line == latest_line() && self.follow.note_newest(self.config.alloc, text)? {
             self.note_change();
             Ok(())
@@ -169,12 +209,7 @@ impl Server {
         if let BridgeReply::Text(text) = reply {
             self.note_text(line, text)?;
         }
-        let is_question = line == Query::Desk.line()
-            || line == Query::History.line()
-            || line == Query::Calls.line()
-            || line == Query::Stats.line()
-            || line == latest_line();
-        if !is_question && !is_naming(line) {
+        if !is_question(line) && !is_naming(line) {
             self.note_change();
         }
         Ok(())

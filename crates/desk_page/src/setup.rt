@@ -1,10 +1,8 @@
 //! What the page starts with.
 
 use crate::markup::{HTML_AFTER, HTML_BEFORE};
-use crate::script_lines::LINES;
-use crate::script_view::VIEW;
 use crate::server_config::ServerConfig;
-use crate::style::STYLE;
+use crate::web_files::web_files;
 use desk_http::{Assets, Router, Site, page_tables, request_limits, token};
 use std::alloc::Global;
 use std::hash::RandomState;
@@ -41,23 +39,25 @@ fn assets() -> Assets {
     Assets {
         html_before: HTML_BEFORE,
         html_after: HTML_AFTER,
-        script_lines: LINES,
-        script_view: VIEW,
-        style: STYLE,
+        files: web_files(),
     }
 }
 
-/// The router of the page at this address.
+/// The router of the page at this address, whose files may be those of a folder.
 pub(crate) fn router_at<R: RandomSource>(
     rt: &R,
     alloc: Global,
     address: SocketAddr,
+    has_folder: bool,
 ) -> io::Result<Router> {
+    let mut site = site(rt, alloc, address)?;
+    site.has_folder = has_folder;
     Ok(Router {
         alloc,
-        site: site(rt, alloc, address)?,
+        site,
         assets: assets(),
         person: Vec::new(alloc),
+        seen: None,
         line: None,
     })
 }

@@ -2,11 +2,12 @@
 //! `tools/bridge make page` writes this file, from these files of web/:
 //! page.css.
 
-/// The page's style sheet.
-pub(crate) const STYLE: &[u8] = br##":root {
+/// page.css
+pub(crate) const PAGE_CSS: &[u8] = br##":root {
   color-scheme: light dark;
   --page: #f4f5f7; --card: #ffffff; --ink: #1b1f24; --soft: #5a6472; --line: #d5dae1;
   --accent: #0b57d0; --good: #146c2e; --bad: #b3261e; --warn: #8a5300; --drop: #dbe7ff; --odd: #fff1d6;
+  --closed: 0rem;
 }
 @media (prefers-color-scheme: dark) {
   :root {
@@ -17,15 +18,19 @@ pub(crate) const STYLE: &[u8] = br##":root {
 * { box-sizing: border-box; }
 [hidden] { display: none !important; }
 body { margin: 0; background: var(--page); color: var(--ink); font: 15px/1.4 system-ui, "DejaVu Sans", sans-serif; }
+.closed { --closed: 2rem; }
+#closed { position: sticky; top: 0; z-index: 4; height: var(--closed); margin: 0; padding: 0 1rem; overflow: hidden;
+  background: var(--odd); color: var(--bad); font-weight: 600; line-height: 2rem; white-space: nowrap;
+  text-overflow: ellipsis; }
 header { display: grid; grid-template-columns: auto 16.5rem minmax(0, 1fr) auto; grid-template-rows: 2rem 1.6rem;
   gap: .3rem .8rem; align-items: center; padding: .4rem 1rem; height: 4.7rem; background: var(--card);
-  border-bottom: 1px solid var(--line); position: sticky; top: 0; z-index: 3; }
+  border-bottom: 1px solid var(--line); position: sticky; top: var(--closed); z-index: 3; }
 header > * { min-width: 0; }
 h1 { font-size: 1.2rem; margin: 0; }
 h2 { font-size: 1rem; margin: 0 0 .5rem; }
 h3 { font-size: .95rem; margin: 0; }
-#bar { position: sticky; top: 4.7rem; z-index: 2; height: 2.1rem; display: flex; align-items: center; gap: .8rem;
-  background: var(--page); }
+#bar { position: sticky; top: calc(4.7rem + var(--closed)); z-index: 2; height: 2.1rem; display: flex;
+  align-items: center; gap: .8rem; background: var(--page); }
 #rooms-title { margin: 0; }
 #status { margin: 0; color: var(--good); white-space: nowrap; overflow: hidden; text-overflow: ellipsis; }
 #status.late, #status.connecting { color: var(--warn); }
@@ -62,7 +67,7 @@ main { display: grid; grid-template-columns: minmax(0, 1fr) 23rem; gap: 1rem; pa
 .room, aside > section { background: var(--card); border: 1px solid var(--line); border-radius: .5rem; }
 aside > section { padding: .75rem; }
 aside { display: grid; grid-template-columns: minmax(0, 1fr); gap: .7rem; align-content: start; overflow: auto;
-  position: sticky; top: 5.1rem; max-height: calc(100vh - 8.7rem); }
+  position: sticky; top: calc(5.1rem + var(--closed)); max-height: calc(100vh - 8.7rem - var(--closed)); }
 .room.over, .room.over .head, .slot.over { background: var(--drop); outline: 2px dashed var(--accent); }
 .head { display: grid; align-items: center; gap: 0 .5rem; padding: 0 .5rem; height: 32px;
   grid-template-columns: 24px minmax(8rem, 1.1fr) minmax(8rem, 22rem) minmax(0, .5fr) minmax(0, 1.2fr) 3.7rem 4.4rem; }
@@ -75,7 +80,8 @@ aside { display: grid; grid-template-columns: minmax(0, 1fr); gap: .7rem; align-
 .grow { flex: 1; min-width: 0; }
 .member, .columns { display: grid; gap: 0 .4rem; align-items: center; padding: 0 .5rem; white-space: nowrap;
   grid-template-columns: 14px 24px minmax(7rem, 1.3fr) 4.4rem repeat(4, 3.3rem) minmax(4rem, 1fr) 6.2rem 4.4rem; }
-.columns { position: sticky; top: 6.8rem; z-index: 2; height: 2rem; background: var(--page); color: var(--soft);
+.columns { position: sticky; top: calc(6.8rem + var(--closed)); z-index: 2; height: 2rem; background: var(--page);
+  color: var(--soft);
   font-size: .75rem; line-height: .9rem; margin: 0 1px; padding: 0 .5rem .2rem; align-items: start; }
 .columns > * { overflow: hidden; text-overflow: ellipsis; min-width: 0; }
 .columns small { display: block; font-size: 1em; }
@@ -232,8 +238,10 @@ dialog p, dialog h2 { overflow-wrap: anywhere; }
   .history-buttons { grid-column: 3; }
   .history-buttons button { width: 10rem; }
   #redo { width: 7rem; }
-  #bar { top: 7rem; }
-  .columns { top: 9.1rem; }
+  .closed { --closed: 2.6rem; }
+  #closed { line-height: 1.3rem; white-space: normal; }
+  #bar { top: calc(7rem + var(--closed)); }
+  .columns { top: calc(9.1rem + var(--closed)); }
   #sum > span { display: none; }
   main { grid-template-columns: minmax(0, 1fr); }
   aside { position: static; max-height: none; overflow: visible; }
@@ -255,8 +263,9 @@ dialog p, dialog h2 { overflow-wrap: anywhere; }
   #sum { gap: .3rem; }
   .number { min-width: 0; flex: 1 1 auto; padding: 0 .1rem; height: 2rem; display: grid; line-height: 1rem; }
   .number span { font-size: .8em; }
-  #bar { top: 9.3rem; }
-  .columns { top: 11.4rem; }
+  .closed { --closed: 5.2rem; }
+  #bar { top: calc(9.3rem + var(--closed)); }
+  .columns { top: calc(11.4rem + var(--closed)); }
   footer { height: 3.6rem; grid-template-columns: minmax(0, 1fr) auto; padding: 0 .4rem; }
   footer p { max-height: 3.4rem; }
   footer .buttons { flex-direction: column; gap: 1px; }

@@ -1,3 +1,4 @@
+"use strict";
 
 // What the bridge counts: asking for it, and the senders that are no source.
 // How long after a count the next one is asked for, in milliseconds. An answer for many sources is long.

@@ -1,3 +1,4 @@
+"use strict";
 // Drawing what stands around the rooms, and all of the page.
 
 // Undo and Redo name the call that they take. Their line has the version at which that is so, or is a revert that

@@ -1,3 +1,4 @@
+"use strict";
 // What clicks, keys and drags do.
 
 // Clicks and choices.

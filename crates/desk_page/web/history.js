@@ -1,3 +1,4 @@
+"use strict";
 // The history of calls, as the bridge tells it. No function touches the page.
 
 // The calls in force and those that can be redone, in the order of the text: each with its number, its operator and its
@@ -143,5 +144,5 @@ if (typeof module !== "undefined") {
     streamInWords, turnedRooms, strangersIn, personWord, personName, callsIn, whoOf, timeOf, isOthers, makesRooms,
     undoOf, redoOf, newcomer, editedText, isOlderText, withCalls, traced, tracedAll, plotted, figuresOf, levelOf,
     speechAfter, levelInWords, gainInWords, spanInWords, objectsOfRow, objectsOfLine, othersObjects, placeChanges,
-    inOldPlaces, troubleOf, tallyOf, isCounted, linkOf, linkInWords };
+    inOldPlaces, troubleOf, tallyOf, isCounted, linkOf, linkInWords, newerIn, callerInWords, closedBy, closedInWords };
 }

@@ -1,3 +1,4 @@
+"use strict";
 // The desk as a file: groups that make all its rows again, as `tools/bridge keep` prints them. No function touches the
 // page.
 

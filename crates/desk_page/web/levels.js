@@ -1,3 +1,4 @@
+"use strict";
 // How loud a source of sound is, and who speaks, by what two counts differ in. No function touches the page.
 
 // The energy of the loudest sample in the bridge's units, and how many times less -45 and -52 dBov are.

@@ -1,3 +1,4 @@
+"use strict";
 // What the page makes of the desk's text, and the lines that clicks send. No function touches the page.
 
 // The rates of rooms, in Hz.
@@ -201,6 +202,7 @@ function replyInWords(status, text, seen) {
   if (text.startsWith("Busy")) {
     return { good: false, text: `all seats of the bridge are taken, so nothing was done. ${NO_SEAT}` };
   }
+  if (newerIn(text)) return { good: false, text: `not sent. ${callerInWords(newerIn(text), seen)}` };
   const plain = status === 413 ? "a call is one line of up to 4096 octets" : String(status);
   return { good: false, text: text || plain };
 }

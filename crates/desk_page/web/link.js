@@ -1,3 +1,4 @@
+"use strict";
 // Asking the page's program, and what comes in: the desk, its history, and what others did.
 
 async function ask(path, options) {
@@ -16,9 +17,12 @@ async function get(path) {
   }
 }
 
-// Posts. A token of an earlier run of the program is replaced, but nothing is sent twice.
-async function post(path, body) {
-  const reply = await ask(path, { method: "POST", headers: { "X-Desk-Token": token, "X-Desk-Person": me }, body });
+// Posts. A call says which version of the desk its person saw. A token of an earlier run of the program is replaced,
+// but nothing is sent twice.
+async function post(path, body, saw) {
+  const headers = { "X-Desk-Token": token, "X-Desk-Person": me };
+  if (saw !== undefined) headers["X-Desk-Seen"] = saw;
+  const reply = await ask(path, { method: "POST", headers, body });
   if (reply.status === 403) await takeToken().catch(() => {});
   return reply;
 }

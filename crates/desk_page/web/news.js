@@ -1,3 +1,4 @@
+"use strict";
 // What the stream of events says. No function touches the page.
 
 // The most calls of the log that a page keeps.
@@ -29,4 +30,14 @@ function withCalls(calls, told) {
     all.delete(number);
   }
   return all;
+}
+
+// Who held the lease of the desk, by an event `lease`, where it has ended; or null.
+function closedBy(told) { return told.startsWith("closed ") ? told.slice(7) : null; }
+// What that means. A fleet takes the rooms of a bridge that it doesn't reach to another one.
+const FLEET = "agent-fleet";
+function closedInWords(name) {
+  const why = name === "-" ? "nobody holds its lease" : `the lease of ${whoOf({ name })} has ended`;
+  const moved = name === FLEET ? " The rooms may be on another bridge by now." : "";
+  return `The desk is closed: ${why}. Calls are refused. Sound and pictures go on.${moved}`;
 }

@@ -1,3 +1,4 @@
+"use strict";
 // Names, what the overview says, and what is done with many members. No function touches the page.
 
 // Names. They are kept by `member 10`, `room 1` or `source 201`, and a source without one has its member's.

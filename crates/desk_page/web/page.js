@@ -1,3 +1,4 @@
+"use strict";
 // What the page knows, and what goes out.
 const EVERY = 250, JUDGED_EVERY = 500, TRIES = 3, PATIENCE = 8000, REST = 400, SLOW = 1000;
 const FEW_ROOMS = 8, FEW_MEMBERS = 4, ROW_HEIGHT = 25, HEAD_HEIGHT = 34, FADES = 5000, MARKED = 3000;
@@ -65,8 +66,9 @@ function showWaits() {
 }
 
 // Sends a line once, unless there is a reason not to, which is told. The version as which it is accepted, or 0.
-// Whatever comes of it, the desk is shown again; the line is never sent again by itself.
-async function call(line, words = line, key = pressed) {
+// Whatever comes of it, the desk is shown again; the line is never sent again by itself. `saw` is the version of the
+// desk that the person saw.
+async function call(line, words = line, key = pressed, saw = desk?.version) {
   const why = whyNot(line, key);
   if (why) {
     notice(`${words}: not sent. ${why}`);
@@ -76,20 +78,25 @@ async function call(line, words = line, key = pressed) {
   const control = key ?? `line ${line} ${performance.now()}`;
   waitsFor(control, line);
   const slow = setTimeout(() => notice(`${words}: sent, no answer yet.`), SLOW);
-  let version = 0;
-  try {
-    const reply = await post("/call", line);
-    const said = (await reply.text()).trim(), { good, text } = replyInWords(reply.status, said, { names, desk, past });
-    if (good) version = Number(said.split(" ")[1]);
-    if (version) mine.add(version);
-    notice(said.startsWith("NoToken") ? `${words}: ${ANEW}` : `${words}: ${text}`, good, callInTheWay(said));
-  } catch {
-    notice(`${words}: no answer came. It may have been done: look at the desk before you press again.`);
-  }
+  const { version, other } = await sent(line, words, saw);
   clearTimeout(slow);
   answered(control, version);
   if (!isFollowed()) show();
-  return version;
+  return other && !at("ask").open ? sendsAfter(other, line, words, key) : version;
+}
+// The version as which a line is accepted, or 0; and another person's call that came first, if one did.
+async function sent(line, words, saw) {
+  try {
+    const reply = await post("/call", line, saw), seen = { names, desk, past };
+    const said = (await reply.text()).trim(), { good, text } = replyInWords(reply.status, said, seen);
+    const version = good ? Number(said.split(" ")[1]) : 0;
+    if (version) mine.add(version);
+    notice(said.startsWith("NoToken") ? `${words}: ${ANEW}` : `${words}: ${text}`, good, callInTheWay(said));
+    return { version, other: newerIn(said) };
+  } catch {
+    notice(`${words}: no answer came. It may have been done: look at the desk before you press again.`);
+    return { version: 0, other: null };
+  }
 }
 
 // Hands the desk to the browser as a file.
@@ -234,13 +241,13 @@ const acts = {
     if (name !== null) rename(kind, Number(number), name);
   },
   "remove-room": async (of) => {
-    const room = Number(of);
+    const room = Number(of), saw = desk.version;
     if (membersIn(desk, room).length > FEW_MEMBERS && !at("collect").checked) {
       const text = `${goesAlong(desk, room)} go along. Undo brings all of it back, and Revert in the history later on.`;
       const what = spoken(nameOf(names, "room", room), "room", room);
       if (await question(`Remove ${what}?`, text, "Remove") === null) return;
     }
-    call(lines.removeRoom(room));
+    call(lines.removeRoom(room), undefined, undefined, saw);
   },
 };
 

@@ -1,3 +1,4 @@
+"use strict";
 // Who gave a call, and when. No function touches the page.
 
 // The name of somebody who has said none, how the name of a program begins, and the most octets of a name.
@@ -48,6 +49,12 @@ function whoOf({ name = "-", operator }) {
 function timeOf(moment, now) {
   const when = new Date(moment), [day, time] = [when.toDateString(), when.toTimeString().slice(0, 5)];
   return day === new Date(now).toDateString() ? time : `${day.slice(4, 10)} ${time}`;
+}
+// Another person's call, by which a line wasn't sent, in the answer to that line; or null.
+function newerIn(said) { return said.startsWith("Newer: ") ? [...callsIn(said).values()][0] ?? null : null; }
+// Who gave a call, when, and what it did.
+function callerInWords(call, { names, desk, past }, now = Date.now()) {
+  return `${timeOf(call.moment, now)} ${whoOf(call)}: ${worded(names, desk, call.line, past?.known)}.`;
 }
 // Whether a call is another one's: neither this page's, nor by the name that its operator has.
 function isOthers(call, me, mine) { return call !== undefined && !mine.has(call.number) && call.name !== me; }

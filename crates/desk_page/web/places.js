@@ -1,3 +1,4 @@
+"use strict";
 // What stands where: the rooms, their members, and the numbers of the whole bridge.
 
 // Places. Nothing comes, goes or moves in the list or beside it while the pointer is there, a button is held, or a menu

@@ -1,3 +1,4 @@
+"use strict";
 // Two minutes of a member's figures, and the lines that draw them. No function touches the page.
 
 // How far back a trace goes, in milliseconds, and the size of a plot in units of its own.

@@ -1,3 +1,4 @@
+"use strict";
 // A member's row of the overview: its state, its name, its figures, what it sees and sends, and its mute.
 
 // What stands out of how a source's packets come: a class, and words.

@@ -1,3 +1,4 @@
+"use strict";
 // The rules of the page: what stays in its place, when a press is meant, and who is in trouble. No function touches the
 // page.
 

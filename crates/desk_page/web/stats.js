@@ -1,3 +1,4 @@
+"use strict";
 
 // What the bridge counts, as /stats tells it. No function touches the page.
 

@@ -1,3 +1,4 @@
+"use strict";
 // The stream of events: the page's program tells what happens, and isn't asked for it. Where no stream can be had, the
 // page asks as often as it does without one.
 
@@ -25,6 +26,7 @@ const onEvent = {
     const text = shownText === null || drag ? null : editedText(shownText, edit);
     return text === null ? show() : take(text);
   },
+  lease: (state) => showClosed(closedBy(state)),
   call: (line) => { calls = withCalls(calls, line); },
   bridge: (word) => {
     told = { gone: "bridge", busy: "seats" }[word] ?? "";
@@ -37,6 +39,14 @@ const onEvent = {
     return isBehind ? take(shownText) : null;
   },
 };
+// Says at the top that the desk is closed. The list moves by that line, so that a press just then is refused.
+function showClosed(name) {
+  const text = name === null ? "" : closedInWords(name);
+  if (at("closed").textContent === text) return;
+  at("closed").textContent = at("closed").title = text;
+  document.body.classList.toggle("closed", name !== null);
+  movedAt = performance.now();
+}
 function openStream() {
   closeStream();
   openedAt = performance.now();

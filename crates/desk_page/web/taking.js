@@ -1,3 +1,4 @@
+"use strict";
 // Taking calls back, and doing them again.
 
 // Asks before another one's calls, or a restored desk, are taken back. A change that comes meanwhile closes the
@@ -18,6 +19,12 @@ function closeStale() {
   if (!asked || asked.version === past.version) return;
   at("ask").close();
   notice("Not done: another change came first. Look, and press again.");
+}
+// Sends a line that wasn't sent since another person's call of its row came first, if that is still wanted.
+async function sendsAfter(other, line, words, key) {
+  const text = `${callerInWords(other, { names, desk, past })} Yours was not sent: ${words}.`;
+  if (await question("Send yours all the same?", text, "Send") === null) return 0;
+  return call(line, words, key, Math.max(other.number, desk.version));
 }
 // Takes a call back, or does one again, by a line.
 async function takes({ number, line }, words, key, word) {

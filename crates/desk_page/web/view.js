@@ -1,3 +1,4 @@
+"use strict";
 // Drawing.
 // What is drawn is changed in place, so that focus, scrolling and what is typed stay.
 const at = (id) => document.getElementById(id);

@@ -1,18 +1,20 @@
 //! A case, by its first word.
 
 use crate::admissions::placement_is;
+use crate::calls::{closed_is, folder_is, newer_is};
 use crate::connections::{is_named, reply_is};
 use crate::events::{are_known, edit_is, event_is, head_has, may_lag, may_stream};
+use crate::pages::{folder_router, router_at};
 use crate::request::{octets_of, request_of, spoken};
 use crate::states::state_is;
 use desk_http::{
-    Assets, BridgeReply, BridgeRequest, ReplyProgress, Responder, Router, Site, Tables,
-    loopback_addresses, page_tables, request_limits,
+    BridgeReply, BridgeRequest, ReplyProgress, Responder, Router, Tables, loopback_addresses,
+    page_tables, request_limits,
 };
 use http_server::{Config, Connection, Service};
 use std::alloc::{AllocError, Global};
 use std::hash::RandomState;
-use std::net::{SocketAddr, SocketAddrV4};
+use std::net::SocketAddrV4;
 use std::str::Split;
 
 /// Two pages, and what connections to them begin with.
@@ -25,16 +27,9 @@ pub struct Page {
     router: Router,
     /// The same page at port 80.
     router_80: Router,
+    /// The first one, with the files of a folder.
+    router_folder: Router,
 }
-
-/// The files of the page.
-const ASSETS: Assets = Assets {
-    html_before: b"<before ",
-    html_after: b" after>",
-    script_lines: b"lines ",
-    script_view: b"view",
-    style: b"style",
-};
 
 /// What a progress is called.
 fn progress_name(progress: ReplyProgress) -> &'static str {
@@ -97,17 +92,6 @@ fn respond<S: Service>(
     Some(())
 }
 
-fn router_at(alloc: Global, port: u16) -> Result<Router, AllocError> {
-    let address = SocketAddr::from(([127, 0, 0, 1], port));
-    Ok(Router {
-        alloc,
-        site: Site::new(alloc, address, Vec::from_slice(alloc, b"secret")?)?,
-        assets: ASSETS,
-        person: Vec::new(alloc),
-        line: None,
-    })
-}
-
 /// Whether a request has this line for the bridge, or got this response.
 fn is_routed(alloc: Global, router: &Router, response: &[u8], wanted: &str) -> Option<bool> {
     match (&router.line, wanted.strip_prefix("sends ")) {
@@ -124,7 +108,11 @@ fn reply_of(alloc: Global, text: &str) -> Option<BridgeReply> {
         "gone" => Some(BridgeReply::Gone),
         "lost" => Some(BridgeReply::Lost),
         "full" => Some(BridgeReply::Full),
-        _ => Some(BridgeReply::Text(spoken(alloc, text.strip_prefix("text ")?)?)),
+        "missing" => Some(BridgeReply::Missing),
+        _ => match text.strip_prefix("newer ") {
+            Some(call) => Some(BridgeReply::Newer(spoken(alloc, call)?)),
+            None => Some(BridgeReply::Text(spoken(alloc, text.strip_prefix("text ")?)?)),
+        },
     }
 }
 
@@ -164,6 +152,7 @@ impl Page {
             tables: page_tables(),
             router: router_at(alloc, 7080)?,
             router_80: router_at(alloc, 80)?,
+            router_folder: folder_router(alloc)?,
         })
     }
 
@@ -206,11 +195,28 @@ impl Page {
         }
     }
 
+    /// The same of the page whose files are those of a folder.
+    fn routes_in_folder(&mut self, request: &str, wanted: &str) -> Option<bool> {
+        let (alloc, keys, config) = (self.alloc, self.keys, self.config);
+        let router = &mut self.router_folder;
+        Self::routed_by(alloc, keys, config, router, request, wanted)
+    }
+
     /// Whether the request is of this person.
     fn is_of(&mut self, request: &str, wanted: &str) -> Option<bool> {
         let (alloc, keys, config) = (self.alloc, self.keys, self.config);
         drop(Self::response_of(alloc, keys, config, &mut self.router, request)?);
         Some(self.router.person.as_slice() == wanted.as_bytes())
+    }
+
+    /// Whether the request says this version of the desk, or `none`.
+    fn has_seen(&mut self, request: &str, wanted: &str) -> Option<bool> {
+        let (alloc, keys, config) = (self.alloc, self.keys, self.config);
+        drop(Self::response_of(alloc, keys, config, &mut self.router, request)?);
+        match self.router.seen {
+            Some(seen) => Some(seen == wanted.parse().ok()?),
+            None => Some(wanted == "none"),
+        }
     }
 
     /// The response to a request by this reply to this line.
@@ -251,8 +257,13 @@ impl Page {
         match verb {
             "route" => self.routes(7080, text, wanted),
             "route-80" => self.routes(80, text, wanted),
+            "route-folder" => self.routes_in_folder(text, wanted),
+            "folder" => folder_is(text, wanted),
             "start" => may_start(text, wanted),
             "person" => self.is_of(text, wanted),
+            "seen" => self.has_seen(text, wanted),
+            "newer" => newer_is(self.alloc, text, wanted),
+            "closed" => closed_is(self.alloc, text, wanted),
             "named" => is_named(self.alloc, text, wanted),
             "connection" => reply_is(self.alloc, text, wanted),
             "admit" => placement_is(self.alloc, text, wanted),

@@ -37,6 +37,8 @@ fn is_reply(alloc: Global, reply: &Option<(Vec<u8>, BridgeReply)>, wanted: &str)
         Some((_, BridgeReply::Gone)) => Some(wanted == "gone"),
         Some((_, BridgeReply::Lost)) => Some(wanted == "lost"),
         Some((_, BridgeReply::Full)) => Some(wanted == "full"),
+        Some((_, BridgeReply::Newer(_))) => Some(wanted == "newer"),
+        Some((_, BridgeReply::Missing)) => Some(wanted == "missing"),
         Some((_, BridgeReply::Text(text))) => match wanted.strip_prefix("text ") {
             Some(wanted) => Some(*text == spoken(alloc, wanted)?),
             None => Some(false),

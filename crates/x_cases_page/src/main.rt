@@ -33,9 +33,11 @@
 #![tactic(auto)]
 
 mod admissions;
+mod calls;
 mod case;
 mod connections;
 mod events;
+mod pages;
 mod request;
 mod states;
 

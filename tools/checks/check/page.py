@@ -158,7 +158,7 @@ class Page:
             "the page has no strict policy",
         )
         self.token = MARKUP_TOKEN.search(text.encode())[1].decode()
-        for path in "/page.js", "/page.css":
+        for path in "/page.js", "/hands.js", "/page.css":
             check(self.ask("GET", path)[0] == 200, f"{path} isn't there")
 
     def call(self, line, **fields):

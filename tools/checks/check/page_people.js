@@ -44,6 +44,22 @@ const isOthers = (number, me) => page.isOthers(log.get(number), me, new Set());
 same([isOthers(2, "bob"), isOthers(2, "ann"), isOthers(1, "ann"), isOthers(3, "ann")],
   [true, false, true, false]);
 same(page.isOthers(log.get(2), "bob", new Set([2])), false);
+// A call that another person's came before.
+const came = "call 7 1764360012008 1 Bo%20Li mute 201", newer = `Newer: another person touched that row\n${came}`;
+same(page.newerIn(newer), { number: 7, moment: 1764360012008, operator: 1, name: "Bo%20Li", line: "mute 201" });
+same([came, "Newer: x", "Newer: x\nend 7", "NoLine: x", ""].map(page.newerIn), [null, null, null, null, null]);
+const small = page.parseDesk("room 1\nend 7\n"), seen = { names: {}, desk: small, past: null };
+const at = page.timeOf(1764360012008, Date.now());
+same(plain(page.replyInWords(409, newer, seen).text), `not sent. ${at} Bo Li: mute 201.`);
+same([page.replyInWords(409, newer, seen).good, page.replyInWords(409, "Newer: x", seen).text], [false, "Newer: x"]);
+// A desk whose lease has ended.
+same(["open", "closed ann", "closed -", "closed agent-fleet", "closed", ""].map(page.closedBy),
+  [null, "ann", "-", "agent-fleet", null, null]);
+same(["Bo%20Li", "-", "agent-fleet"].map((name) => plain(page.closedInWords(name))), [
+  "The desk is closed: the lease of Bo Li has ended. Calls are refused. Sound and pictures go on.",
+  "The desk is closed: nobody holds its lease. Calls are refused. Sound and pictures go on.",
+  "The desk is closed: the lease of agent-fleet has ended. Calls are refused. Sound and pictures go on. "
+    + "The rooms may be on another bridge by now."]);
 // A restored desk is asked about, whoever restored it.
 const line = (words) => page.makesRooms({ number: 1, name: "ann", line: words });
 same([line("group add-room 1 8000 / add-member 10 1 127.0.0.1:6000 pcmu 9001 0 0"), line("add-room 1"),

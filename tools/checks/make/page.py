@@ -4,7 +4,9 @@ The page is the files of crates/desk_page/web. Its program has no file at hand w
 crates/desk_page/src as a constant. TOKEN in page.html is where the program puts the page's token.
 """
 
-from operators.shared import CRATES, ROOT, fail
+import re
+
+from operators.shared import CRATES, fail
 
 NEEDS = "nothing"
 
@@ -13,46 +15,101 @@ TOKEN = "TOKEN"
 MADE = "`tools/bridge make page` writes this file, from these files of web/:\n//! {}."
 LINES = "advice.js lines.js overview.js kept.js levels.js stats.js people.js news.js plots.js rules.js history.js"
 VIEW = "view.js rows.js page.js taking.js link.js stream.js counts.js places.js drawing.js hands.js"
-# Each source with what it is, and its constants: a name, what that is, a web file, and the part of it.
-PARTS = [
-    ("markup.rt", "The page in HTML, as far as its token and behind it.", [
-        ("HTML_BEFORE", "The page as far as its token.", "page.html", 0),
-        ("HTML_AFTER", "The page behind its token.", "page.html", 1),
-    ]),
-    ("script_lines.rt", "What the page makes of the bridge's texts, and the lines that clicks send.", [
-        ("LINES", "The first part of the page's script.", LINES, 0),
-    ]),
-    ("script_view.rt", "How the page shows the desk, and what is done at it.", [
-        ("VIEW", "The rest of the page's script.", VIEW, 0),
-    ]),
-    ("style.rt", "The page's style sheet.", [("STYLE", "The page's style sheet.", "page.css", 0)]),
-]  # fmt: skip
+STYLE = "page.css"
+SCRIPT = re.compile(r'<script src="/([^"]*)" defer></script>')
+# Each source of files that browsers ask for by name: what it is, and its files.
+PARTS = {
+    "script_lines": ("What the page makes of the bridge's texts, and the lines that clicks send.", LINES),
+    "script_view": ("How the page shows the desk, and what is done at it.", VIEW),
+    "style": ("The page's style sheet.", STYLE),
+}
+MARKUP = """//! The page in HTML, as far as its token and behind it.
+//! {made}
+
+/// The page as far as its token.
+pub(crate) const HTML_BEFORE: &[u8] = br##"{before}"##;
+
+/// The page behind its token.
+pub(crate) const HTML_AFTER: &[u8] = br##"{after}"##;
+"""
+TABLE = """//! The page's files by their names.
+//! {made}
+
+{uses}use desk_http::AssetFile;
+
+const FILES: &[AssetFile] = &[
+{rows}];
+
+/// The parts of the page's script, and its style sheet.
+pub(crate) fn web_files() -> &'static [AssetFile] {{
+    FILES
+}}
+"""
+ROW = """    AssetFile {{
+        name: "{name}",
+        content: {content},
+    }},
+"""
 
 
 def options(parser):
     pass
 
 
-def text_of(name, part):
-    """A part of web files: what stands before the token, or behind it."""
-    text = "\n".join((WEB / one).read_text() for one in name.split())
+def text_of(name):
+    text = (WEB / name).read_text()
     if '"##' in text:
         fail(f"web/{name} has the end of a constant in it")
-    return text.split(TOKEN)[part] if name.endswith(".html") else text
+    return text
 
 
-def source_of(title, constants):
-    """A source with its constants."""
-    files = ", ".join(constants[0][2].split())
-    lines = [f"//! {title}", f"//! {MADE.format(files)}"]
-    for name, what, file, part in constants:
-        lines += ["", f"/// {what}", f'pub(crate) const {name}: &[u8] = br##"{text_of(file, part)}"##;']
+def constant(name):
+    """What the constant of a file is called."""
+    return name.replace(".", "_").upper()
+
+
+def part(title, files):
+    """A source with a constant for each file."""
+    lines = [f"//! {title}", f"//! {MADE.format(', '.join(files.split()))}"]
+    for name in files.split():
+        lines += ["", f"/// {name}", f'pub(crate) const {constant(name)}: &[u8] = br##"{text_of(name)}"##;']
     return "\n".join(lines) + "\n"
+
+
+def markup():
+    """The page, whose script is all of the other files in their order."""
+    page = text_of("page.html")
+    if SCRIPT.findall(page) != [*LINES.split(), *VIEW.split()]:
+        fail("web/page.html doesn't name the parts of its script in the order in which they are listed here")
+    before, after = page.split(TOKEN)
+    return MARKUP.format(made=MADE.format("page.html"), before=before, after=after)
+
+
+def used(source, files):
+    """A `use` of these constants, as `rt fmt` lays it out."""
+    names = sorted(map(constant, files.split()))
+    if len(names) == 1:
+        return f"use crate::{source}::{names[0]};\n"
+    lines, line = [], ""
+    for name in names:
+        if len(line) + len(name) + 2 > 100:
+            lines, line = [*lines, line], ""
+        line = f"{line} {name}," if line else f"    {name},"
+    return f"use crate::{source}::{{\n" + "\n".join([*lines, line]) + "\n};\n"
+
+
+def table():
+    """A table of all files."""
+    files = " ".join(names for _, names in PARTS.values())
+    rows = "".join(ROW.format(name=name, content=constant(name)) for name in files.split())
+    uses = "".join(used(source, names) for source, (_, names) in PARTS.items())
+    return TABLE.format(made=MADE.format("all of them but page.html"), uses=uses, rows=rows)
 
 
 def sources():
     """Each source that is made of web files: its path and its text."""
-    return [(SOURCES / name, source_of(title, constants)) for name, title, constants in PARTS]
+    parts = [(SOURCES / f"{name}.rt", part(*of)) for name, of in PARTS.items()]
+    return [*parts, (SOURCES / "markup.rt", markup()), (SOURCES / "web_files.rt", table())]
 
 
 def stale():
