@@ -6,6 +6,7 @@ middle leaves nothing that the next one doesn't put right.
 
 import collections
 import contextlib
+import itertools
 import threading
 import traceback
 
@@ -214,9 +215,8 @@ class Agent(Keeping):
             return
         sure = {room: bridge.sure[room] for room in rooms if room in bridge.sure}
         kept = self.store.restored(room for room in rooms if room not in sure)
-        differ = {}
-        for room, one in kept.items():
-            differ |= differing(bridge.rooms[room], one.rows if one else [])
+        rows, lines = [bridge.rooms[room] for room in kept], [one.rows for one in kept.values() if one]
+        differ = differing(itertools.chain(*rows), itertools.chain(*lines))
         first = 0 if kept or gone else min(sure.values())
         calls, why = bridge.desk.calls_after(first), f"at {bridge.name} may be lost, since rooms had gone"
         told = [f"{one.who()} {why}: {one.words}" for one in lost_of(calls, sure, differ, names_in(bridge.rooms), gone)]

@@ -53,7 +53,7 @@ def options(parser):
 
 
 PARTS = [
-    (Drawn, [], ["step_drawn", "step_bounds"]),
+    (Drawn, [], ["step_drawn", "step_lost", "step_bounds"]),
     (Keeping, [], ["step_round_trip", "step_refusals", "step_lines", "step_large"]),
     (Manifests, [], [
         "step_kubernetes", "step_pods", "step_compose", "step_podman", "step_nomad", "step_ports_of_job", "step_units",

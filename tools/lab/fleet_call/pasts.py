@@ -7,14 +7,19 @@ from operators.models.desk import Log, made_line
 
 from kept import MOST_OCTETS, change_of, further, lines_in, whole_of, with_changes  # noqa: E402
 from known import restored_of  # noqa: E402
-from made import after  # noqa: E402
+from lost import differing, lost_of, without_firsts  # noqa: E402
+from made import after, key_of  # noqa: E402
 from past import LOOKED_AT, MOST_CALL_OCTETS, MOST_CALLS, MOVING, History, Pasts, lines_of  # noqa: E402
-from past import restored, settled  # noqa: E402
+from past import names_in, restored, settled  # noqa: E402
+from seat import NAME, Call  # noqa: E402
 
 # How many desks are drawn, how many looks an agent takes at each, and of how many of a hundred calls of operators that
 # could travel so many have to. The desks are worse than any call: members come and go under one number all the time.
 DESKS, LOOKS, LEAST = 20, 60, 30
 ROOMS, AGENT, OPERATOR, OTHER = (1, 2), 0, 1, 2
+# How many desks there are whose rooms are elsewhere, how much is done at each of them then, and how many of a hundred
+# calls that are told as lost may be older.
+LEFT, LATE, OLDER = 100, 30, 25
 # What an operator does, as often as it stands here. A source, a member with its room, a slot and a number are drawn.
 DONE = [
     *4 * ["mute {ssrc}"], *2 * ["set-gain {member} {ssrc} {q8}"], "unmute {ssrc}", "pin {room} {ssrc}",
@@ -68,6 +73,10 @@ class Desk:
         group = f"group add-member {member} {room} 10.0.0.{new % 250}:{new} pcmu {new} {self.drawn.randrange(2**16)} 0"
         group += f" / add-source {new + 1} {member} audio / add-source {new + 2} {member} video"
         self.call(f"{group} / add-slot {new + 3} {member} 0 65535 6", AGENT)
+
+    def rows(self):
+        """What makes each row."""
+        return {key_of(one): str(without_firsts(one)) for one in commands_of(self.log.desk.shown(0)[:-1])}
 
     def in_force(self):
         lines = self.log.history(self.log.version + 1)[:-1]
@@ -135,6 +144,29 @@ class Drawn:
         self.check(not wrong, text, wrong[:1])
         text = f"of {could} calls of operators that are in force {travel} travel"
         self.check(travel * 100 >= could * LEAST, text, travel)
+
+    def step_lost(self):
+        """Rooms are elsewhere as they were, and somebody goes on at their desk: of each row the last call that has
+        changed it is told."""
+        wrong, count, older = [], 0, 0
+        for seed in range(LEFT):
+            desk, last = Desk(random.Random(1000 + seed)), {}
+            for _ in range(LOOKS):
+                desk.acts()
+            kept, version = commands_of(desk.log.desk.shown(0)[:-1]), desk.log.version
+            for _ in range(LATE):
+                before = desk.rows()
+                desk.acts()
+                last |= {row: desk.log.version for row, _ in before.items() ^ desk.rows().items()}
+            differ = differing(desk.log.desk.shown(0)[:-1], kept)
+            calls = [Call(number, 0, seat, NAME if seat == AGENT else "-", words) for number, seat, words in desk.told]
+            found = {one.number for one in lost_of(calls, {}, differ, {}, {})}
+            missed = {row: last[row] for row in differ if last[row] not in found | desk.own}
+            wrong += [(seed, missed)] if missed else []
+            count, older = count + len(found), older + sum(number <= version for number in found)
+        self.check(not wrong, f"on {LEFT} desks each call of a person that is lost is told", wrong[:1])
+        text = f"of {count} calls that are told {older} are older than the rows elsewhere"
+        self.check(count and older * 100 <= count * OLDER, text, (count, older))
 
     def step_bounds(self):
         """Calls that are too many, too large together, or too long alone once their streams begin further on."""
