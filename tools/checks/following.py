@@ -33,13 +33,16 @@ class PlainBridge:
     answered, once."""
 
     def __init__(self, one):
-        self.one, self.asked, self.meanwhile, self.lock = one, [], {}, threading.Lock()
+        self.one, self.asked, self.meanwhile, self.lock, self.lease = one, [], {}, threading.Lock(), "lease off"
         bridge = self
 
         class Operator(socketserver.StreamRequestHandler):
             def handle(self):
-                for line in self.rfile:
-                    told = bridge.told(line.decode().rstrip("\n"))
+                name = "-"
+                for octets in self.rfile:
+                    line = octets.decode().rstrip("\n")
+                    name = line[3:] if line.startswith("as ") else name
+                    told = bridge.told(line, name)
                     self.wfile.write("".join(f"{row}\n" for row in told).encode())
 
         self.server = socketserver.ThreadingTCPServer(("127.0.0.1", 0), Operator)
@@ -49,8 +52,8 @@ class PlainBridge:
         self.port = self.server.server_address[1]
         threading.Thread(target=self.server.serve_forever, daemon=True).start()
 
-    def told(self, line):
-        """The answer to a line, which is counted."""
+    def told(self, line, name):
+        """The answer to a line of somebody with this name. It is counted."""
         with self.lock:
             self.asked.append(line)
             meanwhile = self.meanwhile.pop(line, None)
@@ -66,7 +69,9 @@ class PlainBridge:
             return self.one.past()
         if line == "stats":
             return ["end"]
-        return [self.one.call(line)]
+        if line == "lease":
+            return [self.lease]
+        return [self.one.call(line, name=name)]
 
     def counted(self, seconds):
         """How often each question is asked in so many seconds."""

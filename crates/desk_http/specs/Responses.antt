@@ -116,7 +116,7 @@ waiting_response = text_response 503 (codes "Waiting: the bridge is asked\n")
 abbrev pub direct_response : Site → Assets → List ℕ → Route → PageResponse
 direct_response site assets path routes.Page = page_response assets site.token.items
 direct_response site assets path (routes.File kind) =
-    file_response kind (content_of (name_at path) assets.files.now)
+    file_response kind (content_of (name_at path) assets.files.items)
 direct_response site assets path (routes.Read query form) = waiting_response
 direct_response site assets path routes.Events = waiting_response
 direct_response site assets path routes.Call = waiting_response

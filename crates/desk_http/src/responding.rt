@@ -104,9 +104,9 @@ pub(crate) fn fill_text(
 }
 
 /// Fills in the page, with its token.
-fn fill_page(response: &mut Response, assets: Assets, token: &[u8]) -> Result<(), AllocError>
+fn fill_page(response: &mut Response, assets: &Assets, token: &[u8]) -> Result<(), AllocError>
     requires { IsBlank response.old }
-    ensures { OnOk result (IsPageResponse (page_response assets token.now) response.new) }
+    ensures { OnOk result (IsPageResponse (page_response assets.now token.now) response.new) }
 {
     let content_type = HeaderValue::from_static("text/html; charset=utf-8");
     fill(
@@ -206,17 +206,17 @@ fn refusal_text(refusal: PageRefusal) -> &'static [u8]
 pub(crate) fn respond(
     response: &mut Response,
     site: &Site,
-    assets: Assets,
+    assets: &Assets,
     path: &str,
     route: Route,
 ) -> Result<(), AllocError>
     requires { IsBlank response.old }
-    ensures { OnOk result (IsPageResponse (direct_response site.now assets path.now route) response.new) }
+    ensures { OnOk result (IsPageResponse (direct_response site.now assets.now path.now route) response.new) }
 {
     match route {
         Route::Page => fill_page(response, assets, &site.token),
         Route::File(kind) => {
-            let content = content_of(assets.files, name_at(path.as_bytes()));
+            let content = content_of(&assets.files, name_at(path.as_bytes()));
             fill_file(response, kind, content)
         }
         Route::Refused(refusal) => {

@@ -103,7 +103,7 @@ impl Service for Router {
         respond(
             response,
             &self.site,
-            self.assets,
+            &self.assets,
             request.uri().path(),
             route,
         )?;

@@ -24,14 +24,14 @@ pub struct Site {
 }
 
 /// The page's files, which the program embeds.
-#[derive(Clone, Copy)]
+#[derive(Drop)]
 pub struct Assets {
     /// The page in HTML, as far as the token.
     pub html_before: &'static [u8],
     /// The page in HTML, after the token.
     pub html_after: &'static [u8],
     /// The parts of its script, and its style sheet.
-    pub files: &'static [AssetFile],
+    pub files: Vec<AssetFile>,
 }
 
 fn has_port_80(name: &[u8]) -> bool

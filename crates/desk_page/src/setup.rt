@@ -4,7 +4,7 @@ use crate::markup::{HTML_AFTER, HTML_BEFORE};
 use crate::server_config::ServerConfig;
 use crate::web_files::web_files;
 use desk_http::{Assets, Router, Site, page_tables, request_limits, token};
-use std::alloc::Global;
+use std::alloc::{AllocError, Global};
 use std::hash::RandomState;
 use std::io;
 use std::net::SocketAddr;
@@ -35,12 +35,12 @@ pub(crate) fn run_text(name: &[u8]) -> &str {
     }
 }
 
-fn assets() -> Assets {
-    Assets {
+fn assets(alloc: Global) -> Result<Assets, AllocError> {
+    Ok(Assets {
         html_before: HTML_BEFORE,
         html_after: HTML_AFTER,
-        files: web_files(),
-    }
+        files: web_files(alloc)?,
+    })
 }
 
 /// The router of the page at this address, whose files may be those of a folder.
@@ -55,7 +55,7 @@ pub(crate) fn router_at<R: RandomSource>(
     Ok(Router {
         alloc,
         site,
-        assets: assets(),
+        assets: assets(alloc)?,
         person: Vec::new(alloc),
         seen: None,
         line: None,

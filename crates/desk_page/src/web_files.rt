@@ -12,99 +12,54 @@ use crate::script_view::{
 };
 use crate::style::PAGE_CSS;
 use desk_http::AssetFile;
+use std::alloc::{AllocError, Global};
 
-const FILES: &[AssetFile] = &[
-    AssetFile {
-        name: "advice.js",
-        content: ADVICE_JS,
-    },
-    AssetFile {
-        name: "lines.js",
-        content: LINES_JS,
-    },
-    AssetFile {
-        name: "overview.js",
-        content: OVERVIEW_JS,
-    },
-    AssetFile {
-        name: "kept.js",
-        content: KEPT_JS,
-    },
-    AssetFile {
-        name: "levels.js",
-        content: LEVELS_JS,
-    },
-    AssetFile {
-        name: "stats.js",
-        content: STATS_JS,
-    },
-    AssetFile {
-        name: "people.js",
-        content: PEOPLE_JS,
-    },
-    AssetFile {
-        name: "news.js",
-        content: NEWS_JS,
-    },
-    AssetFile {
-        name: "plots.js",
-        content: PLOTS_JS,
-    },
-    AssetFile {
-        name: "rules.js",
-        content: RULES_JS,
-    },
-    AssetFile {
-        name: "history.js",
-        content: HISTORY_JS,
-    },
-    AssetFile {
-        name: "view.js",
-        content: VIEW_JS,
-    },
-    AssetFile {
-        name: "rows.js",
-        content: ROWS_JS,
-    },
-    AssetFile {
-        name: "page.js",
-        content: PAGE_JS,
-    },
-    AssetFile {
-        name: "taking.js",
-        content: TAKING_JS,
-    },
-    AssetFile {
-        name: "link.js",
-        content: LINK_JS,
-    },
-    AssetFile {
-        name: "stream.js",
-        content: STREAM_JS,
-    },
-    AssetFile {
-        name: "counts.js",
-        content: COUNTS_JS,
-    },
-    AssetFile {
-        name: "places.js",
-        content: PLACES_JS,
-    },
-    AssetFile {
-        name: "drawing.js",
-        content: DRAWING_JS,
-    },
-    AssetFile {
-        name: "hands.js",
-        content: HANDS_JS,
-    },
-    AssetFile {
-        name: "page.css",
-        content: PAGE_CSS,
-    },
-];
+fn push(
+    files: &mut Vec<AssetFile>,
+    name: &'static str,
+    content: &'static [u8],
+) -> Result<(), AllocError> {
+    files.push(AssetFile { name, content })?;
+    Ok(())
+}
+
+fn push_script_lines(files: &mut Vec<AssetFile>) -> Result<(), AllocError> {
+    push(files, "advice.js", ADVICE_JS)?;
+    push(files, "lines.js", LINES_JS)?;
+    push(files, "overview.js", OVERVIEW_JS)?;
+    push(files, "kept.js", KEPT_JS)?;
+    push(files, "levels.js", LEVELS_JS)?;
+    push(files, "stats.js", STATS_JS)?;
+    push(files, "people.js", PEOPLE_JS)?;
+    push(files, "news.js", NEWS_JS)?;
+    push(files, "plots.js", PLOTS_JS)?;
+    push(files, "rules.js", RULES_JS)?;
+    push(files, "history.js", HISTORY_JS)
+}
+
+fn push_script_view(files: &mut Vec<AssetFile>) -> Result<(), AllocError> {
+    push(files, "view.js", VIEW_JS)?;
+    push(files, "rows.js", ROWS_JS)?;
+    push(files, "page.js", PAGE_JS)?;
+    push(files, "taking.js", TAKING_JS)?;
+    push(files, "link.js", LINK_JS)?;
+    push(files, "stream.js", STREAM_JS)?;
+    push(files, "counts.js", COUNTS_JS)?;
+    push(files, "places.js", PLACES_JS)?;
+    push(files, "drawing.js", DRAWING_JS)?;
+    push(files, "hands.js", HANDS_JS)
+}
+
+fn push_style(files: &mut Vec<AssetFile>) -> Result<(), AllocError> {
+    push(files, "page.css", PAGE_CSS)
+}
 
 /// The parts of the page's script, and its style sheet.
-pub(crate) fn web_files() -> &'static [AssetFile] {
-    FILES
+// No constant may have over 10,000 expressions, and one that names others has theirs.
+pub(crate) fn web_files(alloc: Global) -> Result<Vec<AssetFile>, AllocError> {
+    let mut files = Vec::new(alloc);
+    push_script_lines(&mut files)?;
+    push_script_view(&mut files)?;
+    push_style(&mut files)?;
+    Ok(files)
 }

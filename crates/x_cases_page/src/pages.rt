@@ -4,21 +4,25 @@ use desk_http::{AssetFile, Assets, Router, Site};
 use std::alloc::{AllocError, Global};
 use std::net::SocketAddr;
 
-/// The files of the page.
-const ASSETS: Assets = Assets {
-    html_before: b"<before ",
-    html_after: b" after>",
-    files: &[
-        AssetFile {
-            name: "page.js",
-            content: b"script",
-        },
-        AssetFile {
-            name: "page.css",
-            content: b"style",
-        },
-    ],
-};
+/// The files that the page names.
+const FILES: [AssetFile; 2] = [
+    AssetFile {
+        name: "page.js",
+        content: b"script",
+    },
+    AssetFile {
+        name: "page.css",
+        content: b"style",
+    },
+];
+
+fn assets(alloc: Global) -> Result<Assets, AllocError> {
+    Ok(Assets {
+        html_before: b"<before ",
+        html_after: b" after>",
+        files: Vec::from_slice(alloc, &FILES)?,
+    })
+}
 
 /// The page at this port.
 pub fn router_at(alloc: Global, port: u16) -> Result<Router, AllocError> {
@@ -26,7 +30,7 @@ pub fn router_at(alloc: Global, port: u16) -> Result<Router, AllocError> {
     Ok(Router {
         alloc,
         site: Site::new(alloc, address, Vec::from_slice(alloc, b"secret")?)?,
-        assets: ASSETS,
+        assets: assets(alloc)?,
         person: Vec::new(alloc),
         seen: None,
         line: None,

@@ -37,6 +37,7 @@ from checks.counting import shows_counts
 from checks.driving import drive, opened
 from checks.following import PlainBridge, is_followed
 from checks.handling import handle, names_things, stays_small
+from checks.judging import judges, judges_calls
 from checks.lasting import finds_another, keeps_the_desk, shows_stale
 from checks.losing import shows_loss, tells_loss
 from checks.make.page import LINES, WEB
@@ -335,6 +336,11 @@ def refuses(page, operator, version):
         (400, "Reserved", "POST", "/call", b"as bob", good),
         (400, "Reserved", "POST", "/call", b"why", good),
         (400, "Reserved", "POST", "/call", b"help", good),
+        (400, "Reserved", "POST", "/call", b"lease", good),
+        (400, "Reserved", "POST", "/call", b"/page.js", good),
+        (400, "NoVersion", "POST", "/call", b"mute 101", {**good, "X-Desk-Seen": "new"}),
+        (404, "NotFound", "GET", "/page.html", None, {}),
+        (404, "NotFound", "GET", "/../page.js", None, {}),
         (405, "NotAllowed", "POST", "/history", b"", good),
         (405, "NotAllowed", "POST", "/metrics", b"", good),
         (403, "ForeignHost", "GET", "/metrics", None, {"Host": "desk.example"}),
@@ -603,6 +609,7 @@ def try_by_hand(args, folder, address, bridge):
         stays(one)
         watches(one)
         tells_persons(one, two)
+        judges(one, two)
         reads_aloud(one)
         works_a_shift(one)
         costs_little(one)
@@ -684,6 +691,35 @@ def refuses_bad_names(args, folder):
     )
 
 
+def serves_folder(args, folder):
+    """With --web the program serves the files of a folder as they are at each request, and no others."""
+    web, port = pathlib.Path(folder) / "web", free_port(socket.SOCK_STREAM)
+    shutil.copytree(WEB, web)
+    words = ["--listen", f"127.0.0.1:{port}", "--web", str(web)]
+    program = started("desk_page", args.page, words, args.seconds, folder)
+    try:
+        connected(program, port).close()
+        page = Page(port)
+        page.load()
+        for path in sorted(web.glob("*.*s*")):
+            check(page.ask("GET", f"/{path.name}")[2] == path.read_text(), f"/{path.name} isn't the folder's file")
+        (web / "hands.js").write_text("changed")
+        kind = page.ask("GET", "/hands.js")[1].getheader("content-type")
+        check(page.ask("GET", "/hands.js")[2] == "changed", "a file that was changed is served as it was")
+        check(kind == "text/javascript; charset=utf-8", f"a script is served as {kind}")
+        (web / "long.js").write_bytes(b"x" * ((1 << 20) + 1))
+        (web / "folder.css").mkdir()
+        (pathlib.Path(folder) / "outside.js").write_text("outside")
+        for name in "view.jsx", "page.html", "../outside.js", "%2e%2e/outside.js", "gone.js", "long.js", "folder.css":
+            status, _, text = page.ask("GET", f"/{name}")
+            check(status == 404 and text.startswith("NotFound"), f"/{name} is told {status} {text[:80]}")
+    finally:
+        program.terminate()
+        program.wait()
+    program = started("desk_page", args.page, ["--listen", "127.0.0.1:0", "--web", folder], args.seconds, folder)
+    check(program.wait(timeout=600) == 4, "a folder without the page isn't refused")
+
+
 def follows(args, folder):
     """What the page's program tells by itself, over a bridge that counts its questions."""
     bridge, port = PlainBridge(standin.Standin()), free_port(socket.SOCK_STREAM)
@@ -693,6 +729,7 @@ def follows(args, folder):
         connected(program, port).close()
         page = Page(port)
         page.load()
+        judges_calls(page, bridge)
         is_followed(page, bridge)
     finally:
         program.terminate()
@@ -782,6 +819,7 @@ def run(args):
             by_model(args, folder)
         else:
             refuses_bad_names(args, folder)
+            serves_folder(args, folder)
             follows(args, folder)
             session(args, folder)
     return 0

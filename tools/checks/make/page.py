@@ -36,19 +36,29 @@ TABLE = """//! The page's files by their names.
 //! {made}
 
 {uses}use desk_http::AssetFile;
+use std::alloc::{{AllocError, Global}};
 
-const FILES: &[AssetFile] = &[
-{rows}];
-
+fn push(
+    files: &mut Vec<AssetFile>,
+    name: &'static str,
+    content: &'static [u8],
+) -> Result<(), AllocError> {{
+    files.push(AssetFile {{ name, content }})?;
+    Ok(())
+}}
+{parts}
 /// The parts of the page's script, and its style sheet.
-pub(crate) fn web_files() -> &'static [AssetFile] {{
-    FILES
+// No constant may have over 10,000 expressions, and one that names others has theirs.
+pub(crate) fn web_files(alloc: Global) -> Result<Vec<AssetFile>, AllocError> {{
+    let mut files = Vec::new(alloc);
+{calls}
+    Ok(files)
 }}
 """
-ROW = """    AssetFile {{
-        name: "{name}",
-        content: {content},
-    }},
+FUNCTION = """
+fn push_{source}(files: &mut Vec<AssetFile>) -> Result<(), AllocError> {{
+{rows}
+}}
 """
 
 
@@ -100,10 +110,15 @@ def used(source, files):
 
 def table():
     """A table of all files."""
-    files = " ".join(names for _, names in PARTS.values())
-    rows = "".join(ROW.format(name=name, content=constant(name)) for name in files.split())
-    uses = "".join(used(source, names) for source, (_, names) in PARTS.items())
-    return TABLE.format(made=MADE.format("all of them but page.html"), uses=uses, rows=rows)
+    parts, uses = "", ""
+    for source, (_, files) in PARTS.items():
+        pushes = [f'push(files, "{name}", {constant(name)})' for name in files.split()]
+        rows = "".join(f"    {one}?;\n" for one in pushes[:-1]) + f"    {pushes[-1]}"
+        parts += FUNCTION.format(source=source, rows=rows)
+        uses += used(source, files)
+    calls = "\n".join(f"    push_{source}(&mut files)?;" for source in PARTS)
+    made = MADE.format("all of them but page.html")
+    return TABLE.format(made=made, uses=uses, parts=parts, calls=calls)
 
 
 def sources():
