@@ -1,17 +1,38 @@
 """Bridges whose agents have lost the others, stand still or have ended: their desks are closed to operators."""
 
 import signal
+import socket
+import threading
+import time
 
 from lab.fleet_call.gateways import Engine, Gateway
 from lab.fleet_call.machines import Clock, Way
 from lab.fleet_call.parts import CLOSED, LEASE, AgentPart, BridgePart
 from lab.gateway_call.again import Page
+from lab.models.served import Front
+from operators.serving import free_port
 
 # A room of a bridge whose agent is cut off, and two of a machine whose agent is started anew meanwhile. For how many
 # seconds the lease of that one lasts: operators call between the cut and its end.
 ALONE, KEPT, REMOVED, LONG = 67, 68, 69, 10
 # How many seconds a desk may be open for longer than its lease, and an address that no machine has here.
 LATE, NOWHERE = 1, "198.18.0.1"
+
+
+class Older(Front):
+    """A bridge from before leases, which is a model."""
+
+    def __init__(self, name):
+        super().__init__(("127.0.0.1", 0), 2, 1)
+        self.name, self.udp, self.tcp = name, free_port(socket.SOCK_DGRAM), self.server_address[1]
+        threading.Thread(target=self.serve_forever, daemon=True).start()
+
+    def gets_lease(self, word, name):
+        return "fault 1 3 UnknownWord"
+
+    def close(self):
+        self.shutdown()
+        self.server_close()
 
 
 class Guarded:
@@ -141,6 +162,17 @@ class Guarded:
         agent.close()
         agent.start()
         self.opens(bridge, agent, f"set-gain {member} {voice} 9", "another one is started")
+
+    def step_older(self):
+        """The agent of a bridge that knows no leases says so once."""
+        bridge = self.begun(Older("g"))
+        agent = self.begun(AgentPart(bridge, self.folder, self.etcd))
+        self.comes(lambda: agent.knows() == 4, "the agent of an older bridge comes", 60)
+        words = "g knows no leases: while it is cut off its desk takes calls, which may be lost"
+        self.comes(lambda: words in agent.log.read_text(), f"it says `{words}`")
+        time.sleep(LEASE)
+        self.check(agent.log.read_text().count(words) == 1, "and says it once", agent.log.read_text())
+        self.goes_off(agent, bridge)
 
     def step_closed_anew(self):
         """A machine is cut off, and its agent is started anew meanwhile: it tells which calls are lost."""
