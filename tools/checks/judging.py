@@ -57,7 +57,8 @@ def tells_lease(page, bridge):
         check(one.next("lease")[0] == "open", "a desk without a lease is told as closed")
         for answer, wanted in [
             ("lease 0 agent-fleet", "closed agent-fleet"), ("lease 0 -", "closed -"), ("lease 1 ann", "open"),
-            ("lease 0 ann", "closed ann"), ("fault 1 3 UnknownWord", "open"), ("lease 0 agent-fleet", "closed agent-fleet"),
+            ("lease 0 ann", "closed ann"), ("fault 1 3 UnknownWord", "open"),
+            ("lease 0 agent-fleet", "closed agent-fleet"),
         ]:  # fmt: skip
             bridge.lease = answer
             told, took = one.next("lease")
