@@ -5,6 +5,7 @@ import re
 import time
 
 from checks.browser import Browser
+from checks.firefox import Firefox
 from operators.shared import fail
 
 # What a user does, in the page's own words.
@@ -345,7 +346,7 @@ def undoes_music(browser, shown):
 
 
 def opened(command, folder, address):
-    browser = Browser(command, folder)
+    browser = (Firefox if "firefox" in command else Browser)(command, folder)
     browser.shows(1280, 900)
     browser.open(address)
     browser.wait("typeof desk !== 'undefined' && desk !== null && past !== null", 30)

@@ -8,10 +8,10 @@ ten tabs than for one, and drops who doesn't read it. In node, the page's functi
 should. In chromium, two browsers go through a call by clicks, forms and a drag: after each step both draw what `show`
 says, and the second one within half a second. Sliders, keys, names, many members at once, a bridge that is gone, a room
 of 64 and 64 rooms of 16 are tried by hand. The browser's accessibility tree has a name for each control. One session is
-an operator's shift. What a member's packets lack on their way to the bridge is told as lost, and shown. Names are kept
-in a file, and bad ones are told. With --http-only neither node nor chromium is needed, and nothing tries the page's
-script. With --model no program is needed: the page is served over the plain desk of the models, and what a bridge
-counts is handed to it, too.
+an operator's shift. In Firefox, where it is installed, two browsers go through a call, too. What a member's packets
+lack on their way to the bridge is told as lost, and shown. Names are kept in a file, and bad ones are told. With
+--http-only neither node nor a browser is needed, and nothing tries the page's script. With --model no program is
+needed: the page is served over the plain desk of the models, and what a bridge counts is handed to it, too.
 """
 
 import concurrent.futures
@@ -90,6 +90,7 @@ def options(parser):
         "--page", metavar="PROGRAM", help="the page's program (crates/desk_page/out/desk_page if not given)"
     )
     parser.add_argument("--browser", default="chromium", metavar="COMMAND", help="the browser (%(default)s)")
+    parser.add_argument("--firefox", default="firefox-esr", metavar="COMMAND", help="the other browser (%(default)s)")
     parser.add_argument("--http-only", action="store_true", help="try neither the page's functions nor a browser")
     parser.add_argument("--model", action="store_true", help="serve the page over a plain desk, without a program")
     parser.add_argument(
@@ -672,6 +673,23 @@ def by_model(args, folder):
     print("a session at the page over a plain desk, no fault")
 
 
+def by_firefox(command, folder):
+    """Two of another browser go through a session at a page over a plain desk, where it is installed."""
+    if not shutil.which(command):
+        print(f"not tried in {command}, which isn't there: install Debian's package firefox-esr")
+        return
+    one = standin.Standin()
+    address = f"http://127.0.0.1:{standin.serve(one).server_port}/"
+    drive(command, folder, address, one.shown, one.history, one.ask)
+    with (
+        contextlib.closing(opened(command, folder, address)) as first,
+        contextlib.closing(opened(command, folder, address)) as second,
+    ):
+        tells_persons(first, second)
+        judges(first, second)
+    print(f"a session at the page in {command}, no fault")
+
+
 def clean(ask, shown_lines):
     """Removes all rooms."""
     for row in shown_lines():
@@ -817,9 +835,12 @@ def run(args):
             take_pictures(args.browser, folder, args.pictures)
         elif args.model:
             by_model(args, folder)
+            by_firefox(args.firefox, folder)
         else:
             refuses_bad_names(args, folder)
             serves_folder(args, folder)
             follows(args, folder)
             session(args, folder)
+            if not args.http_only:
+                by_firefox(args.firefox, folder)
     return 0
