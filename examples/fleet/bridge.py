@@ -12,7 +12,7 @@ from kept import ROW, by_room, change_of, commands_of, further, groups_of, whole
 from past import LOOKED_AT, MEMBERS, MOVING, History, Past, Pasts, added_by, lines_of
 from printable import printable
 from refused import Refused
-from seat import ANSWERS, CLOSED, Seat, is_end
+from seat import ANSWERS, Seat, is_end
 
 # After how many seconds a bridge that has told nothing is asked.
 HEARTBEAT = 1
@@ -173,7 +173,7 @@ class Bridge:
         Those of a room have to make the rows that it had."""
         calls = sorted((number, room, call) for room, one in rooms.items() for number, call in one.calls)
         said = self.desk.ask_again([call for _, _, call in calls])
-        if any(one.endswith(CLOSED) for one in said):
+        if len(said) < len(calls):
             # Once there is a lease again, these rooms are brought anew.
             raise Refused(ENDED)
         made = {room: [] for _, room, _ in calls}

@@ -2,6 +2,7 @@
 
 import collections
 import contextlib
+import itertools
 import select
 import socket
 import threading
@@ -11,8 +12,9 @@ from desk import BUSY, GONE, Desk
 from refused import Refused
 
 # How many octets are taken at once. How many calls are remembered: those that wait to be looked at, and the numbers of
-# the agent's own. How many are asked for at once: a bridge closes a connection on which over 4 MB wait.
-OCTETS, FRESH, OWN, ASKED = 65536, 1024, 16384, 512
+# the agent's own. How many are asked for at once: a bridge closes a connection on which over 4 MB wait. And how many are
+# made again at once.
+OCTETS, FRESH, OWN, ASKED, LOT = 65536, 1024, 16384, 512, 16
 # The name of its connections. And the one that operators' calls have where an agent makes them again: the page takes
 # them for a person's, so that its Undo takes them back.
 NAME, ELSEWHERE = "agent-fleet", "elsewhere"
@@ -80,9 +82,19 @@ class Seat(Desk):
             return said
 
     def ask_again(self, calls):
-        """What the bridge answers to calls that operators made elsewhere: they have another name than the lease."""
-        lines = [f"as {ELSEWHERE}", *calls, f"as {NAME}"]
-        return self.ask("\n".join(lines), count=len(lines))[1:-1] if calls else []
+        """What the bridge answers to calls that operators made elsewhere, up to one at which the desk is closed: they have
+        another name than the lease. Where a slow bridge takes longer for some than that lasts, it goes on."""
+        found, some = [], True
+        while some and len(found) < len(calls):
+            lines = [f"as {ELSEWHERE}", *calls[len(found) :][:LOT], f"as {NAME}"]
+            self.lease()
+            said = self.ask("\n".join(lines), count=len(lines))[1:-1]
+            some = [*itertools.takewhile(lambda one: not one.endswith(CLOSED), said)]
+            found += some
+            if not all(one.endswith(CLOSED) for one in said[len(some) :]):
+                # Somebody has opened it meanwhile: the calls aren't in their order.
+                break
+        return found
 
     def lease(self):
         """Has the desk take others' calls for as long as they are certainly kept. A new connection begins with that."""

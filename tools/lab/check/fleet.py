@@ -64,8 +64,8 @@ PARTS = [
         "step_opens", "step_bodies", "step_secret", "step_questions", "step_leave", "step_halves", "step_kill",
         "step_etcd_lines", "step_empty", "step_move", "step_past", "step_past_and_agent", "step_past_of_two",
         "step_past_refused", "step_past_bounded", "step_cut_moves", "step_agent_alone", "step_lease_lost",
-        "step_leader", "step_follows", "step_cut_off", "step_closes", "step_closed_anew", "step_older", "step_gateways",
-        "step_etcd", "step_full_and_busy", "step_machine", "step_dispatcher", "step_drain",
+        "step_leader", "step_follows", "step_cut_off", "step_closes", "step_closed_anew", "step_older", "step_slow",
+        "step_gateways", "step_etcd", "step_full_and_busy", "step_machine", "step_dispatcher", "step_drain",
     ]),
 ]  # fmt: skip
 

@@ -10,6 +10,7 @@ from lab.fleet_call.machines import Clock, Way
 from lab.fleet_call.parts import CLOSED, LEASE, AgentPart, BridgePart
 from lab.gateway_call.again import Page
 from lab.models.served import Front
+from operators.models.desk import Log
 from operators.serving import free_port
 
 # A room of a bridge whose agent is cut off, and two of a machine whose agent is started anew meanwhile. For how many
@@ -17,22 +18,42 @@ from operators.serving import free_port
 ALONE, KEPT, REMOVED, LONG = 67, 68, 69, 10
 # How many seconds a desk may be open for longer than its lease, and an address that no machine has here.
 LATE, NOWHERE = 1, "198.18.0.1"
+# A room with so many calls that a slow bridge takes longer for all than a lease lasts, and its seconds for each.
+MANY, CALLS, SLOW = 70, 40, 0.3
 
 
-class Older(Front):
-    """A bridge from before leases, which is a model."""
+class Model(Front):
+    """A bridge that is a model, and a part of this test's own process."""
 
     def __init__(self, name):
         super().__init__(("127.0.0.1", 0), 2, 1)
         self.name, self.udp, self.tcp = name, free_port(socket.SOCK_DGRAM), self.server_address[1]
         threading.Thread(target=self.serve_forever, daemon=True).start()
 
-    def gets_lease(self, word, name):
-        return "fault 1 3 UnknownWord"
-
     def close(self):
         self.shutdown()
         self.server_close()
+
+
+class Older(Model):
+    """One from before leases."""
+
+    def gets_lease(self, word, name):
+        return "fault 1 3 UnknownWord"
+
+
+class Slow(Model):
+    """One that takes its time for each call."""
+
+    def __init__(self, name):
+        super().__init__(name)
+        self.log = SlowLog()
+
+
+class SlowLog(Log):
+    def call(self, words, op=0):
+        time.sleep(SLOW)
+        return super().call(words, op)
 
 
 class Guarded:
@@ -172,6 +193,24 @@ class Guarded:
         self.comes(lambda: words in agent.log.read_text(), f"it says `{words}`")
         time.sleep(LEASE)
         self.check(agent.log.read_text().count(words) == 1, "and says it once", agent.log.read_text())
+        self.goes_off(agent, bridge)
+
+    def step_slow(self):
+        """Operators' calls are made again at a bridge that takes longer for them than the lease of its desk lasts."""
+        bridge = self.begun(Slow("h"))
+        agent = self.begun(AgentPart(bridge, self.folder, self.etcd))
+        self.comes(lambda: agent.knows() == 4, "the agent of a slow bridge comes", 60)
+        member, voice, _ = self.alone_on(self.bridges["b"], MANY)
+        calls = [f"set-gain {member} {voice} {q8}" for q8 in range(CALLS)]
+        for call in calls:
+            self.bridges["b"].do(call)
+        self.calls_are(MANY, calls, f"operators call {CALLS} times in a room")
+        self.comes(lambda: self.agents["a"].ask("move", room=MANY, to="h")[0] in (200, 400), "it goes there", 60)
+        with bridge.lock:
+            found = [line.split(" ", 2)[2] for line in bridge.log.history(CALLS)[:-1]]
+        self.check(found == calls, "each call is one of its own there", (found, agent.log.read_text()))
+        self.agents["a"].ask("leave", room=MANY, member=member)
+        self.comes(lambda: MANY not in self.records(), "its room ends", 60)
         self.goes_off(agent, bridge)
 
     def step_closed_anew(self):
