@@ -13,8 +13,9 @@ be undone and reverted where it is then. On desks of calls that are drawn what i
 
 An agent is killed while its bridge runs, and the leader's stands still: no room goes elsewhere. A machine is cut off:
 its desk is closed to operators in time, also where its agent is started anew, is killed or stands still, and what is
-lost is told. Once the way is there again, calls are taken and kept. Signalling follows a room. A watch of etcd ends,
-and its revisions are compacted. 10,000 changes of rooms have to leave a database below 20 MB.
+lost is told. Once the way is there again, calls are taken and kept. A bridge from before leases is named, and one that
+is slow gets all calls of a room. Signalling follows a room. A watch of etcd ends, and its revisions are compacted.
+10,000 changes of rooms have to leave a database below 20 MB.
 
 Strangers send requests without the fleet's secret, by other names, twice, and by halves; ask for rooms and never join;
 name members of other rooms; send SIP with routes of their own; and write to etcd what no agent would. Nothing of it may
@@ -40,7 +41,7 @@ from lab.fleet_call.pasts import Drawn
 from lab.waits import carried_out, within
 from operators.shared import add_program, release_program
 
-NEEDS = "the program or nothing (--model), etcd, and what it names where it skips; three minutes"
+NEEDS = "the program or nothing (--model), etcd, and what it names where it skips; four minutes"
 
 # How many seconds a step may take, also where other work has the machine.
 STEP = 1800
