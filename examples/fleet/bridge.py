@@ -16,6 +16,8 @@ from seat import ANSWERS, Seat, is_end
 
 # After how many seconds a bridge that has told nothing is asked.
 HEARTBEAT = 1
+# How often the desk is read at once, where somebody calls between its rows and its history.
+LOOKS = 5
 # What is said where the desk is closed while rooms are brought.
 ENDED = "This agent has lost its lease meanwhile. Try again in a second."
 # A room's rows are put whole where there are so many changes to them, or where these have more octets than the rows,
@@ -72,7 +74,21 @@ class Bridge:
                 self.look()
 
     def look(self):
-        """Reads the desk."""
+        """Reads the desk, anew where somebody calls meanwhile."""
+        for left in reversed(range(LOOKS)):
+            rows, version = self.shown()
+            rooms = by_room(rows)
+            if self.follow(rooms, version, left == 0):
+                break
+        self.version, self.rooms, self.good, self.seen = version, rooms, set(rows), time.monotonic()
+        self.desk.is_new = False
+        for room, member in list(self.doubtful):
+            self.doubtful.discard((room, member))
+            if member in self.members(room) and self.desk.group([f"remove-member {member}"]) is None:
+                self.look()
+
+    def shown(self):
+        """The rows of the desk, and its version."""
         try:
             lines = self.desk.ask("show", is_end)
         except Refused as why:
@@ -84,17 +100,11 @@ class Bridge:
         strange = next((row for row in rows if row not in self.good and not ROW.fullmatch(row)), None)
         if strange is not None:
             raise Refused(f"Bridge {self.name} says what is no row: {printable(strange[:80])}")
-        rooms = by_room(rows)
-        self.follow(rooms, version)
-        self.version, self.rooms, self.good, self.seen = version, rooms, set(rows), time.monotonic()
-        self.desk.is_new = False
-        for room, member in list(self.doubtful):
-            self.doubtful.discard((room, member))
-            if member in self.members(room) and self.desk.group([f"remove-member {member}"]) is None:
-                self.look()
+        return rows, version
 
-    def follow(self, rooms, version):
-        """Sees which calls of operators have led to these rows."""
+    def follow(self, rooms, version, is_last):
+        """Sees which calls of operators have led to these rows. Whether that is certain: a later history doesn't tell
+        what was in force then."""
         if version < self.version:
             self.is_anew, self.kept, self.rooms, self.sure, self.pasts.of = True, {}, {}, {}, {}
         if self.remembered:
@@ -102,8 +112,12 @@ class Bridge:
         calls = None if version < self.version else self.desk.taken(self.version, version)
         history = None
         if calls is None or any(call.startswith(MOVING) for _, _, call in calls):
-            history = History(self.desk.ask(f"history {LOOKED_AT}", is_end), version)
+            told = self.desk.ask(f"history {LOOKED_AT}", is_end)
+            if int(told[-1][4:]) != version and not is_last:
+                return False
+            history = History(told, version)
         self.pasts.follow(self.rooms, rooms, calls, history)
+        return True
 
     def lines(self, room):
         """What etcd is to have of a room."""
