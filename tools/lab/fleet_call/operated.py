@@ -44,6 +44,9 @@ class Operated:
         now = self.rows(room)
         self.check(self.same(now, rows), f"{text}: it has all its rows", (now, rows))
         past = self.past_of(room, HISTORY)
+        # Where a lease has ended meanwhile, its agent has begun anew.
+        begun = max(at for at, (_, call) in enumerate(past) if call.startswith(f"group add-room {room} "))
+        past = past[begun:]
         first = next((at for at, (_, call) in enumerate(past) if call in calls), len(past))
         made = max(at for at, (_, call) in enumerate(past) if call.startswith("group add-room "))
         good = [call for _, call in past if call in calls] == calls and (made < first or not calls)
