@@ -188,13 +188,17 @@ class Browser:
     def open(self, address):
         self.ask("Page.enable")
         self.ask("Performance.enable", timeDomain="threadTicks")
-        self.ask("Page.navigate", url=address)
+        self.leaves("!window.isOld", "Page.navigate", url=address)
 
     def reload(self):
-        """Loads the page anew. Waits until the old one is gone, while no script may have an answer."""
+        """Loads the page anew."""
+        self.leaves("!window.isOld && document.readyState === 'complete'", "Page.reload")
+
+    def leaves(self, script, method, **values):
+        """Leaves a page by a command. Waits until the old one is gone, while no script may have an answer."""
         self.run("window.isOld = true")
-        self.ask("Page.reload")
-        script, end = "!window.isOld && document.readyState === 'complete'", time.monotonic() + 60
+        self.ask(method, **values)
+        end = time.monotonic() + 60
         while not self.answered("Runtime.evaluate", expression=script).get("result", {}).get("result", {}).get("value"):
             if time.monotonic() > end:
                 fail("after 60 s the page isn't loaded anew")

@@ -33,7 +33,7 @@ def stops_late_calls(page, bridge):
     ]:
         told = page.call(line, **fields)
         check(told == (200, f"ok {one.log.version}"), f"`{line}` of {fields} is told {told}")
-    for bad in "x", "-1", "1 ", str(2**64):
+    for bad in "x", "-1", "1 2", str(2**64):
         status, text = page.call("add-room 82", Seen=bad)
         check(status == 400 and text.startswith("NoVersion: "), f"a version `{bad}` is told {status} {text}")
 

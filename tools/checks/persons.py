@@ -50,8 +50,8 @@ def names_persons(one, two, desk):
         told, moment = newest(browser), browser.run("timeOf(calls.get(2).moment, Date.now())")
         check(told == f"mute 201001{moment} J\u00f6rg B., version 2", f"the history says {told}")
     check(one.run("document.getElementById('news').textContent") == "", "a page is told its own call")
-    one.run("location.reload(), true")
-    one.wait("document.readyState === 'complete' && typeof me !== 'undefined' && past !== null", 60)
+    one.reload()
+    one.wait("past !== null", 60)
     check(one.run("me") == words[0], "a browser forgets who is at it")
 
 
