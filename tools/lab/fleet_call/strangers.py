@@ -176,6 +176,8 @@ class Strangers:
                 if not good:
                     self.check(False, f"{groups} in etcd", (said, self.places().get(4242), self.logs()[name]))
         self.check(True, f"{len(NO_ROWS)} things in place of a room's groups: no bridge gets a line of them")
+        # The change first: the room may still be on its way to a bridge.
+        put(store, "/confbridge/desks/4242/0000", NO_CHANGES[0])
         put(store, "/confbridge/desks/4242", ["group add-room 4242"])
         for change, name in zip(NO_CHANGES, itertools.cycle(self.bridges)):
             put(store, "/confbridge/desks/4242/0000", change)
