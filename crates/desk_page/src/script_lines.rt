@@ -27,10 +27,12 @@ const advice = {
   19: "the group has over 64 commands: make it smaller",
   20: "one command of the group is refused, so none of it happened",
   21: "the room has another rate: one of 44100 Hz takes l16 alone, and members move between rooms of one rate",
+  22: "the log is another bridge's: start the bridge anew",
   23: "no such call is in force: it was undone or reverted, is an undo or a redo, or was never made; see `history`",
   24: "over 256 commands lie behind it: give the command that takes it back, such as `unmute`",
   25: "a later call rests on it: revert that one first, or give the command that takes yours back",
   26: "somebody else would come or go with it: give the command that takes it back",
+  27: "the lease has ended: only its holder may call, till a new one or `lease off`",
 };
 const faults = {
   1: "the line is too long: 4096 octets are the most",

@@ -1,7 +1,7 @@
 """Writes what refusals and faults mean into FORMATS and into the page's script.
 
-crates/operator_lines/specs/Advice.antt has these words. The bridge's `why` is proved to tell them. FORMATS has them in
-two tables, and the page in advice.js.
+crates/operator_lines/specs/Advice.antt has these words, and Why.antt those of refusals that no desk of one operator
+gives. The bridge's `why` is proved to tell them. FORMATS has them in two tables, and the page in advice.js.
 """
 
 import json
@@ -15,6 +15,7 @@ NEEDS = "nothing"
 DOCUMENT = ROOT / "docs" / "FORMATS.md"
 SCRIPT = CRATES / "desk_page/web/advice.js"
 ADVICE = CRATES / "operator_lines/specs/Advice.antt"
+WHY = CRATES / "operator_lines/specs/Why.antt"
 NUMBERS = CRATES / "desk_edit/specs/Told.antt"
 FAULTS = CRATES / "desk_text/specs/Text.antt"
 # Faults of scripts alone, which no operator is told.
@@ -44,14 +45,20 @@ def numbers_of_faults():
     return {name: int(number) for number, name in found}
 
 
+def others():
+    """The number, the name and the words of each refusal that is no other's, as `why` tells it."""
+    found = re.findall(r'codes "refused (\d+) (\w+) ([^"]*)\\n"', WHY.read_text())
+    return [(int(number), name, words) for number, name, words in found]
+
+
 def rows():
     """Of refusals, and of faults: the number, the name and the words of each, by number."""
-    for function, kind, numbers in (
-        ("refusal_advice", "refusals", numbers_of_refusals()),
-        ("fault_advice", "faults", numbers_of_faults()),
+    for function, kind, numbers, more in (
+        ("refusal_advice", "refusals", numbers_of_refusals(), others()),
+        ("fault_advice", "faults", numbers_of_faults(), []),
     ):
         words = told(function, kind)
-        yield sorted((number, name, words[name]) for name, number in numbers.items())
+        yield sorted([(number, name, words[name]) for name, number in numbers.items()] + more)
 
 
 def table(title, lines):
