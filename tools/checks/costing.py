@@ -48,7 +48,9 @@ def empty_costs(browser):
     browser.open("about:blank")
     browser.wait("document.readyState === 'complete'")
     before = browser.used()
-    browser.open("data:text/html,<!doctype html><title>Empty</title><p id=number>0</p>")
+    # It is written there: another address may be another process, which begins at 0.
+    page = "<!doctype html><title>Empty</title><p id=number>0</p>"
+    browser.run(f"document.open(), document.write({page!r}), document.close(), true")
     browser.wait("document.title === 'Empty' && document.readyState === 'complete'", 60)
     drawn, times = browser.used() - before, []
     for at in range(CHANGES):
