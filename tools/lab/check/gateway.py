@@ -23,6 +23,7 @@ It starts a bridge, rtpengine, Kamailio and the agent. Then come its parts, each
     firefox    Firefox joins them
     linphone   Linphone joins them
     nat        a Chromium and a baresip behind a NAT, which takes leave to make network namespaces
+    readme     what README of examples/gateway has one type, and then four Chromiums and a baresip
 
 Where all parts run, all five callers are in one room. Each sends a tone, and each browser a colour, so that what is
 heard and seen is told apart. The check measures how long a new picture takes after an operator's line. What isn't
@@ -102,11 +103,13 @@ PARTS = {
     "linphone": ([], "AD", ["step_linphone"]),
     "gone": (["try_without_rtpengine", "try_without_bridge"], "ABD", ["step_deaths"]),
     "nat": ([], "A", ["step_nat"]),
+    "readme": (["try_readme"], "", []),
 }
 # The parts that need no media of the bridge.
 WITHOUT_MEDIA = ["again", "pages", "names", "links", "network", "turn", "stage", "sip"]
 # Those that need no Kamailio.
 WITHOUT_KAMAILIO = ["refusals", "music", "again", "pages", "names", "links", "network", "screen", "turn", "stage"]
+WITHOUT_KAMAILIO += ["readme"]
 # Those in which SIPp calls.
 SIPPS = ["sip", "sound", "recipes"]
 # In seconds: the most that a step may take, and the callers of a part until all are in the room.

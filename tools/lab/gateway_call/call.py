@@ -13,6 +13,7 @@ from lab.gateway_call.inviting import Inviting
 from lab.gateway_call.lossy import Lossy
 from lab.gateway_call.moving import Moving
 from lab.gateway_call.naming import Naming
+from lab.gateway_call.reading import Reading
 from lab.gateway_call.others import Others
 from lab.gateway_call.parts import ACCOUNTS, AWAY, Parts, until
 from lab.gateway_call.recipes import Recipes
@@ -30,7 +31,7 @@ SWITCHES = 12
 MOST_MS, LOST = 1000, 0.02
 
 
-class Apart(Moving, Sharing, Naming, Inviting, Turning):
+class Apart(Moving, Sharing, Naming, Inviting, Turning, Reading):
     """The steps of what is tried apart."""
 
 
