@@ -20,6 +20,8 @@ It starts a bridge, rtpengine, Kamailio and the agent. Then come its parts, each
     recipes    a room is recorded, also with a picture, which GStreamer's rtpbin shows; music plays to who is alone
     browsers   three Chromiums: mutes, pins, the floor, removals and undos show in all; 2 percent of packets are lost
     speakers   the three speak one after another, and their pictures follow who speaks; two lose packets
+    four       four Chromiums with numbered pictures: how soon these come, what losses of 1 and 3 percent do to them,
+               and what a narrow way leaves of pictures and of sound
     firefox    Firefox joins them
     linphone   Linphone joins them
     nat        a Chromium and a baresip behind a NAT, which takes leave to make network namespaces
@@ -99,6 +101,7 @@ PARTS = {
         ["step_mutes", "step_pins", "step_floor", "step_removals", "step_history", "step_losses"],
     ),
     "speakers": ([], "ABC", ["step_speakers", "step_weak"]),
+    "four": ([], "ABCF", ["step_turns", "step_numbers", "step_narrow"]),
     "firefox": ([], "AD", ["step_firefox"]),
     "linphone": ([], "AD", ["step_linphone"]),
     "gone": (["try_without_rtpengine", "try_without_bridge"], "ABD", ["step_deaths"]),
@@ -109,7 +112,7 @@ PARTS = {
 WITHOUT_MEDIA = ["again", "pages", "names", "links", "network", "turn", "stage", "sip"]
 # Those that need no Kamailio.
 WITHOUT_KAMAILIO = ["refusals", "music", "again", "pages", "names", "links", "network", "screen", "turn", "stage"]
-WITHOUT_KAMAILIO += ["readme"]
+WITHOUT_KAMAILIO += ["four", "readme"]
 # Those in which SIPp calls.
 SIPPS = ["sip", "sound", "recipes"]
 # In seconds: the most that a step may take, and the callers of a part until all are in the room.

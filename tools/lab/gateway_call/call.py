@@ -7,7 +7,7 @@ import time
 
 from lab.gateway_call.again import LATE
 from lab.gateway_call.callers import RATE, PhoneCaller
-from lab.gateway_call.following import Following
+from lab.gateway_call.four import Four
 from lab.gateway_call.fronted import Fronted
 from lab.gateway_call.inviting import Inviting
 from lab.gateway_call.lossy import Lossy
@@ -35,7 +35,7 @@ class Apart(Moving, Sharing, Naming, Inviting, Turning, Reading):
     """The steps of what is tried apart."""
 
 
-class Call(Refusals, Strangers, Others, Apart, Staging, Following, Fronted, Trunks, Recipes):
+class Call(Refusals, Strangers, Others, Apart, Staging, Four, Fronted, Trunks, Recipes):
     """The call of browsers and phones."""
 
     def gather(self, names):

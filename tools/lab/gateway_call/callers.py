@@ -22,8 +22,21 @@ PROBE = pathlib.Path(__file__).with_name("probe.js").read_text()
 TONES = {"A": 440, "B": 1000, "C": 1500, "D": 700, "E": 2200, "F": 2750, "L": 3300}
 COLOURS = {"A": "red", "B": "blue", "C": "green", "F": "yellow"}
 WIDTH, HEIGHT, RATE = 320, 240, 15
+# How many frames a picture has until it begins anew. Below each stands its number, as boxes that are white for a 1 from
+# the least digit on, and a last box which makes the count of white ones odd.
+FRAMES, DIGITS = 60, 7
 # The most that a browser may take, in seconds: to start, to load the page, to join, and to say what it sees or hears.
 STARTING, LOADING, JOINING, SAYING = 90, 60, 60, 30
+
+
+def numbered():
+    """What ffmpeg paints below each frame: its number."""
+    width, height = WIDTH // (DIGITS + 1), HEIGHT // 8
+    digits = [f"mod(floor(n/{2**at}),2)" for at in range(DIGITS)]
+    digits.append(f"mod(1+{'+'.join(digits)},2)")
+    box = lambda x, w, colour: f"drawbox={x}:{HEIGHT - height}:{w}:{height}:{colour}:fill"
+    boxes = [f"{box(at * width, width, 'white')}:enable='eq({digit},1)'" for at, digit in enumerate(digits)]
+    return ",".join([box(0, WIDTH, "black"), *boxes])
 
 
 class Caller:
@@ -116,6 +129,11 @@ class AtPage(Caller):
             None,
         )
 
+    def flow(self, slot, begun, end):
+        """What came in a slot between two moments: how many frames, the longest time without one in ms, of how many the
+        number can be read, how many numbers are missing, and how often one came that isn't a later one."""
+        return self.run(f"flow({slot}, {begun * 1000}, {end * 1000})")
+
     def counts(self, kind, mid):
         return self.run(f"counts('{kind}', '{mid}')")
 
@@ -127,8 +145,8 @@ class BrowserCaller(AtPage, Browser):
         self.name, self.joined = name, None
         voice, camera = folder / f"{name}.wav", folder / f"{name}.mjpeg"
         write_tone(voice, TONES[name], 48000, 2)
-        source = f"testsrc2=size={WIDTH}x{HEIGHT}:rate={RATE}:duration=4"
-        paint = f"drawbox=0:0:iw:{HEIGHT // 2}:{COLOURS[name]}:fill"
+        source = f"testsrc2=size={WIDTH}x{HEIGHT}:rate={RATE}:duration={FRAMES / RATE}"
+        paint = f"drawbox=0:0:iw:{HEIGHT // 2}:{COLOURS[name]}:fill,{numbered()}"
         made = ["-f", "lavfi", "-i", source, "-vf", paint, "-c:v", "mjpeg", "-q:v", "5", "-pix_fmt", "yuvj420p", camera]
         with within(STARTING, f"ffmpeg to make {name}'s picture"):
             subprocess.run(["ffmpeg", "-v", "error", "-y", *made], check=True)

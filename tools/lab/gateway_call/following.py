@@ -10,7 +10,7 @@ from lab.gateway_call.parts import Parts, until
 from lab.gateway_call.trial import Trial
 from operators.shared import fail
 
-# The room, and how often each of three browsers speaks, for how many seconds.
+# The room, and how often each browser speaks, for how many seconds.
 ROOM, ROUNDS, SPEAKS = 3, 4, 4
 # The most that a new picture may take, in ms: from a change of the desk to the first frame that is decoded. A watch
 # tells a change up to 50 ms late, which are missing here.
@@ -51,8 +51,8 @@ class Watching(threading.Thread):
 class Following(Trial):
     """The step in which browsers speak one after another."""
 
-    def step_speakers(self):
-        """Three browsers join again, where each sees one of the others at a time, and speak in turn."""
+    def step_speakers(self, rounds=ROUNDS):
+        """All browsers join again, where each sees one of the others at a time, and speak in turn."""
         parts = Parts(self.folder, self.udp, self.tcp, self.parts.control, first_member=700_000, pictures=1)
         self.others.append(parts)
         parts.start("agent")
@@ -66,7 +66,7 @@ class Following(Trial):
         muted = lambda: all(text.count("muted") == len(browsers) for text in said())
         self.comes(muted, "all mute themselves, and each page says so of all", said, 20)
         time.sleep(SPEAKS)
-        took = [one for at in range(ROUNDS * len(browsers)) for one in self.speaks(browsers, at, watch)]
+        took = [one for at in range(rounds * len(browsers)) for one in self.speaks(browsers, at, watch)]
         watch.close()
         every = [ms for ms in took if ms is not None]
         good = len(every) == len(took) and statistics.median(every) <= MEDIAN_MS and max(every) <= MOST_MS

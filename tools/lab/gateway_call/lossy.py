@@ -6,8 +6,27 @@ import re
 import select
 import socket
 import threading
+import time
 
 from operators.serving import udp_socket
+
+# What a narrow way holds, in seconds.
+MOMENT = 0.2
+
+
+class Narrow:
+    """A way that takes so many bits a second, and holds what comes for a moment at most."""
+
+    def __init__(self, bits):
+        self.octets, self.free, self.at = bits / 8, bits / 8 * MOMENT, time.monotonic()
+
+    def takes(self, length):
+        now = time.monotonic()
+        self.free, self.at = min(self.octets * MOMENT, self.free + self.octets * (now - self.at)), now
+        if length > self.free:
+            return False
+        self.free -= length
+        return True
 
 
 class Lossy:
@@ -29,6 +48,8 @@ class Lossy:
         self.count = {"up": 0, "up lost": 0, "down": 0, "down lost": 0}
         # The ways on which packets are lost.
         self.ways = ["up", "down"]
+        # The narrow ways to members: by the port that the bridge sends to.
+        self.narrow = {}
         threading.Thread(target=self.pass_packets, daemon=True).start()
         threading.Thread(target=self.pass_lines, daemon=True).start()
 
@@ -69,12 +90,17 @@ class Lossy:
         self.count[way + " lost"] += lost
         return lost
 
+    def is_over(self, one, data):
+        """Whether a packet to a member is more than its narrow way takes."""
+        way = self.narrow.get(one.getsockname()[1])
+        return way is not None and not 192 <= data[1] <= 223 and not way.takes(len(data))
+
     def pass_packets(self):
         while True:
             for one in select.select([self.near, *self.engines], [], [], 0.1)[0]:
                 data, sender = one.recvfrom(65536)
                 if one is not self.near:
-                    if not self.is_lost("down", data):
+                    if not self.is_lost("down", data) and not self.is_over(one, data):
                         self.near.sendto(data, self.engines[one])
                 elif sender in self.far and not self.is_lost("up", data):
                     self.far[sender].sendto(data, self.bridge)

@@ -63,17 +63,43 @@ function colourOf(picture) {
   return r > g && r > b ? "red" : b > g ? "blue" : "green";
 }
 
+// The number below a frame, as callers.py paints it: eight boxes, of which an odd count is white. None is null.
+const digits = new OffscreenCanvas(16, 8).getContext("2d", { willReadFrequently: true });
+function numberOf(picture) {
+  digits.drawImage(picture, 0, 0, 16, 8);
+  const { data } = digits.getImageData(0, 7, 16, 1);
+  const boxes = [0, 1, 2, 3, 4, 5, 6, 7].map(at => data[8 * at] + data[8 * at + 4] > 255 ? 1 : 0);
+  if (boxes.reduce((sum, one) => sum + one, 0) % 2 === 0) return null;
+  return boxes.slice(0, 7).reduce((sum, one, at) => sum + one * 2 ** at, 0);
+}
+
+// What came in a slot between two moments: the frames, the longest time without one, and what their numbers say. A
+// picture has so many frames until it begins anew.
+const ROUND = 60, KEPT = 3000;
+window.flow = (slot, begun, end) => {
+  const seen = ((shown[slot] || {}).seen || []).filter(([at]) => at >= begun && at <= end);
+  const moments = [begun, ...seen.map(([at]) => at), end], numbers = seen.map(([, number]) => number);
+  const gaps = moments.slice(1).map((at, before) => at - moments[before]);
+  const read = numbers.filter(one => one !== null);
+  const steps = read.slice(1).map((one, before) => (one - read[before] + ROUND) % ROUND);
+  const isLater = one => one > 0 && one < ROUND / 2;
+  const missing = steps.filter(isLater).reduce((sum, one) => sum + one - 1, 0);
+  return [seen.length, Math.round(Math.max(...gaps)), read.length, missing, steps.filter(one => !isLater(one)).length];
+};
+
 // Each decoded frame of a slot, before it is drawn: when the last one came, how many came, when the picture changed.
 window.shown = {};
 window.watchFrames = () => {
   for (const { mid, receiver } of call.peer.getTransceivers()) {
     if (mid === "0" || shown[mid - 1] || !window.MediaStreamTrackProcessor) continue;
-    const slot = shown[mid - 1] = { frames: 0, last: 0, colour: "", changes: [] };
+    const slot = shown[mid - 1] = { frames: 0, last: 0, colour: "", changes: [], seen: [] };
     const reader = new MediaStreamTrackProcessor({ track: receiver.track.clone() }).readable.getReader();
     const next = ({ value: frame, done }) => {
       if (done) return;
       const at = performance.timeOrigin + performance.now();
       const colour = colourOf(frame);
+      slot.seen.push([at, numberOf(frame)]);
+      if (slot.seen.length > KEPT) slot.seen.shift();
       frame.close();
       // After half a second without a frame the same picture is a new one.
       if (colour !== slot.colour || at - slot.last > 500) slot.changes.push([at, colour]);

@@ -1,0 +1,108 @@
+"""Four browsers whose pictures have numbers: who sees whom, how soon a new picture comes, and what is seen where
+packets are lost, or where one's way is narrow."""
+
+import statistics
+import time
+
+from lab.gateway_call.callers import RATE
+from lab.gateway_call.following import Following
+from lab.gateway_call.lossy import Lossy, Narrow
+from lab.gateway_call.parts import Parts, until
+
+# The room, how often each speaks, and for how many seconds what comes is looked at, after so many that it may take.
+ROOM, ROUNDS, SECONDS, SETTLES = 4, 2, 15, 6
+# The shares of packets that are lost both ways; and with each the least share of a picture's frames at the median, and
+# the most ms without a frame.
+LOSSES = (0.0, 0.8, 1000), (0.01, 0.7, 1500), (0.03, 0.5, 3000)
+# What a narrow way takes, in bits a second: sound, and no picture beside it. How much of the sound may be missing there
+# once the pictures have gone, and for how many seconds that is looked at.
+NARROW, MISSING, HEARS = 150_000, 0.02, 8
+
+
+class Four(Following):
+    """The steps of four browsers in one room, by a network that is as good as a test wants it."""
+
+    def step_turns(self):
+        """Each of the four sees one other at a time, and each speaks: all others see it."""
+        self.step_speakers(ROUNDS)
+
+    def step_numbers(self):
+        """All four see each other, over a network that loses packets."""
+        lossy = Lossy(self.udp, self.tcp, 0.0)
+        parts = Parts(self.folder, lossy.udp, lossy.tcp, self.parts.control, first_member=600_000)
+        self.others.append(parts)
+        parts.start("agent")
+        for one in self.browsers():
+            one.leave()
+            one.at_page(parts.page, room=ROOM)
+            one.join()
+        for one in self.browsers():
+            self.sees(one, "over another network")
+        for share, least, most in LOSSES:
+            lossy.share = share
+            time.sleep(SETTLES)
+            self.flows(f"{share:.0%} lost both ways", least, most)
+        lossy.share = 0.0
+        print(f"      {lossy.count}")
+        self.over_lossy = lossy, parts
+
+    def flows(self, text, least, most):
+        """What comes to each of each other in some seconds."""
+        begun = time.time()
+        time.sleep(SECONDS)
+        end, small = time.time(), range(1, len(self.browsers()))
+        found = [one.flow(slot, begun, end) for one in self.browsers() for slot in small]
+        rates, longest = [one[0] / SECONDS for one in found], [one[1] for one in found]
+        read, missing, wrong = (sum(one[at] for one in found) for at in (2, 3, 4))
+        good = statistics.median(rates) >= least * RATE and max(longest) <= most
+        rate = f"{statistics.median(rates):.1f} of {RATE} frames a second at the median, {min(rates):.1f} at least"
+        text = f"{text}: {len(found)} pictures with {rate}, none for {max(longest)} ms at most"
+        self.check(good, text, found)
+        frames = sum(one[0] for one in found)
+        text = f"the numbers of {read} of {frames} frames are read, and none comes twice or late"
+        self.check(read > frames * 0.9 and wrong <= len(found), text, found)
+        print(f"      {missing} numbers are missing; {wrong} that don't follow; {statistics.median(longest):.0f} ms")
+
+    def step_narrow(self):
+        """One whose way is narrow loses pictures, and keeps its sound."""
+        lossy, parts = self.over_lossy
+        one = self.browsers()[0]
+        member = str(one.joined["member"])
+        address = next(row.split()[4] for row in self.rows() if row.startswith("member ") and row.split()[2] == member)
+        port = int(address.rpartition(":")[2])
+        before = self.mix_of(one)
+        time.sleep(HEARS)
+        print(f"      before: {self.lost(before, self.mix_of(one)):.1%} of the sound is missing")
+        lossy.narrow[port], before, begun = Narrow(NARROW), self.mix_of(one), time.monotonic()
+        seen = lambda: one.shows_now()
+        took = self.comes(lambda: seen().strip("-") == "", f"{NARROW // 1000} kbit/s: no picture comes", seen, 40)
+        self.comes(lambda: "loses packets" in one.says(), "and the page says why", one.says)
+        first = self.lost(before, self.mix_of(one))
+        passed = time.monotonic() - begun
+        print(f"      after {took or 0:.1f} s; of the sound of these {passed:.0f} s {first:.1%} is missing")
+        before = self.mix_of(one)
+        time.sleep(HEARS)
+        lost = self.lost(before, self.mix_of(one))
+        self.check(lost <= MISSING, f"then {lost:.1%} of the sound is missing in {HEARS} s", lost)
+        others = [each.shows_now() for each in self.browsers()[1:]]
+        self.check(all(len(each.strip("-")) == 3 for each in others), "the others see all", others)
+        lossy.narrow.clear()
+        back = until(lambda: len(seen().strip("-")) == 3, 100)
+        self.check(back is not None, "the way is wide again: all pictures come back", (seen(), self.rows()))
+        print(f"      after {back or 0:.1f} s")
+        self.close_fourth(parts)
+
+    def mix_of(self, one):
+        """What a browser has got of its mix, and lost."""
+        counts = one.counts("inbound-rtp", 0)
+        return counts.get("packetsReceived", 0), counts.get("packetsLost", 0)
+
+    def lost(self, before, after):
+        """The share of its sound that is missing."""
+        got, lost = (new - old for new, old in zip(after, before))
+        return max(0, lost) / max(1, got + lost)
+
+    def close_fourth(self, parts):
+        """The fourth one goes, and the others join the room of all again."""
+        self.callers.pop("F").close()
+        self.come_home(self.browsers(), parts)
