@@ -10,12 +10,13 @@ from lab.gateway_call.callers import RATE, PhoneCaller
 from lab.gateway_call.four import Four
 from lab.gateway_call.fronted import Fronted
 from lab.gateway_call.inviting import Inviting
+from lab.gateway_call.keying import Keying
 from lab.gateway_call.lossy import Lossy
 from lab.gateway_call.moving import Moving
 from lab.gateway_call.naming import Naming
-from lab.gateway_call.reading import Reading
 from lab.gateway_call.others import Others
 from lab.gateway_call.parts import ACCOUNTS, AWAY, Parts, until
+from lab.gateway_call.reading import Reading
 from lab.gateway_call.recipes import Recipes
 from lab.gateway_call.refusals import Refusals
 from lab.gateway_call.sharing import Sharing
@@ -35,7 +36,7 @@ class Apart(Moving, Sharing, Naming, Inviting, Turning, Reading):
     """The steps of what is tried apart."""
 
 
-class Call(Refusals, Strangers, Others, Apart, Staging, Four, Fronted, Trunks, Recipes):
+class Call(Refusals, Strangers, Others, Apart, Staging, Four, Fronted, Keying, Trunks, Recipes):
     """The call of browsers and phones."""
 
     def gather(self, names):

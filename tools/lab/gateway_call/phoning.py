@@ -3,16 +3,14 @@
 import signal
 import time
 
-from lab.gateway_call.parts import LOCKED, NAME, NAMED, PIN, REMOVED, SILENCE, Parts, until
+from lab.gateway_call.parts import NAME, NAMED, REMOVED, SILENCE, Parts, until
 from lab.gateway_call.refusals import answer_of, port_in
 from lab.gateway_call.sipps import Sipp, sdp
-from lab.gateway_call.sounds import KEY_TYPE, Sound
+from lab.gateway_call.sounds import Sound
 from lab.gateway_call.trial import Trial, lacking
 from operators.models.desk import MOST_PARTS
 from operators.shared import fail
 
-# What a phone offers that has keys.
-WITH_KEYS = "a=rtpmap:0 PCMU/8000", f"a=rtpmap:{KEY_TYPE} telephone-event/8000", f"a=fmtp:{KEY_TYPE} 0-15"
 # A 200 that isn't confirmed comes again after half a second, then after one and two more.
 AGAIN = 5
 # After how many seconds without an agent or a bridge the calls of a test are over.
@@ -35,6 +33,12 @@ class Phoning(Trial):
         one = Sipp(self.parts, self.folder, room, user, **words)
         return one.asks("INVITE", sdp(sound.port, types, lines), more=more)
 
+    def answered_once(self, scenario, text):
+        """Whether a call that goes on has its answer to the one INVITE, and no message else."""
+        count = scenario.counts("SIP/2.0 200", "INVITE")
+        self.check(count == 1, f"{text}: one 200 comes", count)
+        self.no_others(scenario, text)
+
     def sound(self, ssrc, **more):
         one = Sound(ssrc, **more)
         self.others.append(one)
@@ -44,9 +48,18 @@ class Phoning(Trial):
         self.comes(lambda: f"source {ssrc} " in " ".join(self.rows()), text, self.rows, 20)
 
     def ends(self, scenario, text, seconds=30):
+        """Whether a scenario comes to its end, and each message came that it names, and no other one."""
+        self.is_over(scenario, text, seconds)
+        self.no_others(scenario, text)
+
+    def is_over(self, scenario, text, seconds=30):
         """Whether a scenario comes to its end, and each message came that it names."""
         self.comes(lambda: scenario.process.poll() is not None, f"{text}: it comes to its end", seconds=seconds)
-        self.check(scenario.is_done(), f"{text}: all messages come that have to, and no others", scenario.said())
+        self.check(scenario.is_done(), f"{text}: all messages come that have to", scenario.said())
+
+    def no_others(self, scenario, text):
+        """Whether no message came that a scenario doesn't name, and none more often than it does."""
+        self.check(not scenario.surplus(), f"{text}: no others come", (scenario.surplus(), scenario.said()))
 
     def gets_bye(self, text, ssrc, end, seconds=20, room=1, parts=None):
         """Whether one BYE comes to a phone after something has ended its call."""
@@ -137,7 +150,7 @@ class Phoning(Trial):
         self.check(one.counts("SIP/2.0 200", "INVITE") == 1, "its 200 comes once", one.said())
         two = Sipp(self.parts, self.folder).asks("INVITE", sdp(sound.port), ack=False).waits(3)
         two.send("ACK").waits(3).asks("BYE").waits(1)
-        self.ends(self.ringing(two), "one is confirmed late")
+        self.is_over(self.ringing(two), "one is confirmed late")
         count = two.counts("SIP/2.0 200", "INVITE")
         self.check(count > 1, f"its 200 comes {count} times", two.said())
         sound.close()
@@ -191,6 +204,7 @@ class Phoning(Trial):
         self.check(other.hears(1000), "and is heard", other.level(1000))
         good = stranger.count == 0 and other.level(1500) < 0.01
         self.check(good, "the stranger gets nothing, and isn't heard", (stranger.count, other.level(1500)))
+        self.answered_once(one, "a NAT gives it another port")
         for each in moved, other, stranger, one, two:
             each.close()
         self.comes(lambda: not self.rows(), "all are gone", self.rows, SILENCE + 10)
@@ -213,67 +227,13 @@ class Phoning(Trial):
             self.check(good, f"a phone with {encoding} is answered {encoding} alone", one.answer())
             self.check(other.hears(1000, 20), f"it is heard: {encoding}", (other.level(1000), self.rows()))
             self.check(phone.types() == {type_} and phone.count > 5, f"and {encoding} comes to it", phone.types())
+            self.answered_once(one, f"a phone with {encoding}")
             phone.close()
             one.close()
             self.comes(lambda: self.members() == 1, "it is gone", self.rows, SILENCE + 10)
         other.close()
         two.close()
         self.comes(lambda: not self.rows(), "all are gone", self.rows, SILENCE + 10)
-
-    def try_keys(self):
-        """`*6` mutes who calls, and a PIN opens a room."""
-        phone = self.sound(4050)
-        types = f"0 {KEY_TYPE}"
-        one = self.ringing(self.sipp(phone, types=types, lines=WITH_KEYS).waits(40).asks("BYE").waits(1), phone)
-        self.is_in(4050)
-        muted = lambda: "mute 4050" in self.rows()
-        self.check("telephone-event/8000" in one.answer(), "a phone's keys are taken", one.answer())
-        phone.press("*6")
-        self.comes(muted, "*6 mutes it, and the desk shows so", self.rows)
-        phone.press("*6")
-        self.comes(lambda: not muted(), "*6 unmutes it", self.rows)
-        self.do("mute 4050")
-        phone.press("*6")
-        time.sleep(1)
-        self.check(muted(), "*6 doesn't undo an operator's mute", self.rows())
-        self.do("unmute 4050")
-        phone.press("*6")
-        self.comes(muted, "*6 mutes it again", self.rows)
-        unmute = self.do("unmute 4050")
-        self.do("mute 4050")
-        phone.press("*6")
-        time.sleep(1)
-        self.check(muted(), "nor the one by which an operator has taken its place", self.rows())
-        self.do(f"revert {unmute}")
-        phone.press("*6")
-        time.sleep(1)
-        self.check(muted(), "nor with its own, where the unmute between them is reverted", self.rows())
-        phone.close()
-        one.close()
-        self.comes(lambda: not self.rows(), "it is gone", self.rows, SILENCE + 10)
-        self.try_pins(types)
-
-    def try_pins(self, types):
-        phone = self.sound(4051)
-        call = self.sipp(phone, LOCKED, types=types, lines=WITH_KEYS).waits(20).asks("BYE").waits(1)
-        one = self.ringing(call, phone)
-        time.sleep(2)
-        self.check(not self.rows(), "without its PIN a room isn't joined", self.rows())
-        phone.press("1111#")
-        time.sleep(1)
-        self.check(not self.rows(), "nor with a wrong one", self.rows())
-        phone.press(f"{PIN}#")
-        self.is_in(4051, "its PIN opens it")
-        self.ends(one, "it hangs up", 40)
-        two = self.ringing(
-            self.sipp(phone, LOCKED, "other", types=types, lines=WITH_KEYS).gets("BYE", 30).waits(1), phone
-        )
-        time.sleep(1)
-        for _ in range(3):
-            phone.press("1357#")
-        self.comes(lambda: two.counts("BYE "), "three wrong ones end a call by a BYE", two.said)
-        self.check(not self.rows(), "and nobody is in the room", self.rows())
-        phone.close()
 
     def try_room_names(self):
         """A room by its name, of a phone and of a page."""
@@ -302,4 +262,10 @@ class Phoning(Trial):
         said = self.parts.ask("answer", id=told["id"], sdp=answer_of(ssrc=4070))
         good = status == 200 and said[0] == 503 and "number or the address" in said[1] and "SSRC" not in said[1]
         self.check(good, "an address that another member has is told apart from an SSRC", said)
+        sound, before = self.sound(4071), len(self.parts.log("agent"))
+        one = Sipp(self.parts, self.folder).asks("INVITE", sdp(sound.port)).gets("BYE", 30).waits(1)
+        self.ends(self.ringing(one, sound), "a phone that gets such an address is told by a BYE that its call is over")
+        log = self.parts.log("agent")[before:]
+        self.check("number or the address" in log and "SSRC" not in log, "and the agent's log says why", log)
+        sound.close()
         self.do("remove-room 98")

@@ -1,5 +1,6 @@
 """SIPp as a phone or an exchange (PBX): a scenario of steps, and by its trace the messages that it has sent and got."""
 
+import collections
 import re
 import socket
 import subprocess
@@ -29,6 +30,13 @@ def sdp(port, types="0", more=()):
     return "\n".join([*head, *more, ""])
 
 
+def kind_of(text):
+    """What a message is: a request's method, or the status and the method of an answer. Nothing of one that is cut."""
+    status = re.match(r"SIP/2\.0 (\d+) ", text)
+    method = re.search(r"^CSeq: \d+ (\w+)$", text, re.MULTILINE)
+    return method and (f"{status[1]} {method[1]}" if status else method[1])
+
+
 class Sipp:
     """A scenario, step by step, which `run` carries out."""
 
@@ -41,9 +49,12 @@ class Sipp:
         self.address, self.password, self.process = address or parts.sip, ACCOUNTS.get(user), None
         self.name, self.count, self.steps, self.is_within = f"{user}{time.monotonic_ns()}", 0, [], False
         self.folder, self.log = folder, folder / f"sipp{self.name}.log"
+        # The method that was asked last, and how many messages of each kind have to come.
+        self.method, self.due = "", collections.Counter()
 
     def send(self, method, body="", more=(), branch="branch"):
         self.count += method != "ACK"
+        self.method = method
         words = {"method": method, "room": self.room, "user": self.caller, "count": self.count}
         words["branch"] = branch
         is_routed = self.by_proxy and self.is_within
@@ -57,8 +68,9 @@ class Sipp:
 
     def takes(self, status, **more):
         """An answer that has to come. Others before it are provisional."""
+        self.due[f"{status} {self.method}"] += 1
         words = "".join(f" {key}={quoteattr(value)}" for key, value in more.items())
-        self.steps.append('<recv response="100" optional="true"/>' * (self.steps[-1].find("INVITE ") > 0))
+        self.steps.append('<recv response="100" optional="true"/>' * (self.method == "INVITE"))
         words += ' rrs="true"' * (self.by_proxy and status == 200)
         self.steps.append(f'<recv response="{status}"{words} rtd="true"/>')
         return self
@@ -76,6 +88,7 @@ class Sipp:
 
     def gets(self, method, seconds=30):
         """A request that has to come, which is answered."""
+        self.due[method] += 1
         self.steps.append(f'<recv request="{method}" timeout="{seconds * 1000}"/>')
         copied = "".join(f"[last_{name}:]\n" for name in ("Via", "From", "To", "Call-ID", "CSeq"))
         self.steps.append(f"<send><![CDATA[\nSIP/2.0 200 OK\n{copied}Content-Length: 0\n\n]]></send>")
@@ -121,6 +134,15 @@ class Sipp:
         had = self.messages("received")
         is_of = lambda one: method is None or re.search(rf"^CSeq: \d+ {method}$", one, re.MULTILINE)
         return sum(bool(one.startswith(first) and is_of(one)) for one in had)
+
+    def surplus(self):
+        """The messages that came more often than they have to. What it asks anew may be answered anew."""
+        anew = collections.Counter()
+        for text, count in collections.Counter(self.messages("sent")).items():
+            anew[kind_of(text)] += count - 1
+        came = collections.Counter(kind for kind in map(kind_of, self.messages("received")) if kind)
+        due = {kind: self.due[kind] + anew[kind.partition(" ")[2]] for kind in came}
+        return {kind: count for kind, count in came.items() if kind[0] != "1" and count > due[kind]}
 
     def answer(self, at=-1):
         """The body of one of the answers with sound, the last one if none is named."""

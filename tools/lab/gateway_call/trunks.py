@@ -118,8 +118,8 @@ class Trunks(Trial):
     def try_requires(self):
         """What an INVITE requires that the gateway doesn't have, and a session that is too short."""
         one = Sipp(self.parts, self.folder)
-        one.send("INVITE", sdp(9), ["Require: 100rel, timer"]).takes(420).send("ACK")
-        one.send("INVITE", sdp(9), ["Session-Expires: 1", TIMER]).takes(422).send("ACK")
+        one.send("INVITE", sdp(9), ["Require: 100rel, timer"]).takes(420).send("ACK", branch="branch-3")
+        one.send("INVITE", sdp(9), ["Session-Expires: 1", TIMER]).takes(422).send("ACK", branch="branch-3")
         one.send("UPDATE").takes(481)
         self.others.append(one.run())
         self.ends(one, "an INVITE requires 100rel, or a session of a second")
@@ -176,6 +176,8 @@ class Trunks(Trial):
         self.do(f"remove-member {self.last_member()}")
         bye = phone.next(20)
         self.check(bye.startswith("BYE "), "an operator removes it: a BYE comes by TLS", bye)
+        another = phone.next(2)
+        self.check(not another, "and no second one", another)
         bare = ssl.create_default_context(cafile=str(certificate))
         bare.minimum_version = bare.maximum_version = ssl.TLSVersion.TLSv1_1
         try:
