@@ -1,14 +1,17 @@
 """Whose way from the bridge is weak, by what receivers report (`stats` of docs/FORMATS.md): a rule that asks nobody.
 
 A member that loses over a tenth of its packets for `BAD` seconds keeps half of its small pictures, and then half of
-these; last of all its stage goes. Its sound goes on. After `GOOD` seconds without that it gets them back by the same
-steps. Where a step was too much, it takes twice as long until the next one.
+these; last of all its stage goes. Where it loses over a half, all small ones go at once, since its sound suffers as
+long as they come. After `GOOD` seconds without that it gets them back by the same steps. Where a step was too much, it
+takes twice as long until the next one.
 """
 
 import typing
 
 # The share of packets that a weak way loses, and for how many seconds; and after how many good ones more is tried.
 SHARE, BAD, GOOD = 0.1, 3, 10
+# The share from which on no small picture is left.
+MUCH = 0.5
 # The longest time until more is tried, and the one after which a way is as good as new.
 LONGEST = 160
 # How many small pictures are left where the stage has gone, too.
@@ -25,14 +28,16 @@ class Link(typing.NamedTuple):
     wait: float = GOOD
     tried: float | None = None
 
-    def after(self, is_bad, most, now):
-        """The same after a look, of a member that has so many small slots."""
+    def after(self, share, most, now):
+        """The same after a look, of a member that loses this share, and has so many small slots."""
+        is_bad = share > SHARE
         one = self if is_bad == self.is_bad else self._replace(is_bad=is_bad, since=now)
         left, time = most if one.left is None else min(one.left, most), now - one.since
         if is_bad and time >= BAD and left > NONE:
             was_too_much = one.tried is not None and now - one.tried < 2 * GOOD
             wait = min(2 * one.wait, LONGEST) if was_too_much else one.wait
-            return Link(left // 2 if left else NONE, True, now, wait)
+            fewer = 0 if share > MUCH else left // 2
+            return Link(fewer if left else NONE, True, now, wait)
         if not is_bad and one.left is not None and time >= one.wait:
             left = max(2 * left, left + 1)
             return Link(None if left >= most else left, False, now, one.wait, now)
@@ -47,20 +52,20 @@ class Links:
 
     def look(self, lines, rows, now):
         """Takes an answer to `stats`. How many small pictures are left to whom not all are."""
-        weak, small, found = self.weak(lines, rows), {}, {}
+        shares, small, found = self.shares(lines, rows), {}, {}
         for member, index in rows.slots.values():
             small[member] = small.get(member, 0) + (index > 0)
         for member, most in small.items():
             before = self.links.get(member, Link(None, False, now))
-            found[member] = before.after(member in weak, most, now)
+            found[member] = before.after(shares.get(member, 0), most, now)
         self.links = found
         return {member: link.left for member, link in found.items() if link.left is not None}
 
-    def weak(self, lines, rows):
-        """The members who lose too much of what was sent to them since the last look."""
+    def shares(self, lines, rows):
+        """The share that members lose of what was sent to them since the last look."""
         owners = {mix: member for member, mix in rows.mixes.items()}
         owners |= {slot: member for slot, (member, _) in rows.slots.items()}
-        balance, packets = {}, {}
+        lost, sent, packets = {}, {}, {}
         for line in lines:
             kind, ssrc, *words = line.split()
             if kind != "stream" or int(ssrc) not in owners:
@@ -71,6 +76,7 @@ class Links:
             new = packets[ssrc] - self.packets.get(ssrc, packets[ssrc])
             if fraction != "-" and new > 0:
                 member = owners[ssrc]
-                balance[member] = balance.get(member, 0) + new * (int(fraction) / 256 - SHARE)
+                lost[member] = lost.get(member, 0) + new * int(fraction) / 256
+                sent[member] = sent.get(member, 0) + new
         self.packets = packets
-        return {member for member, one in balance.items() if one > 0}
+        return {member: lost[member] / sent[member] for member in sent}

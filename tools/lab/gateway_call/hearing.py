@@ -80,6 +80,9 @@ def try_links(check):
         ("good again", 10, 31, [NONE] * 10 + [0] * 10 + [1] * 10 + [2]),
         ("too much", 60, 4, [2] * 3 + [1]),
         ("good again: that takes twice as long now", 0, 22, [1] * 20 + [2, 2]),
+        ("a half", 128, 4, [2] * 3 + [1]),
+        ("good after that: twice as long again", 0, 81, [1] * 40 + [2] * 40 + [None]),
+        ("over a half", 129, 7, [None] * 3 + [0] * 3 + [NONE]),
     ):
         said = reports(fraction, seconds, way)
         check(said == wanted, f"a way that loses packets: {text}", said)
