@@ -15,7 +15,7 @@ ROOM, ROUNDS, SECONDS, SETTLES = 4, 2, 15, 6
 # the most ms without a frame.
 LOSSES = (0.0, 0.8, 1000), (0.01, 0.7, 1500), (0.03, 0.5, 3000)
 # What a narrow way takes, in bits a second: sound, and no picture beside it. How much of the sound may be missing there
-# once the pictures have gone, and for how many seconds that is looked at.
+# once the pictures have gone, and what was asked for again of them; and for how many seconds that is looked at.
 NARROW, MISSING, HEARS = 150_000, 0.02, 8
 
 
@@ -67,19 +67,16 @@ class Four(Following):
         """One whose way is narrow loses pictures, and keeps its sound."""
         lossy, parts = self.over_lossy
         one = self.browsers()[0]
-        member = str(one.joined["member"])
-        address = next(row.split()[4] for row in self.rows() if row.startswith("member ") and row.split()[2] == member)
-        port = int(address.rpartition(":")[2])
         before = self.mix_of(one)
         time.sleep(HEARS)
         print(f"      before: {self.lost(before, self.mix_of(one)):.1%} of the sound is missing")
-        lossy.narrow[port], before, begun = Narrow(NARROW), self.mix_of(one), time.monotonic()
-        seen = lambda: one.shows_now()
-        took = self.comes(lambda: seen().strip("-") == "", f"{NARROW // 1000} kbit/s: no picture comes", seen, 40)
+        lossy.narrow[self.port_of(one)] = Narrow(NARROW)
+        before, begun, sent = self.mix_of(one), time.monotonic(), lambda: self.small([one])
+        took = self.comes(lambda: not sent(), f"{NARROW // 1000} kbit/s: no picture is sent", sent, 30)
         self.comes(lambda: "loses packets" in one.says(), "and the page says why", one.says)
-        first = self.lost(before, self.mix_of(one))
-        passed = time.monotonic() - begun
-        print(f"      after {took or 0:.1f} s; of the sound of these {passed:.0f} s {first:.1%} is missing")
+        time.sleep(SETTLES)
+        passed, first = time.monotonic() - begun, self.lost(before, self.mix_of(one))
+        print(f"      after {took or 0:.1f} s; of the sound of {passed:.0f} s {first:.1%} is missing")
         before = self.mix_of(one)
         time.sleep(HEARS)
         lost = self.lost(before, self.mix_of(one))
@@ -87,10 +84,16 @@ class Four(Following):
         others = [each.shows_now() for each in self.browsers()[1:]]
         self.check(all(len(each.strip("-")) == 3 for each in others), "the others see all", others)
         lossy.narrow.clear()
-        back = until(lambda: len(seen().strip("-")) == 3, 100)
-        self.check(back is not None, "the way is wide again: all pictures come back", (seen(), self.rows()))
+        back = until(lambda: len(one.shows_now().strip("-")) == 3, 100)
+        self.check(back is not None, "the way is wide again: all pictures come back", (one.shows_now(), self.rows()))
         print(f"      after {back or 0:.1f} s")
         self.close_fourth(parts)
+
+    def port_of(self, one):
+        """The port to which the bridge sends a browser's media."""
+        member = str(one.joined["member"])
+        address = next(row.split()[4] for row in self.rows() if row.startswith("member ") and row.split()[2] == member)
+        return int(address.rpartition(":")[2])
 
     def mix_of(self, one):
         """What a browser has got of its mix, and lost."""

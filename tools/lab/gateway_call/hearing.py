@@ -1,7 +1,6 @@
 """Who speaks, whose way is weak, and whether a bridge is overloaded: the rules by numbers that it tells."""
 
 import sys
-import types
 
 from operators.shared import ROOT
 
@@ -44,10 +43,12 @@ def try_speech(check):
     check(said == [set(), {7}], "a bridge that counts from 0 again is followed", said)
 
 
-# A member's streams at `stats`: its mix, and three pictures of which the last one has stopped.
-REPORTS = "stream {} fraction {} lost 1 highest 1 8 packets {} octets 5 resent 0 jitter 4 round-trip 35"
+# A member's streams at `stats`: its mix, of which the share of a last report counts, and three pictures, of which the
+# numbers of two reports do. The last picture has stopped.
+SOUND = "stream {} fraction {} lost 1 highest - - packets {} octets 5 resent 0 jitter 4 round-trip 35"
+PICTURE = "stream {} fraction 0 lost {} highest 1 {} packets {} octets 5 resent 9 jitter 4 round-trip 35"
 MIX, SLOT = 1000, 3000
-STREAMS = {MIX: 50, SLOT: 60, SLOT + 1: 100, SLOT + 2: 0}
+RATES = {SLOT: 60, SLOT + 1: 100, SLOT + 2: 0}
 # The desk of the member, as far as that matters.
 DESK = """room 1
 member 0 7 1 10.0.0.1:5000 pcmu 1000 0 0
@@ -58,19 +59,29 @@ slot 3003 7 3 0 0
 end 1"""
 
 
-def reports(fraction, seconds, way):
-    """How many small pictures are left at the end of each second in which so much is lost."""
-    said = []
-    for _ in range(seconds):
-        way.at += 1
-        lines = [REPORTS.format(ssrc, 255 if not rate else fraction, rate * way.at) for ssrc, rate in STREAMS.items()]
-        said.append(way.links.look(["seats 1 of 4", *lines], way.rows, way.at).get(7))
-    return said
+class Way:
+    """A member's way, by what is reported of it each second."""
+
+    def __init__(self):
+        self.links, self.rows, self.at, self.lost = Links(), Rows(DESK.split("\n")), 0, dict.fromkeys(RATES, 0)
+
+    def left(self, seconds, sound=0, pictures=0):
+        """How many small pictures are left at the end of each second in which so much is lost, in 256ths."""
+        said = []
+        for _ in range(seconds):
+            self.at += 1
+            lines = ["seats 1 of 4", SOUND.format(MIX, sound, 50 * self.at)]
+            for ssrc, rate in RATES.items():
+                self.lost[ssrc] += rate * pictures / 256
+                came = 7000 + rate * self.at
+                lines.append(PICTURE.format(ssrc, int(self.lost[ssrc]), came, came))
+            said.append(self.links.look(lines, self.rows, self.at).get(7))
+        return said
 
 
 def try_links(check):
-    """What is left of pictures where packets are lost."""
-    way = types.SimpleNamespace(links=Links(), rows=Rows(DESK.split("\n")), at=0)
+    """What is left of pictures where sound is lost. Lost pictures are sent again in time."""
+    way = Way()
     for text, fraction, seconds, wanted in (
         ("nothing is lost", 0, 5, [None] * 5),
         ("just under a tenth", 25, 20, [None] * 20),
@@ -84,8 +95,24 @@ def try_links(check):
         ("good after that: twice as long again", 0, 81, [1] * 40 + [2] * 40 + [None]),
         ("over a half", 129, 7, [None] * 3 + [0] * 3 + [NONE]),
     ):
-        said = reports(fraction, seconds, way)
-        check(said == wanted, f"a way that loses packets: {text}", said)
+        said = way.left(seconds, sound=fraction)
+        check(said == wanted, f"a way that loses sound: {text}", said)
+    try_pictures(check)
+
+
+def try_pictures(check):
+    """The same where pictures are lost. A report is compared with the one of three seconds before."""
+    way = Way()
+    for text, fraction, seconds, wanted in (
+        ("nothing is lost", 0, 5, [None] * 5),
+        ("a quarter for one second", 64, 1, [None]),
+        ("and then nothing", 0, 5, [None] * 5),
+        ("a tenth", 25, 20, [None] * 20),
+        ("over a half", 140, 9, [None] * 3 + [0] * 3 + [NONE] * 3),
+        ("good again", 0, 32, [NONE] * 12 + [0] * 10 + [1] * 10),
+    ):
+        said = way.left(seconds, pictures=fraction)
+        check(said == wanted, f"a way that loses pictures: {text}", said)
 
 
 # A lane at `stats`.

@@ -287,9 +287,10 @@ class Staging(Trial):
         """A page whose packets are lost gets fewer pictures, and is told so. The others don't."""
         member, begun = pages[4].told["member"], time.monotonic()
         slots = [slot for slot, (whose, _) in front.rows().slots.items() if whose == member]
-        line = "stream {} fraction 80 lost 9 highest 1 8 packets {} octets 9 resent 3 jitter 1 round-trip 3"
+        line = "stream {} fraction 0 lost {} highest 1 {} packets {} octets 9 resent 3 jitter 1 round-trip 3"
         sent = lambda: int((time.monotonic() - begun) * 100)
-        front.answers["stats"] = lambda: [*(line.format(slot, sent()) for slot in slots), "end"]
+        said = lambda count: [*(line.format(slot, count // 3, count, count) for slot in slots), "end"]
+        front.answers["stats"] = lambda: said(sent())
         left = lambda: len(shown(front.rows())[member])
         self.comes(lambda: left() == 0, "who loses packets gets fewer pictures, and then none", left, 20)
         self.comes(lambda: pages[4].state()[1]["view"]["weak"], "and is told so", pages[4].state, 5)
