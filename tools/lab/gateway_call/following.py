@@ -103,6 +103,7 @@ class Following(Trial):
         says = lambda: [one.says() for one in pair]
         took = self.comes(lambda: not self.small(pair), f"{LOST:.0%} lost to them: no picture is sent", self.rows, 40)
         self.comes(lambda: all("loses packets" in text for text in says()), "and the pages say why", says)
+        self.comes(lambda: not any(text.strip("-") for text in shown()), "and show none", shown)
         lossy.share = 0.0
         back = self.comes(lambda: all(len(text.strip("-")) == 1 for text in shown()), "they come back", shown, 60)
         print(f"      gone after {took or 0:.1f} s, back after {back or 0:.1f} s")
