@@ -22,6 +22,9 @@ FLAGS = [
     "--no-first-run",
     "--remote-debugging-port=0",
 ]
+# A browser that finds PulseAudio starts it, and hears nothing any more once that ends. Without it the browser plays by
+# itself, to nobody.
+SILENT = {"PULSE_SERVER": "none"}
 
 
 class Browser:
@@ -30,9 +33,8 @@ class Browser:
     def __init__(self, command, folder, flags=()):
         profile = pathlib.Path(folder) / f"profile{time.monotonic_ns()}"
         words = [command, *FLAGS, *flags, f"--user-data-dir={profile}", "about:blank"]
-        self.process = subprocess.Popen(
-            words, stdin=subprocess.DEVNULL, stdout=subprocess.DEVNULL, stderr=subprocess.DEVNULL
-        )
+        nothing = dict.fromkeys(("stdin", "stdout", "stderr"), subprocess.DEVNULL)
+        self.process = subprocess.Popen(words, env=os.environ | SILENT, **nothing)
         # A tool that fails leaves no browser behind.
         atexit.register(self.process.kill)
         self.stream = self.connected(profile / "DevToolsActivePort")
