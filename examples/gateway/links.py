@@ -1,13 +1,13 @@
 """Whose way from the bridge is weak, by what receivers report (`stats` of docs/FORMATS.md): a rule that asks nobody.
 
 A member that loses over a tenth of its sound or of its pictures for `BAD` seconds keeps half of its small pictures, and
-then half of these; last of all its stage goes. Where it loses over a half, all small ones go at once, since its sound
-suffers as long as they come. After `GOOD` seconds without that it gets them back by the same steps. Where a step was
-too much, it takes twice as long until the next one.
+then half of these; last of all its stage goes. Where it loses over a half of its pictures, all small ones go at once,
+since its sound suffers as long as they come. After `GOOD` seconds without that it gets them back by the same steps.
+Where a step was too much, it takes twice as long until the next one.
 
-Of sound, what counts is the share that the last report names. Of pictures browsers report with each NACK, so that such
-a share is of some milliseconds. There it is the difference of two reports that are `BAD` seconds apart (RFC 3550
-section 6.4.3).
+Of sound, what counts is the share that the last report names. It may be of an outage that is over, so that it takes no
+more than half of the pictures. Of pictures browsers report with each NACK, so that such a share is of some
+milliseconds. There it is the difference of two reports that are `BAD` seconds apart (RFC 3550 section 6.4.3).
 """
 
 import typing
@@ -86,7 +86,7 @@ class Links:
                 self.packets[mix], fraction = int(streams[mix][8]), streams[mix][1]
                 # A stream that sends nothing now has an old report.
                 is_new = fraction != "-" and self.packets[mix] > packets.get(mix, self.packets[mix])
-                shares[member] = int(fraction) / 256 if is_new else 0
+                shares[member] = min(int(fraction) / 256, MUCH) if is_new else 0
         for member, (lost, expected) in self.pictures(streams, rows, now).items():
             if expected:
                 shares[member] = max(shares.get(member, 0), lost / expected)

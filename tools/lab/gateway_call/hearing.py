@@ -93,7 +93,7 @@ def try_links(check):
         ("good again: that takes twice as long now", 0, 22, [1] * 20 + [2, 2]),
         ("a half", 128, 4, [2] * 3 + [1]),
         ("good after that: twice as long again", 0, 81, [1] * 40 + [2] * 40 + [None]),
-        ("over a half", 129, 7, [None] * 3 + [0] * 3 + [NONE]),
+        ("over a half, which may be of an outage", 200, 7, [None] * 3 + [1] * 3 + [0]),
     ):
         said = way.left(seconds, sound=fraction)
         check(said == wanted, f"a way that loses sound: {text}", said)
