@@ -14,9 +14,9 @@ ROOM, ROUNDS, SECONDS, SETTLES = 4, 2, 15, 6
 # The shares of packets that are lost both ways; and with each the least share of a picture's frames at the median, and
 # the most ms without a frame.
 LOSSES = (0.0, 0.8, 1000), (0.01, 0.7, 1500), (0.03, 0.5, 3000)
-# What a narrow way takes, in bits a second: sound, and no picture beside it. How much of the sound may be missing there
-# once the pictures have gone, and what was asked for again of them; and for how many seconds that is looked at.
-NARROW, MISSING, HEARS = 150_000, 0.02, 8
+# What a narrow way takes, in bits a second: sound, and no picture beside it. How soon the sound is whole there, in
+# seconds; for how many of them it is looked at then, and how much of it may be missing in these.
+NARROW, WHOLE, HEARS, MISSING = 150_000, 20, 6, 0.02
 
 
 class Four(Following):
@@ -74,7 +74,7 @@ class Four(Following):
         before, begun, sent = self.mix_of(one), time.monotonic(), lambda: self.small([one])
         took = self.comes(lambda: not sent(), f"{NARROW // 1000} kbit/s: no picture is sent", sent, 30)
         self.comes(lambda: "loses packets" in one.says(), "and the page says why", one.says)
-        time.sleep(SETTLES)
+        self.comes(lambda: self.is_whole(one), "its sound is whole again", lambda: self.mix_of(one), WHOLE)
         passed, first = time.monotonic() - begun, self.lost(before, self.mix_of(one))
         print(f"      after {took or 0:.1f} s; of the sound of {passed:.0f} s {first:.1%} is missing")
         before = self.mix_of(one)
@@ -88,6 +88,12 @@ class Four(Following):
         self.check(back is not None, "the way is wide again: all pictures come back", (one.shows_now(), self.rows()))
         print(f"      after {back or 0:.1f} s")
         self.close_fourth(parts)
+
+    def is_whole(self, one):
+        """Whether all of its sound comes for two seconds. What was lost of pictures is still asked for after these."""
+        before = self.mix_of(one)
+        time.sleep(2)
+        return self.lost(before, self.mix_of(one)) == 0
 
     def port_of(self, one):
         """The port to which the bridge sends a browser's media."""
