@@ -61,7 +61,8 @@ class Four(Following):
         frames = sum(one[0] for one in found)
         text = f"the numbers of {read} of {frames} frames are read, and none comes twice or late"
         self.check(read > frames * 0.9 and wrong <= len(found), text, found)
-        print(f"      {missing} numbers are missing; {wrong} that don't follow; {statistics.median(longest):.0f} ms")
+        text = f"{missing} numbers are missing, of which the camera itself leaves out each second one"
+        print(f"      {text}; none for {statistics.median(longest):.0f} ms at the median")
 
     def step_narrow(self):
         """One whose way is narrow loses pictures, and keeps its sound."""
