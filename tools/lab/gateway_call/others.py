@@ -91,5 +91,7 @@ class Others(Holding):
         self.sees(b, "B is behind a NAT")
         self.check_decoding([a, b], (2,))
         print(f"      the NAT has {nat.flows()} flows of UDP")
+        for one in self.browsers():
+            one.leave()
         self.close_callers()
         self.comes(lambda: not self.rows(), "all leave: nobody is a member", self.rows, 40)
