@@ -29,7 +29,7 @@ pub struct Operators<'a, H: DeskBrand> {
     seats: Mutex<FreeSeats<'a, H>>,
     threads: Mutex<ThreadCount>,
     latest: Mutex<Latest<H>>,
-    /// Held while a call is judged, so that none comes behind the answer that ends it.
+    /// Held while a call is judged and answered.
     pub(crate) lease: Mutex<Lease>,
     /// Held while the rows are printed, which takes milliseconds for a full desk, or copied as they were printed last.
     /// Operators who keep asking take one processor together, and the others' calls have the rest.
