@@ -178,8 +178,8 @@ impl<'b, 'a, H: DeskBrand, R: Wait, F: Wake> LineDesk for AtDesk<'b, 'a, H, R, F
         out: &mut Vec<u8>,
     ) -> Result<(), AllocError> {
         let (operators, rt) = (self.operators, self.rt);
-        // It is locked until the call is answered. The moment is older than the lock: a call that waited for it is judged
-        // as of then.
+        // It is locked until the call is answered. The moment is older than the lock: a call that waited for it is
+        // judged as of then.
         let lease = operators.lease.lock(rt);
         let answer = if lease.takes_calls(moment, self.shown_name()) {
             self.give_call(alloc, moment, line, call, out)
