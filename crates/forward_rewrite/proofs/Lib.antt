@@ -5,6 +5,5 @@ pub mod Next
 pub mod Whole
 pub mod KeepingTime
 pub mod Found
-pub mod Payloads
 pub mod Mixing
 pub mod Pace

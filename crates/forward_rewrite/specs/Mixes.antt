@@ -1,7 +1,7 @@
 -- What an outgoing mix stream sends over its ticks: a packet for each tick that sounds, numbered in a row, with a time
 -- that goes on by the samples of each tick (RFC 7667 section 3.6.1; the tick of 20 ms is own).
 use Rattle.std.specs.Prelude.{◌≡◌, ℕ, ℤ, ◌+◌, ◌%◌, ◌^◌, Bool, true, false, not, is_some, nat_eq, if◌then◌else◌, List}
-use Rattle.std.specs.Prelude.{[], ◌∷◌, ◌++◌, length, map, filter_map, sum_by, Option, None, Some, option_map}
+use Rattle.std.specs.Prelude.{[], ◌∷◌, ◌++◌, length, filter_map, sum_by, Option, None, Some, option_map}
 use Rattle.std.specs.List.{last_or}
 use Rattle.rtp_codec.specs.declared.writing.Header.{Header}
 use Rattle.rtp_codec.specs.Packet.{written}
@@ -9,9 +9,7 @@ use Rattle.desk_rows.specs.declared.row.Codec.{Codec}
 use Rattle.desk_rows.specs.declared.row.Codec.TheVariants as codecs
 use Rattle.media_items.specs.declared.format.Format.{Format}
 use Rattle.media_items.specs.declared.format.Format.TheVariants.{Pcmu, L16At8000, L16At44100}
-use Rattle.media_items.specs.Formats.{rate_of, pt_of, tick_at}
-use Rattle.sample_codecs.specs.MuLaw.{code_of}
-use Rattle.sample_codecs.specs.L16.{octets_of}
+use Rattle.media_items.specs.Formats.{rate_of, pt_of, tick_at, encoded}
 use Rattle.forward_rewrite.specs.declared.counts.Counts.{Counts}
 use Rattle.forward_rewrite.specs.declared.tick_time.TickTime.{TickTime}
 use Rattle.forward_rewrite.specs.Sending.{Numbered}
@@ -44,12 +42,6 @@ sounding sound moment = record { sound = Some sound; rate = rate_of sound.format
 -- a tick without one
 abbrev pub silent : ℕ → ℕ → MixTick
 silent rate moment = record { sound = None; rate = rate; moment = moment }
-
--- samples as a format has them: an octet of mu-law each, or two octets each
-abbrev pub encoded : Format → List ℤ → List ℕ
-encoded Pcmu samples = map code_of samples
-encoded L16At8000 samples = octets_of samples
-encoded L16At44100 samples = octets_of samples
 
 -- the payload that a sound is sent as
 abbrev pub payload_of : Sound → List ℕ

@@ -35,7 +35,7 @@ mod stream;
 mod tick_time;
 
 pub use self::counts::Counts;
-pub use self::formats::{encode_into, format_of, payload_len};
+pub use self::formats::format_of;
 pub use self::laws::{
     each_frame_goes_whole, found_is_what_was_sent, mix_numbers_in_a_row, mix_time_goes_on,
     numbers_in_a_row, time_goes_on,

@@ -2,9 +2,9 @@
 
 ghost use Rattle.std.specs.Prelude.{◌≡◌, ◌≤◌, ◌++◌, ℕ, List, [], length, false, IfOk, OnOk};
 ghost use Rattle.rtp_codec.specs.Packet.{written, number_octets, most_pt, most_csrcs};
-ghost use Rattle.forward_rewrite.specs.Mixes.{encoded};
+ghost use Rattle.media_items.specs.Formats.{encoded};
 
-use crate::formats::{append_encoded, payload_len};
+use crate::formats::append_encoded;
 use bytes::{Bytes, BytesMut};
 use media_items::Format;
 use retransmit::PacketBytes;
@@ -34,7 +34,7 @@ pub fn packet_of<A: Allocator + Copy>(
     requires csrcs { length csrcs.now ≤ most_csrcs }
     ensures { IfOk result (λ bytes. bytes ≡ written header.now csrcs.now (encoded format samples.now)) }
 {
-    let size = 12 + 4 * csrcs.len() + payload_len(format, samples);
+    let size = 12 + 4 * csrcs.len() + format.payload_len(samples);
     let mut out = Vec::with_capacity(alloc, size)?;
     write(header, csrcs, &[], &mut out)?;
     append_encoded(format, samples, &mut out)?;

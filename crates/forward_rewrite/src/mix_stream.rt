@@ -2,13 +2,13 @@
 
 ghost use Rattle.std.specs.Prelude.{◌≡◌, ◌≤◌, ◌++◌, [], ◌∷◌, ℕ, ℤ, List, length, IfOk, OnOk, OnErr, option_map};
 ghost use Rattle.rtp_codec.specs.Packet.{number_octets, most_csrcs};
-ghost use Rattle.forward_rewrite.specs.Mixes.{MixTick, sound_of, sounding, silent, encoded, mix_state, mix_counts};
+ghost use Rattle.media_items.specs.Formats.{encoded};
+ghost use Rattle.forward_rewrite.specs.Mixes.{MixTick, sound_of, sounding, silent, mix_state, mix_counts};
 ghost use Rattle.forward_rewrite.specs.Mixes.{HasMixed, GivesTick};
 ghost use Rattle.forward_rewrite.specs.inner.MixCounters.{IsPreparedMix, next_ts, next_header, after_octets};
 ghost use Rattle.forward_rewrite.specs.inner.MixCounters.{after_silence};
 
 use crate::counts::Counts;
-use crate::formats::payload_len;
 use crate::mix_packets::{Named, packet_in, packet_of};
 use crate::prepared_mix::PreparedMix;
 use crate::sending::OutPacket;
@@ -136,7 +136,7 @@ impl MixStream {
         let bytes = packet_of(alloc, &self.header(format), csrcs, format, samples)?;
         let number = self.next;
         Ok(PreparedMix {
-            next: self.after(format, payload_len(format, samples), moment),
+            next: self.after(format, format.payload_len(samples), moment),
             packet: OutPacket { number, bytes },
         })
     }

@@ -5,6 +5,7 @@ use Rattle.std.specs.Int.RustNames.{unsigned_abs}
 use Rattle.rtp_codec.specs.declared.address.Address.{Address}
 use Rattle.rtp_codec.specs.Packet.{Packet}
 use Rattle.media_items.specs.declared.format.Format.{Format}
+use Rattle.media_items.specs.Formats.{samples_of_packet}
 use Rattle.desk_rows.specs.Desk.{Desk}
 use Rattle.desk_rows.specs.declared.row.Media.{Media}
 use Rattle.desk_rows.specs.declared.row.Media.TheVariants.{Audio, Video}
@@ -17,7 +18,7 @@ use Rattle.ingress.specs.declared.outcome_class.Disposition.TheVariants.{Restart
 use Rattle.ingress.specs.Outcomes.{disposition_of}
 use Rattle.ingress.specs.declared.sound_count.SoundCount.{SoundCount}
 use Rattle.ingress.specs.Readings.{Reading, too_long, neither, no_packet, packet, no_compound, compound}
-use Rattle.ingress.specs.Media.{audio_format, samples_of_packet}
+use Rattle.ingress.specs.Media.{audio_format}
 use Rattle.ingress.specs.Taking.{room_rate}
 
 -- the square of a sample

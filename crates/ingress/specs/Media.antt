@@ -10,16 +10,13 @@ use Rattle.frame_gate.specs.declared.packet.Place.{Place}
 use Rattle.frame_gate.specs.declared.packet.Place.TheVariants.{Taken, Late, Duplicate}
 use Rattle.frame_gate.specs.Packets.{GatePacket, NumberedPacket, numbered}
 use Rattle.frame_gate.specs.Frame.{WholeFrame}
-use Rattle.sample_codecs.specs.MuLaw.{decoded}
-use Rattle.sample_codecs.specs.L16.{samples_of}
 use Rattle.frame_gate.specs.Epochs.{Epoch, epoch_after, frames_of, place_of, nacks_of, gives_up}
 use Rattle.frame_gate.specs.Watched.{came}
 use Rattle.ingress.specs.declared.outcome.Outcome.{Outcome}
 use Rattle.ingress.specs.declared.outcome.Outcome.TheVariants as outcomes
 use Rattle.media_items.specs.Inputs.{Input}
-use Rattle.media_items.specs.Formats.{rate_of, format_of_packet, holds_whole}
+use Rattle.media_items.specs.Formats.{rate_of, format_of_packet, holds_whole, samples_of_packet}
 use Rattle.media_items.specs.declared.format.Format.{Format}
-use Rattle.media_items.specs.declared.format.Format.TheVariants.{Pcmu, L16At8000, L16At44100}
 use Rattle.ingress.specs.Stories.{Story, RtpArrival, units_of, gate_epoch}
 use Rattle.ingress.specs.Sources.{Origin}
 
@@ -113,12 +110,6 @@ video_course c (Accepted ext) story = gated_with c (numbered ext (gate_packet c.
 video_course c Jump story = verdict_only Jump story
 video_course c (Restarted ext) story =
     gated_with c (numbered ext (gate_packet c.packet)) (λ place. outcomes.Restarted ext) true story
-
--- the samples of a payload of this format: PCMU by its octets, L16 by two octets each
-abbrev pub samples_of_packet : Format → List ℕ → List ℤ
-samples_of_packet Pcmu payload = map decoded payload
-samples_of_packet L16At8000 payload = samples_of payload
-samples_of_packet L16At44100 payload = samples_of payload
 
 -- an audio packet of this format as an item; an empty payload makes none
 abbrev pub sound_of : Format → MediaPacket → List Input

@@ -4,13 +4,13 @@ ghost use Rattle.std.specs.Prelude.{◌≡◌, ◌≤◌, true, length, IfOk, On
 ghost use Rattle.rtp_codec.specs.View.{packet_of};
 ghost use Rattle.frame_gate.specs.Frame.{highest_pt};
 ghost use Rattle.rtp_codec.specs.declared.class.Class.TheVariants as classes;
-ghost use Rattle.media_items.specs.Formats.{rate_of, holds_whole};
+ghost use Rattle.media_items.specs.Formats.{rate_of, holds_whole, samples_of_packet};
 ghost use Rattle.media_items.specs.Rates.{video_rate};
 ghost use Rattle.ingress.specs.Readings.{IsOf};
 ghost use Rattle.ingress.specs.Ingested.{ingested_of, IsAbout};
 ghost use Rattle.ingress.specs.Received.{IsReceived};
 ghost use Rattle.ingress.specs.Energy.{counted_as, no_sound, samples_for};
-ghost use Rattle.ingress.specs.Media.{audio_course, video_course, arrival_of, samples_of_packet};
+ghost use Rattle.ingress.specs.Media.{audio_course, video_course, arrival_of};
 ghost use Rattle.ingress.specs.Taking.{sourced, of_row};
 ghost use Rattle.ingress.specs.Ingresses.{Moves, TakesIn};
 ghost use Rattle.ingress.specs.inner.Effects.{effect_of, IsOfPacket};
@@ -48,7 +48,7 @@ fn arrival_of(rate: u32, incoming: MediaPacket<'_>) -> RtpArrival
 
 impl<A: Allocator + Copy> Ingress<A> {
     /// Takes in an audio packet of this format.
-    #[tactic(auto, using(crate::proofs::Sized::rate_fits))]
+    #[tactic(auto, using(media_items::proofs::FormatLemmas::rate_fits))]
     fn audio(
         &mut self,
         alloc: A,

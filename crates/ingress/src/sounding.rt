@@ -1,19 +1,17 @@
 //! Decodes audio payloads into items.
 
-ghost use Rattle.std.specs.Prelude.{◌≡◌, ◌%◌, true, [], length, map, is_some, if◌then◌else◌, IfOk, IfSome};
+ghost use Rattle.std.specs.Prelude.{◌≡◌, true, [], length, map, is_some, if◌then◌else◌, IfOk, IfSome};
 ghost use Rattle.std.specs.List.{list_all};
-ghost use Rattle.media_items.specs.Formats.{holds_whole};
+ghost use Rattle.media_items.specs.Formats.{holds_whole, samples_of_packet};
 ghost use Rattle.media_items.specs.Inputs.{input_of, is_sized};
-ghost use Rattle.sample_codecs.specs.L16.{samples_of};
 ghost use Rattle.source_valid.specs.Histories.{accepted};
 ghost use Rattle.ingress.specs.Energy.{count_of_samples, no_sound};
-ghost use Rattle.ingress.specs.Media.{audio_format, samples_of_packet, sound_of, sounds};
+ghost use Rattle.ingress.specs.Media.{audio_format, sound_of, sounds};
 ghost use Rattle.ingress.specs.inner.MediaPackets.{incoming_of};
 
 use crate::media_packet::MediaPacket;
 use crate::sound_count::SoundCount;
 use media_items::{Format, Item, format_of_packet};
-use sample_codecs::{decode_l16, decode_pcmu};
 use source_valid::Verdict;
 use std::alloc::{AllocError, Allocator, Global};
 
@@ -56,39 +54,8 @@ pub(crate) fn audio_format(rate: u32, pt: u8, octets: usize) -> Option<Format>
     }
 }
 
-/// The samples of a payload of L16. It has whole samples.
-fn from_l16<A: Allocator + Copy>(alloc: A, payload: &[u8]) -> Result<Vec<i16, A>, AllocError>
-    requires { length payload.now % 2 ≡ 0 }
-    ensures { IfOk result (λ samples. samples.items ≡ samples_of payload.now) }
-{
-    let mut samples = vec![in alloc; 0; payload.len() / 2]?;
-    decode_l16(payload, &mut samples);
-    Ok(samples)
-}
-
-/// Decodes a payload of this format.
-#[tactic(auto, using(crate::proofs::Sized::even_octets))]
-fn samples_of<A: Allocator + Copy>(
-    alloc: A,
-    format: Format,
-    payload: &[u8],
-) -> Result<Vec<i16, A>, AllocError>
-    requires { holds_whole format (length payload.now) ≡ true }
-    ensures { IfOk result (λ samples. samples.items ≡ samples_of_packet format payload.now) }
-{
-    match format {
-        Format::Pcmu => {
-            let mut samples = vec![in alloc; 0; payload.len()]?;
-            decode_pcmu(payload, &mut samples);
-            Ok(samples)
-        }
-        Format::L16At8000 => from_l16(alloc, payload),
-        Format::L16At44100 => from_l16(alloc, payload),
-    }
-}
-
 /// A packet as an item, unless its payload is empty, and what is counted of its samples.
-#[tactic(auto, using(crate::proofs::Sized::few_samples))]
+#[tactic(auto, using(media_items::proofs::FormatLemmas::few_samples, media_items::proofs::FormatLemmas::whole_samples))]
 fn sound_of<A: Allocator + Copy>(
     alloc: A,
     format: Format,
@@ -101,7 +68,7 @@ fn sound_of<A: Allocator + Copy>(
         ≡ count_of_samples (samples_of_packet format (incoming_of incoming.entry).packet.payload)) }
 {
     let view = incoming.view;
-    let samples = samples_of(alloc, format, view.payload)?;
+    let samples = format.decode(alloc, view.payload)?;
     let sound = SoundCount::of(&samples);
     if view.payload.is_empty() {
         return Ok(PacketSound {

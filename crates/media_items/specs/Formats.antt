@@ -1,7 +1,8 @@
--- The formats of audio: their clock rates and payload types (RFC 3551 sections 4.5.11, 4.5.14 and 6; L16 at 8000 Hz and
--- its type 97 are own).
-use Rattle.std.specs.Prelude.{ℕ, ◌*◌, ◌/◌, ◌%◌, Bool, ◌&&◌, nat_eq, nat_le, List, [], ◌∷◌, find, Option, None, Some}
-use Rattle.std.specs.Prelude.{if◌then◌else◌}
+-- The formats of audio: their clock rates and payload types, and the samples of their payloads (RFC 3551 sections
+-- 4.5.11, 4.5.14 and 6; L16 at 8000 Hz and its type 97 are own).
+use Rattle.std.specs.Prelude.{ℕ, ℤ, ◌*◌, ◌/◌, ◌%◌, Bool, ◌&&◌, nat_eq, nat_le, List, [], ◌∷◌, map, find, Option}
+use Rattle.sample_codecs.specs.MuLaw.{decoded, code_of}
+use Rattle.sample_codecs.specs.L16.{samples_of, octets_of as l16_octets_of}
 use Rattle.media_items.specs.Inputs.{most_at}
 use Rattle.media_items.specs.declared.format.Format.{Format}
 use Rattle.media_items.specs.declared.format.Format.TheVariants.{Pcmu, L16At8000, L16At44100}
@@ -48,3 +49,15 @@ format_of_packet pt rate = find (λ f. nat_eq (rate_of f) rate && nat_eq (pt_of 
 -- a payload of this many octets has whole samples, and no more than a packet may have
 abbrev pub holds_whole : Format → ℕ → Bool
 holds_whole format octets = nat_eq (octets % octets_of format) 0 && nat_le octets (octets_of format * most_of format)
+
+-- the samples of a payload of this format: PCMU by its octets, L16 by two octets each
+abbrev pub samples_of_packet : Format → List ℕ → List ℤ
+samples_of_packet Pcmu payload = map decoded payload
+samples_of_packet L16At8000 payload = samples_of payload
+samples_of_packet L16At44100 payload = samples_of payload
+
+-- samples as a format has them: an octet of mu-law each, or two octets each
+abbrev pub encoded : Format → List ℤ → List ℕ
+encoded Pcmu samples = map code_of samples
+encoded L16At8000 samples = l16_octets_of samples
+encoded L16At44100 samples = l16_octets_of samples

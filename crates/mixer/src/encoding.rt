@@ -1,10 +1,9 @@
 //! Payloads of mixes.
 
 ghost use Rattle.std.specs.Prelude.{◌≡◌, true, OnOk};
-ghost use Rattle.forward_rewrite.specs.Mixes.{encoded};
+ghost use Rattle.media_items.specs.Formats.{encoded};
 ghost use Rattle.mixer.specs.inner.Encoded.{IsEncoded, AreEncoded};
 
-use forward_rewrite::{encode_into, payload_len};
 use media_items::Format;
 use std::alloc::{AllocError, Allocator};
 
@@ -66,8 +65,8 @@ impl<A: Allocator + Copy> Encoded<A> {
             return Ok(());
         }
         self.kept = false;
-        self.payload.resize(payload_len(format, samples), 0)?;
-        encode_into(format, samples, &mut self.payload);
+        self.payload.resize(format.payload_len(samples), 0)?;
+        format.encode_into(samples, &mut self.payload);
         if shared {
             self.samples.resize(samples.len(), 0)?;
             self.samples.copy_from_slice(samples);

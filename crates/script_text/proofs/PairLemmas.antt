@@ -5,7 +5,7 @@ use Rattle.std.proofs.lemmas.Bool.{and_parts, le-leb, leb-true, eqb-true}
 use Rattle.std.proofs.lemmas.List.{take_more, take_all, length-take-le}
 use Rattle.sample_codecs.specs.L16.{samples_of}
 use Rattle.media_items.specs.Inputs.{most_at}
-use Rattle.ingress.proofs.Sized.{halves}
+use Rattle.media_items.proofs.FormatLemmas.{halves}
 use Rattle.script_text.specs.ItemLines.{is_sound, pair_number, pair_numbers}
 
 -- ---- samples

@@ -2,8 +2,7 @@
 use Rattle.std.specs.Prelude.{◌≡◌, true, ℕ, ◌+◌, ◌*◌}
 use Rattle.rtp_codec.specs.Packet.{most_csrcs}
 use Rattle.media_items.specs.declared.format.Format.TheVariants.{L16At44100}
-use Rattle.media_items.specs.Formats.{octets_of, tick_of}
-use Rattle.forward_rewrite.specs.Mixes.{encoded}
+use Rattle.media_items.specs.Formats.{octets_of, tick_of, encoded}
 use Rattle.mixer.specs.declared.encoding.Encoded.{Encoded}
 use Rattle.mixer.specs.declared.encoding.Encodings.{Encodings}
 

@@ -2,7 +2,8 @@ use Rattle.std.proofs.Common.{◌∙◌, ap, sym, is_some, if◌then◌else◌, 
 use Rattle.std.specs.List.{list_all}
 use Rattle.media_items.specs.Inputs.{is_sized}
 use Rattle.ingress.specs.Energy.{count_of_samples, no_sound}
-use Rattle.ingress.specs.Media.{sound_of, samples_of_packet}
+use Rattle.media_items.specs.Formats.{samples_of_packet}
+use Rattle.ingress.specs.Media.{sound_of}
 use Rattle.ingress.specs.inner.MediaPackets.{incoming_of}
 use Rattle.ingress.proofs.Results.{from_fact}
 use Rattle.ingress.proofs.Sized.{sized_sound}

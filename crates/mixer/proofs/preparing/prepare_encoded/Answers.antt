@@ -1,7 +1,8 @@
 use Rattle.std.proofs.Common.{◌≡◌, ◌∙◌, take, subst, [], ◌∷◌}
 use Rattle.rtp_codec.specs.Packet.{most_csrcs}
 use Rattle.media_items.specs.declared.format.Format.{Format}
-use Rattle.forward_rewrite.specs.Mixes.{GivesTick, sounding, sound_of, encoded, format_of}
+use Rattle.media_items.specs.Formats.{encoded}
+use Rattle.forward_rewrite.specs.Mixes.{GivesTick, sounding, sound_of, format_of}
 use Rattle.mixer.specs.Hearing.{member_rate, contributors}
 use Rattle.mixer.proofs.Sounds.{something_of, many}
 use Rattle.mixer.proofs.preparing.prepare_encoded.Goals as goal

@@ -1,10 +1,10 @@
 use Rattle.std.proofs.Common.{◌∙◌, ap, sym, subst, None, is_some, if◌then◌else◌}
 use Rattle.source_valid.specs.Histories.{accepted}
-use Rattle.media_items.specs.Formats.{rate_of}
+use Rattle.media_items.specs.Formats.{rate_of, samples_of_packet}
 use Rattle.ingress.specs.declared.known.OriginKey.{OriginKey}
 use Rattle.ingress.specs.Energy.{count_of_samples, no_sound, counted_as}
 use Rattle.ingress.specs.Ingested.{Ingested}
-use Rattle.ingress.specs.Media.{MediaPacket, audio_course, arrival_of, sounds, verdict_with, samples_of_packet}
+use Rattle.ingress.specs.Media.{MediaPacket, audio_course, arrival_of, sounds, verdict_with}
 use Rattle.ingress.specs.Taking.{sourced}
 use Rattle.ingress.specs.inner.MediaPackets.{incoming_of}
 use Rattle.ingress.specs.inner.SourceEntries.{ValidatedOf}
