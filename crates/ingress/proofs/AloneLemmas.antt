@@ -70,7 +70,7 @@ story_by_alone rate (Some story) h = either HasPacketsAlone (nat_eq story.rate r
 
 validated_alone : (story : Story) (epochs : ℕ) (m : RtpArrival) → HasPacketsAlone story
     → HasPacketsAlone (validated_on story epochs m)
-validated_alone story epochs m h = either Alone (begins story m.seq) [] story.gated ([], refl) h
+validated_alone story epochs m h = either Alone (begins story m.seq) [] story.gate_events ([], refl) h
 
 -- a packet leaves a source's story so
 abbrev CourseKeeps : (Verdict → Story → Course) → Type 0
@@ -79,9 +79,9 @@ CourseKeeps course_of =
 
 video_alone : (c : MediaPacket) → CourseKeeps (video_course c)
 video_alone c Probation story h = h
-video_alone c (Accepted ext) story h = with_packet story.gated _ h
+video_alone c (Accepted ext) story h = with_packet story.gate_events _ h
 video_alone c Jump story h = h
-video_alone c (Restarted ext) story h = with_packet story.gated _ h
+video_alone c (Restarted ext) story h = with_packet story.gate_events _ h
 
 audio_alone : (format : Format) (c : MediaPacket) → CourseKeeps (audio_course format c)
 audio_alone format c v story h = h

@@ -5,7 +5,7 @@ use Rattle.frame_gate.specs.Packets.{NumberedPacket}
 use Rattle.frame_gate.specs.Watched.{GateEvent, came, unwatched, watch_on, watch_of, Watch}
 use Rattle.frame_gate.specs.Admits.{Represents as Gates, Answers}
 use Rattle.frame_gate.specs.Waits.{WatchedOf as GateOf, PreparedPacketOf, Watches, CommitsPacket, PreparesPacket}
-use Rattle.ingress.specs.inner.SourceEntries.{HasGated, Admits}
+use Rattle.ingress.specs.inner.SourceEntries.{HasGateEvents, Admits}
 
 pub some_injective : {X : Type 0} (x y : X) → Some x ≡ Some y → x ≡ y
 some_injective x y e = cc
@@ -22,18 +22,18 @@ fresh_gate g gate marks answers frames gaps =
     record { gate = gate; marks = marks; answers = answers; frames = frames; gaps = gaps }
 
 at_old : (g : GateOf) (p : NumberedPacket) (r : PreparedPacketOf) (events : List GateEvent) (new : GateOf)
-    → PreparesPacket g p r → HasGated (Some g) events → CommitsPacket g r new
-    → Answers (watch_of events).epoch p r.prepared.answer × HasGated (Some new) (events ++ came p ∷ [])
-at_old g p r [] new prepares gated commits = absurd gated
-at_old g p r (e ∷ events) new prepares gated commits =
-    let both = prepares new commits (watch_of (e ∷ events)) gated in (both.0, one_more new (e ∷ events) (came p) both.1)
+    → PreparesPacket g p r → HasGateEvents (Some g) events → CommitsPacket g r new
+    → Answers (watch_of events).epoch p r.prepared.answer × HasGateEvents (Some new) (events ++ came p ∷ [])
+at_old g p r [] new prepares has commits = absurd has
+at_old g p r (e ∷ events) new prepares has commits =
+    let both = prepares new commits (watch_of (e ∷ events)) has in (both.0, one_more new (e ∷ events) (came p) both.1)
 
 pub at_gate : (g : GateOf) (p : NumberedPacket) (r : PreparedPacketOf) → PreparesPacket g p r
     → Admits (Some g) p (record { fresh = None; prepared = r })
 at_gate g p r prepares = record {
   ready = refl;
-  after = λ events old new gated base commits.
-      at_old g p r events new prepares gated
+  after = λ events old new has base commits.
+      at_old g p r events new prepares has
       (subst (λ x. CommitsPacket x r new) (sym (some_injective g old base)) commits);
 }
 
@@ -41,9 +41,9 @@ pub at_new_gate : (g : GateOf) (p : NumberedPacket) (r : PreparedPacketOf) → W
     → PreparesPacket g p r → Admits None p (record { fresh = Some g; prepared = r })
 at_new_gate g p r fresh prepares = record {
   ready = refl;
-  after = λ events old new gated base commits.
+  after = λ events old new has base commits.
       let both =
       prepares new (subst (λ x. CommitsPacket x r new) (sym (some_injective g old base)) commits) (watch_of []) fresh in
-      subst (λ es. Answers (watch_of es).epoch p r.prepared.answer × HasGated (Some new) (es ++ came p ∷ []))
-      (sym gated) (both.0, both.1);
+      subst (λ es. Answers (watch_of es).epoch p r.prepared.answer × HasGateEvents (Some new) (es ++ came p ∷ []))
+      (sym has) (both.0, both.1);
 }

@@ -10,7 +10,8 @@ use Rattle.frame_gate.specs.Admits.{Answers}
 use Rattle.ingress.specs.Stories.{Story, RtpArrival, untold, story_by, validated, begins, validated_on, initialises}
 use Rattle.ingress.specs.Stories.{arrival}
 use Rattle.ingress.specs.Stories.{gate_epoch}
-use Rattle.ingress.specs.inner.SourceEntries.{EntryOf, ValidatedOf, AdmissionOf, HasGiven, HasGated, Keeps, Validates}
+use Rattle.ingress.specs.inner.SourceEntries.{EntryOf, ValidatedOf, AdmissionOf, HasGiven, HasGateEvents, Keeps}
+use Rattle.ingress.specs.inner.SourceEntries.{Validates}
 use Rattle.ingress.specs.inner.SourceEntries.{Becomes, Admits}
 use Rattle.ingress.specs.inner.SourceEntries.{gate_in, gate_for, kept_by}
 use Rattle.ingress.specs.inner.Moves.{state_in, epoch_in, next_of}
@@ -25,29 +26,29 @@ KeepsAny (Some k) (Some story) = Keeps k story
 pub record StandsAt (kept : Option EntryOf) (story : Story) : Type 0 where
   pub given : HasGiven (state_in kept) story.given
   pub epoch : epoch_in kept ≡ story.epoch
-  pub gated : HasGated (gate_in kept) story.gated
+  pub gate_events : HasGateEvents (gate_in kept) story.gate_events
 
 stands_so : (rate : ℕ) (k : EntryOf) (story : Story) (b d : Bool) → b ≡ d → Keeps k story
     → StandsAt (if b then Some k else None) (if d then story else untold rate)
-stands_so rate k story true true e h = record { given = h.given; epoch = h.epoch; gated = h.gated }
-stands_so rate k story false false e h = record { given = refl; epoch = refl; gated = refl }
+stands_so rate k story true true e h = record { given = h.given; epoch = h.epoch; gate_events = h.gate_events }
+stands_so rate k story false false e h = record { given = refl; epoch = refl; gate_events = refl }
 stands_so rate k story true false e h = cc
 stands_so rate k story false true e h = cc
 
 pub stands_at : (rate : ℕ) (kept : Option EntryOf) (story : Option Story) → KeepsAny kept story
     → StandsAt (kept_by rate kept) (story_by rate story)
-stands_at rate None None h = record { given = refl; epoch = refl; gated = refl }
+stands_at rate None None h = record { given = refl; epoch = refl; gate_events = refl }
 stands_at rate None (Some story) h = absurd h
 stands_at rate (Some k) None h = absurd h
 stands_at rate (Some k) (Some story) h =
     stands_so rate k story (nat_eq k.rate rate) (nat_eq story.rate rate) (ap (λ r. nat_eq r rate) h.rate) h
 
-gated_by : (kept : Option EntryOf) (events : List GateEvent) (b : Bool) → HasGated (gate_in kept) events
-    → HasGated (gate_for kept b) (if b then [] else events)
-gated_by None events true h = refl
-gated_by None events false h = h
-gated_by (Some k) events true h = refl
-gated_by (Some k) events false h = h
+gate_events_by : (kept : Option EntryOf) (events : List GateEvent) (b : Bool) → HasGateEvents (gate_in kept) events
+    → HasGateEvents (gate_for kept b) (if b then [] else events)
+gate_events_by None events true h = refl
+gate_events_by None events false h = h
+gate_events_by (Some k) events true h = refl
+gate_events_by (Some k) events false h = h
 
 module _ (kept : Option EntryOf) (story : Story) (epochs : ℕ) (m : RtpArrival) (j : ValidatedOf)
     (at : StandsAt kept story)
@@ -68,10 +69,10 @@ module _ (kept : Option EntryOf) (story : Story) (epochs : ℕ) (m : RtpArrival)
       ap (λ b. if b then epochs + 1 else epoch_in kept) begins_is
       ∙ ap (λ e. if begins story m.seq then epochs + 1 else e) at.epoch
 
-  pub gated_is : HasGated (gate_for kept j.begins) (validated_on story epochs m).gated
-  gated_is =
-      subst (λ b. HasGated (gate_for kept j.begins) (if b then [] else story.gated)) begins_is
-      (gated_by kept story.gated j.begins at.gated)
+  pub gate_events_are : HasGateEvents (gate_for kept j.begins) (validated_on story epochs m).gate_events
+  gate_events_are =
+      subst (λ b. HasGateEvents (gate_for kept j.begins) (if b then [] else story.gate_events)) begins_is
+      (gate_events_by kept story.gate_events j.begins at.gate_events)
 
   pub keeps_verdict_only : (new : EntryOf) → Becomes kept (next_of kept epochs j None) new
       → Keeps new (validated_on story epochs m)
@@ -79,7 +80,8 @@ module _ (kept : Option EntryOf) (story : Story) (epochs : ℕ) (m : RtpArrival)
     rate = becomes.rate ∙ validates.rate;
     given = subst (λ x. IsGiven x (validated_on story epochs m).given) (sym becomes.source) given_is;
     epoch = becomes.epoch ∙ epoch_is None;
-    gated = subst (λ g. HasGated g (validated_on story epochs m).gated) (sym becomes.gate) gated_is;
+    gate_events =
+        subst (λ g. HasGateEvents g (validated_on story epochs m).gate_events) (sym becomes.gate) gate_events_are;
   }
 
   -- the story with the packet at the gate
@@ -89,19 +91,19 @@ module _ (kept : Option EntryOf) (story : Story) (epochs : ℕ) (m : RtpArrival)
         rate = m.rate;
         given = (validated_on story epochs m).given;
         epoch = (validated_on story epochs m).epoch;
-        gated = (validated_on story epochs m).gated ++ came p ∷ [];
+        gate_events = (validated_on story epochs m).gate_events ++ came p ∷ [];
       }
 
   module _ (p : NumberedPacket) (a : AdmissionOf) (new : EntryOf) (admits : Admits (gate_for kept j.begins) p a)
       (becomes : Becomes kept (next_of kept epochs j (Some a)) new) where
     both : Answers (gate_epoch (validated_on story epochs m)) p a.prepared.prepared.answer
-        × HasGated new.gate (with_packet p).gated
+        × HasGateEvents new.gate (with_packet p).gate_events
     both =
         let commits_all = becomes.gate in
         let told =
-        admits.after (validated_on story epochs m).gated commits_all.base commits_all.gate gated_is commits_all.before
-        commits_all.commits in
-        (told.0, subst (λ g. HasGated g (with_packet p).gated) (sym commits_all.now) told.1)
+        admits.after (validated_on story epochs m).gate_events commits_all.base commits_all.gate gate_events_are
+        commits_all.before commits_all.commits in
+        (told.0, subst (λ g. HasGateEvents g (with_packet p).gate_events) (sym commits_all.now) told.1)
 
     pub answers_is : Answers (gate_epoch (validated_on story epochs m)) p a.prepared.prepared.answer
     answers_is = both.0
@@ -111,5 +113,5 @@ module _ (kept : Option EntryOf) (story : Story) (epochs : ℕ) (m : RtpArrival)
       rate = becomes.rate ∙ validates.rate;
       given = subst (λ x. IsGiven x (validated_on story epochs m).given) (sym becomes.source) given_is;
       epoch = becomes.epoch ∙ epoch_is (Some a);
-      gated = both.1;
+      gate_events = both.1;
     }

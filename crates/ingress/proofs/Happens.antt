@@ -17,7 +17,7 @@ use Rattle.media_items.specs.Inputs.{Input}
 use Rattle.ingress.specs.Ingested.{Ingested, only, with_items}
 use Rattle.ingress.specs.Media.{MediaPacket, Course, origin_of, arrival_of, told, verdict_only, verdict_with, placed}
 use Rattle.ingress.specs.Media.{gate_packet}
-use Rattle.ingress.specs.Media.{frames_from, gated_with, newly, video_course}
+use Rattle.ingress.specs.Media.{frames_from, gate_course, newly, video_course}
 use Rattle.ingress.proofs.Answered.{ingested}
 use Rattle.ingress.specs.Taking.{Voice, IsVoice, asked_of, most_epochs, answer_of, sources_after, sourced}
 use Rattle.ingress.specs.Ingresses.{Knows}
@@ -76,15 +76,15 @@ gates_from old now new key j c p q i ext same_ext o e x h =
     (subst (λ (y : ℤ). Gates old new key j c (numbered y p) i) x h))
 
 -- what a video packet comes to that counts, and one that doesn't
-pub video_gated : (c : MediaPacket) (v : Verdict) (ext : ℤ) (st : Story) → accepted v ≡ Some ext
-    → video_course c v st ≡ gated_with c (numbered ext (gate_packet c.packet)) (outcome_at v) (restarts v) st
-video_gated c Probation ext st is = cc
-video_gated c (Accepted e) ext st is =
-    let same : e ≡ ext = cc in ap (λ x. gated_with c (numbered x (gate_packet c.packet)) (placed e) false st) same
-video_gated c Jump ext st is = cc
-video_gated c (Restarted e) ext st is =
+pub video_at_gate : (c : MediaPacket) (v : Verdict) (ext : ℤ) (st : Story) → accepted v ≡ Some ext
+    → video_course c v st ≡ gate_course c (numbered ext (gate_packet c.packet)) (outcome_at v) (restarts v) st
+video_at_gate c Probation ext st is = cc
+video_at_gate c (Accepted e) ext st is =
+    let same : e ≡ ext = cc in ap (λ x. gate_course c (numbered x (gate_packet c.packet)) (placed e) false st) same
+video_at_gate c Jump ext st is = cc
+video_at_gate c (Restarted e) ext st is =
     let same : e ≡ ext = cc in
-    ap (λ x. gated_with c (numbered x (gate_packet c.packet)) (λ place. outcomes.Restarted e) true st) same
+    ap (λ x. gate_course c (numbered x (gate_packet c.packet)) (λ place. outcomes.Restarted e) true st) same
 
 pub video_verdict_only : (c : MediaPacket) (v : Verdict) (st : Story) → accepted v ≡ None
     → video_course c v st ≡ verdict_only v st
@@ -194,7 +194,7 @@ module _ (rate : ℕ) (course_of : Verdict → Story → Course) (c : MediaPacke
     given_is : (voice : Voice) (p : NumberedPacket) (a : AdmissionOf) (epoch : ℕ)
         → Answers (gate_epoch later) p a.prepared.prepared.answer → epoch ≡ later.epoch
         → given voice c epoch j.verdict a.prepared.prepared.answer
-        ≡ answer_of voice c (gated_with c p (outcome_at j.verdict) (restarts j.verdict) later)
+        ≡ answer_of voice c (gate_course c p (outcome_at j.verdict) (restarts j.verdict) later)
     given_is voice p a epoch answers same =
         let e = gate_epoch later in
         let answer = a.prepared.prepared.answer in
@@ -229,22 +229,22 @@ module _ (rate : ℕ) (course_of : Verdict → Story → Course) (c : MediaPacke
         (frames_from (origin_of c) c.moment later.epoch fs))
         (sym new_ones)
 
-    pub when_gated : (voice : Voice) (ingested : Ingested) (new : IngressOf) (p : NumberedPacket) → IsVoice voice
+    pub when_at_gate : (voice : Voice) (ingested : Ingested) (new : IngressOf) (p : NumberedPacket) → IsVoice voice
         → voice.asker ≡ old.asker
         → (j.begins && nat_eq old.epochs most_epochs) ≡ false
-        → ((st : Story) → course_of j.verdict st ≡ gated_with c p (outcome_at j.verdict) (restarts j.verdict) st)
+        → ((st : Story) → course_of j.verdict st ≡ gate_course c p (outcome_at j.verdict) (restarts j.verdict) st)
         → Gates old new (key_of (origin_of c)) j c p ingested → Gives ingested new (sourced voice rate course_of c s)
-    when_gated voice ingested new p right asker free is gates =
+    when_at_gate voice ingested new p right asker free is gates =
         let a = gates.admission in
         let k = gates.advances.0 in
         let at_key = kept_at (key_of (origin_of c)) old.entries in
         let becomes = becomes_so (Some a) k gates.advances.1 in
         let admits = subst (λ r. Admits (gate_for (kept_by r at_key) j.begins) p a) validates.rate gates.admits in
-        when_course voice ingested new (gated_with c p (outcome_at j.verdict) (restarts j.verdict)) free is
+        when_course voice ingested new (gate_course c p (outcome_at j.verdict) (restarts j.verdict)) free is
         (gates.answers voice right asker ∙ given_is voice p a _
         (answers_is kept story s.epochs (arrival_of rate c) j at validates p a k admits becomes)
         (subst (λ r. (next_of (kept_by r at_key) old.epochs j (Some a)).epoch ≡ later.epoch) (sym validates.rate)
         (subst (λ n. (next_of kept n j (Some a)).epoch ≡ later.epoch) (sym knows.epochs)
         (epoch_is kept story s.epochs (arrival_of rate c) j at validates (Some a)))))
-        (knows_after new (gated_with c p (outcome_at j.verdict) (restarts j.verdict) later) k
+        (knows_after new (gate_course c p (outcome_at j.verdict) (restarts j.verdict) later) k
         (keeps_packet kept story s.epochs (arrival_of rate c) j at validates p a k admits becomes) gates.advances.2)

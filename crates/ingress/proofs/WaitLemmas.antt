@@ -13,7 +13,7 @@ use Rattle.ingress.specs.Media.{frames_from}
 use Rattle.ingress.specs.Taking.{Voice, asked_of}
 use Rattle.ingress.specs.Waiting.{asked_again, freed, with_wait, waited_on, wait_at, wait_in, video_waited}
 use Rattle.ingress.specs.Ingresses.{Moves}
-use Rattle.ingress.specs.inner.SourceEntries.{EntryOf, HasGated, Keeps, HasWaited, ReadiesWait, gate_in}
+use Rattle.ingress.specs.inner.SourceEntries.{EntryOf, HasGateEvents, Keeps, HasWaited, ReadiesWait, gate_in}
 use Rattle.ingress.specs.inner.Holding.{IngressOf, Holds, key_of, kept_at}
 use Rattle.ingress.specs.inner.Moves.{wait_given, WaitsAtGate}
 use Rattle.ingress.proofs.Answered.{ingested}
@@ -24,8 +24,8 @@ use Rattle.ingress.proofs.KnownSources.{kept_story, holds_retold, holds_same, ho
 
 -- ---- without a gate
 
-nothing_came : (k : EntryOf) (story : Story) → k.gate ≡ None → Keeps k story → story.gated ≡ []
-nothing_came k story none keeps = subst (λ g. HasGated g story.gated) none keeps.gated
+nothing_came : (k : EntryOf) (story : Story) → k.gate ≡ None → Keeps k story → story.gate_events ≡ []
+nothing_came k story none keeps = subst (λ g. HasGateEvents g story.gate_events) none keeps.gate_events
 
 no_answer : (voice : Voice) (o : Origin) (moment : ℕ) (kept : Option EntryOf) (story : Option Story)
     → KeepsAny kept story → gate_in kept ≡ None → only Unknown ≡ wait_in voice o moment story
@@ -40,9 +40,9 @@ keeps_none k story none keeps = record {
   rate = keeps.rate;
   given = keeps.given;
   epoch = keeps.epoch;
-  gated =
-      subst (λ events. HasGated k.gate (with_wait events)) (sym (nothing_came k story none keeps))
-      (subst (λ g. HasGated g []) (sym none) refl);
+  gate_events =
+      subst (λ events. HasGateEvents k.gate (with_wait events)) (sym (nothing_came k story none keeps))
+      (subst (λ g. HasGateEvents g []) (sym none) refl);
 }
 
 holds_none : (o : Origin) (es : List (OriginKey × EntryOf)) (ks : List Known) → Holds es ks
@@ -70,12 +70,12 @@ nothing_waits old o moment i is none = λ voice s right asker knows. (
 
 -- ---- at a gate
 
-gated_wait : (base gate : GateOf) (r : PreparedWaitOf) (events : List GateEvent) → PreparesWait base r
-    → CommitsWait base r gate → HasGated (Some base) events
-    → AnswersWait (watch_of events) (answer_in r) × HasGated (Some gate) (with_wait events)
-gated_wait base gate r [] prepares commits gated = absurd gated
-gated_wait base gate r (e ∷ events) prepares commits gated =
-    let both = prepares gate commits (watch_of (e ∷ events)) gated in (both.0, one_more gate (e ∷ events) wait both.1)
+wait_at_gate : (base gate : GateOf) (r : PreparedWaitOf) (events : List GateEvent) → PreparesWait base r
+    → CommitsWait base r gate → HasGateEvents (Some base) events
+    → AnswersWait (watch_of events) (answer_in r) × HasGateEvents (Some gate) (with_wait events)
+wait_at_gate base gate r [] prepares commits has = absurd has
+wait_at_gate base gate r (e ∷ events) prepares commits has =
+    let both = prepares gate commits (watch_of (e ∷ events)) has in (both.0, one_more gate (e ∷ events) wait both.1)
 
 answer_is : (voice : Voice) (o : Origin) (moment epoch same_epoch : ℕ) (w : Watch) (a : Waited) → AnswersWait w a
     → epoch ≡ same_epoch → wait_given voice o moment epoch a ≡ wait_at voice o moment same_epoch w
@@ -96,24 +96,26 @@ module _ (before after : EntryOf) (r : PreparedWaitOf) (waited : HasWaited befor
     (prepares : PreparesWait waited.base r) (same : after
     ≡ record { rate = before.rate; source = before.source; epoch = before.epoch; gate = after.gate }) where
   both : (story : Story) → Keeps before story
-      → AnswersWait (watch_of story.gated) (answer_in r) × HasGated (Some waited.gate) (with_wait story.gated)
+      → AnswersWait (watch_of story.gate_events) (answer_in r)
+      × HasGateEvents (Some waited.gate) (with_wait story.gate_events)
   both story keeps =
-      gated_wait waited.base waited.gate r story.gated prepares waited.commits
-      (subst (λ g. HasGated g story.gated) waited.before keeps.gated)
+      wait_at_gate waited.base waited.gate r story.gate_events prepares waited.commits
+      (subst (λ g. HasGateEvents g story.gate_events) waited.before keeps.gate_events)
 
   keeps_wait : (story : Story) → Keeps before story → Keeps after (waited_on story)
   keeps_wait story keeps = subst (λ (k : EntryOf). Keeps k (waited_on story)) (sym same) (record {
     rate = keeps.rate;
     given = keeps.given;
     epoch = keeps.epoch;
-    gated = subst (λ g. HasGated g (with_wait story.gated)) (sym waited.now) (both story keeps).1;
+    gate_events = subst (λ g. HasGateEvents g (with_wait story.gate_events)) (sym waited.now) (both story keeps).1;
   })
 
   story_answers : (voice : Voice) (o : Origin) (moment epoch : ℕ) (story : Option Story) → epoch ≡ before.epoch
       → KeepsAny (Some before) story → wait_given voice o moment epoch (answer_in r) ≡ wait_in voice o moment story
   story_answers voice o moment epoch None is h = absurd h
   story_answers voice o moment epoch (Some story) is h =
-      answer_is voice o moment epoch story.epoch (watch_of story.gated) (answer_in r) (both story h).0 (is ∙ h.epoch)
+      answer_is voice o moment epoch story.epoch (watch_of story.gate_events) (answer_in r) (both story h).0
+      (is ∙ h.epoch)
 
 -- a wait that was committed at the source's gate
 pub wait_moves : (old new : IngressOf) (o : Origin) (moment : ℕ) (r : PreparedWaitOf) (i : Ingested)

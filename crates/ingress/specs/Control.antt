@@ -30,7 +30,12 @@ asks from (Other pt count body) = []
 abbrev pub heard_on : Heard → Story → Story
 heard_on heard story =
     if past_probation_in (standing_of story.given)
-    then record { rate = story.rate; given = story.given ++ Noted heard ∷ []; epoch = story.epoch; gated = story.gated }
+    then record {
+      rate = story.rate;
+      given = story.given ++ Noted heard ∷ [];
+      epoch = story.epoch;
+      gate_events = story.gate_events;
+    }
     else story
 
 -- the sources after a packet: a sender report is noted at the source that is known at this address under its SSRC

@@ -93,10 +93,15 @@ abbrev pub frames_from : Origin → (moment epoch : ℕ) → List WholeFrame →
 frames_from o moment epoch frames = map (frame_item o moment epoch) frames
 
 -- the packet comes to the gate; a restart loses the picture, and so does a gate that gives up
-abbrev pub gated_with : MediaPacket → NumberedPacket → (Place → Outcome) → Bool → Story → Course
-gated_with c p outcome anew story = record {
+abbrev pub gate_course : MediaPacket → NumberedPacket → (Place → Outcome) → Bool → Story → Course
+gate_course c p outcome anew story = record {
   outcome = outcome (place_of (gate_epoch story) p);
-  story = record { rate = story.rate; given = story.given; epoch = story.epoch; gated = story.gated ++ came p ∷ [] };
+  story = record {
+    rate = story.rate;
+    given = story.given;
+    epoch = story.epoch;
+    gate_events = story.gate_events ++ came p ∷ [];
+  };
   items = frames_from (origin_of c) c.moment story.epoch (newly (gate_epoch story) p);
   nacks = nacks_of (gate_epoch story) p;
   pli = anew || gives_up (gate_epoch story) p;
@@ -106,10 +111,10 @@ gated_with c p outcome anew story = record {
 -- gives
 abbrev pub video_course : MediaPacket → Verdict → Story → Course
 video_course c Probation story = verdict_only Probation story
-video_course c (Accepted ext) story = gated_with c (numbered ext (gate_packet c.packet)) (placed ext) false story
+video_course c (Accepted ext) story = gate_course c (numbered ext (gate_packet c.packet)) (placed ext) false story
 video_course c Jump story = verdict_only Jump story
 video_course c (Restarted ext) story =
-    gated_with c (numbered ext (gate_packet c.packet)) (λ place. outcomes.Restarted ext) true story
+    gate_course c (numbered ext (gate_packet c.packet)) (λ place. outcomes.Restarted ext) true story
 
 -- an audio packet of this format as an item; an empty payload makes none
 abbrev pub sound_of : Format → MediaPacket → List Input

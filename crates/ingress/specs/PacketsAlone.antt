@@ -8,7 +8,7 @@ use Rattle.ingress.specs.Sources.{Sources}
 
 -- Packets alone came to the source's gate.
 abbrev pub HasPacketsAlone : Story → Type 0
-HasPacketsAlone story = (packets : List NumberedPacket) × (story.gated ≡ map came packets)
+HasPacketsAlone story = (packets : List NumberedPacket) × (story.gate_events ≡ map came packets)
 
 -- Packets alone came to each source's gate.
 abbrev pub HavePacketsAlone : Sources → Type 0

@@ -21,8 +21,8 @@ reception_of story = record {
   rate = story.rate;
   jitter = jitter_in (block_on 0 0 story);
   frames = so_many (length (frames_of (gate_epoch story)));
-  gaps = so_many (watch_of story.gated).gaps;
-  waits = waits_in (watch_of story.gated);
+  gaps = so_many (watch_of story.gate_events).gaps;
+  waits = waits_in (watch_of story.gate_events);
 }
 
 -- how the source at an origin is received; none where it is not known

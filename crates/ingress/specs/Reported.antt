@@ -45,7 +45,12 @@ block_from moment known m s =
 abbrev pub renewed : Story → Story
 renewed story =
     if past_probation_in (standing_of story.given)
-    then record { rate = story.rate; given = story.given ++ Block ∷ []; epoch = story.epoch; gated = story.gated }
+    then record {
+      rate = story.rate;
+      given = story.given ++ Block ∷ [];
+      epoch = story.epoch;
+      gate_events = story.gate_events;
+    }
     else story
 
 -- a new interval of a source that sends from the address of a member, if there is the member

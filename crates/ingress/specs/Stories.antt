@@ -13,15 +13,15 @@ pub record Story : Type 0 where
   pub rate : ℕ
   pub given : List Step
   pub epoch : ℕ
-  pub gated : List GateEvent
+  pub gate_events : List GateEvent
 
 -- the story of a source of this clock rate of which nothing is known
 abbrev pub untold : ℕ → Story
-untold rate = record { rate = rate; given = []; epoch = 0; gated = [] }
+untold rate = record { rate = rate; given = []; epoch = 0; gate_events = [] }
 
 -- the epoch at a source's gate; without waits it is that of the packets alone
 abbrev pub gate_epoch : Story → Epoch
-gate_epoch story = (watch_of story.gated).epoch
+gate_epoch story = (watch_of story.gate_events).epoch
 
 -- the story of a source by which a packet of this clock rate is judged: the story at another rate is dropped, and the
 -- source begins anew (own)
@@ -69,5 +69,5 @@ validated_on story epochs m = record {
   rate = m.rate;
   given = story.given ++ Number m.seq ∷ arrival (validated story m.seq) m;
   epoch = if begins story m.seq then epochs + 1 else story.epoch;
-  gated = if begins story m.seq then [] else story.gated;
+  gate_events = if begins story m.seq then [] else story.gate_events;
 }

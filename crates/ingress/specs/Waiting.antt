@@ -33,7 +33,7 @@ with_wait (e ∷ events) = e ∷ (events ++ wait ∷ [])
 
 -- the story with one more wait at its gate
 abbrev pub waited_on : Story → Story
-waited_on story = record story { gated = with_wait story.gated }
+waited_on story = record story { gate_events = with_wait story.gate_events }
 
 -- the answer to a wait at a gate: a request for what is asked for again and for a picture where a number was given up,
 -- and the freed frames; as a datagram of an unknown source, it earns nothing
@@ -47,7 +47,7 @@ wait_at voice o moment epoch w = record {
 -- the answer to a wait of a source with this story; nothing comes of an unknown one
 abbrev pub wait_in : Voice → Origin → (moment : ℕ) → Option Story → Ingested
 wait_in voice o moment None = only Unknown
-wait_in voice o moment (Some story) = wait_at voice o moment story.epoch (watch_of story.gated)
+wait_in voice o moment (Some story) = wait_at voice o moment story.epoch (watch_of story.gate_events)
 
 -- a wait of a video source, and the sources after it, in the same order
 abbrev pub video_waited : Voice → Origin → (moment : ℕ) → Sources → Ingested × Sources

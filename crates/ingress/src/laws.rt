@@ -55,7 +55,7 @@ pub fn reports_begin_intervals()
 /// A law of sources without waits. Datagrams and reports bring packets alone to the gates, and then the epoch at a
 /// gate is that of these packets.
 pub fn gates_without_waits()
-    ensures epoch { (story : Story) (packets : List NumberedPacket) → story.gated ≡ map came packets
+    ensures epoch { (story : Story) (packets : List NumberedPacket) → story.gate_events ≡ map came packets
         → gate_epoch story ≡ epoch_of packets }
     ensures start { HavePacketsAlone no_sources }
     ensures datagrams { (voice : Voice) (s : Sources) (d : Datagram) → HavePacketsAlone s

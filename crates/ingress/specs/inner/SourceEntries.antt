@@ -22,10 +22,10 @@ pub record EntryOf : Type 0 where
   pub gate : Option GateOf
 
 -- this came to the gate, a packet at least
-abbrev pub HasGated : Option GateOf → List GateEvent → Type 0
-HasGated None events = events ≡ []
-HasGated (Some gate) [] = ⊥
-HasGated (Some gate) (e ∷ events) = Watches gate (watch_of (e ∷ events))
+abbrev pub HasGateEvents : Option GateOf → List GateEvent → Type 0
+HasGateEvents None events = events ≡ []
+HasGateEvents (Some gate) [] = ⊥
+HasGateEvents (Some gate) (e ∷ events) = Watches gate (watch_of (e ∷ events))
 
 -- the source was given this
 abbrev pub HasGiven : Option SourceOf → List Step → Type 0
@@ -37,7 +37,7 @@ pub record Keeps (k : EntryOf) (story : Story) : Type 0 where
   pub rate : k.rate ≡ story.rate
   pub given : IsGiven k.source story.given
   pub epoch : k.epoch ≡ story.epoch
-  pub gated : HasGated k.gate story.gated
+  pub gate_events : HasGateEvents k.gate story.gate_events
 
 -- a clock rate, a source with a packet, the verdict on it, and the epoch before it
 pub record ValidatedOf : Type 0 where
@@ -68,9 +68,9 @@ base_of gate a = elim a.fresh [ None ↦ gate | Some fresh ↦ Some fresh ]
 -- Whatever came to the gate: once it is committed, one more packet is answered, and came to the gate too.
 pub record Admits (gate : Option GateOf) (p : NumberedPacket) (a : AdmissionOf) : Type 0 where
   pub ready : is_some (base_of gate a) ≡ true
-  pub after : (events : List GateEvent) (old new : GateOf) → HasGated gate events → base_of gate a ≡ Some old
+  pub after : (events : List GateEvent) (old new : GateOf) → HasGateEvents gate events → base_of gate a ≡ Some old
       → CommitsPacket old a.prepared new
-      → Answers (watch_of events).epoch p a.prepared.prepared.answer × HasGated (Some new) (events ++ came p ∷ [])
+      → Answers (watch_of events).epoch p a.prepared.prepared.answer × HasGateEvents (Some new) (events ++ came p ∷ [])
 
 -- what was ready was committed
 pub record CommitsOne (old : Option GateOf) (a : AdmissionOf) (new : Option GateOf) : Type 0 where

@@ -11,7 +11,8 @@ use Rattle.ingress.specs.Taking.{sourced}
 use Rattle.ingress.specs.inner.MediaPackets.{incoming_of}
 use Rattle.ingress.specs.inner.SourceEntries.{ValidatedOf}
 use Rattle.ingress.specs.inner.Moves.{Advances}
-use Rattle.ingress.proofs.Happens.{Gives, named_so, when_spent, when_verdict_only, when_gated, gates_so, video_gated}
+use Rattle.ingress.proofs.Happens.{Gives, named_so, when_spent, when_verdict_only, when_at_gate, gates_so}
+use Rattle.ingress.proofs.Happens.{video_at_gate}
 use Rattle.ingress.proofs.Happens.{video_verdict_only, range_of}
 use Rattle.ingress.proofs.Results.{with_fact, from_fact}
 use Rattle.ingress.proofs.AboutLemmas.{about_only}
@@ -62,9 +63,9 @@ returns-in-Some-clause-moves g c =
     let range : IsExt ext = range_of j.verdict ext c.validated-validated.ensures.validates.range some in
     let same : to_z w64 (of_z w64 ext) ≡ ext = grind (arith, to_z-of_z, range) in
     from_fact c.pass_gate.result c.pass_gate.ensures.gates (λ ingest gates voice s right asker knows.
-    when_gated video_rate (video_course incoming) incoming old j validates s knows voice _ c.pass_gate.new.self
+    when_at_gate video_rate (video_course incoming) incoming old j validates s knows voice _ c.pass_gate.new.self
     (numbered ext (gate_packet incoming.packet)) right asker
-    (sym c.is_spent.ensures ∙ c.if-is_spent.false) (λ st. video_gated incoming j.verdict ext st some)
+    (sym c.is_spent.ensures ∙ c.if-is_spent.false) (λ st. video_at_gate incoming j.verdict ext st some)
     (gates_so _ _ _ _ _ _ _ _ _ _ c.key_of-key.ensures same gates))
 
 pub returns-then-is_spent-clause-about : goal.returns-then-is_spent-clause-about
