@@ -132,8 +132,8 @@ impl<A: Allocator + Copy> PathTable<A> {
         self.cache.peek(&stream_at(from, ssrc)).copied()
     }
 
-    /// Keeps what was reported of a stream.
-    fn keep(&mut self, stream: Sender, path: PathReport)
+    /// Puts what was reported of a stream before what was reported of others.
+    fn put_path(&mut self, stream: Sender, path: PathReport)
         ensures { IsKept most_paths stream path self.old self.new }
     {
         match self.cache.put(stream, path) {
@@ -151,7 +151,7 @@ impl<A: Allocator + Copy> PathTable<A> {
         };
         let stream = stream_at(from, block.ssrc);
         let path = PathReport::of(moment, rate, block);
-        self.keep(stream, path);
+        self.put_path(stream, path);
     }
 
     /// Notes blocks, one after another.

@@ -59,8 +59,8 @@ impl<A: Allocator + Copy> Model for Stream<A> {
     ghost invariant = { λ s. IsKept s.window s.next };
 }
 
-/// Keeps packets that were sent. The window keeps the last 512.
-fn keep<A: Allocator + Copy>(window: &mut Window<A>, entries: Vec<Entry<A>, A>)
+/// Pushes packets that were sent. The window keeps the last 512.
+fn push_sent<A: Allocator + Copy>(window: &mut Window<A>, entries: Vec<Entry<A>, A>)
     requires few { length window.old ≤ window_size }
     requires goes_on { MayGoOn window.old entries.items }
     ensures { window.new ≡ latest window_size (window.old ++ entries.items) }
@@ -192,7 +192,7 @@ impl<A: Allocator + Copy> Stream<A> {
             .wrapping_add((entries.len() % 4_294_967_296) as u32);
         self.octets = self.octets.wrapping_add(octets);
         self.last = Some(last);
-        keep(&mut self.window, entries);
+        push_sent(&mut self.window, entries);
     }
 
     /// Prepares and commits the next frame. On out of memory, the only error, the stream stays as it was.

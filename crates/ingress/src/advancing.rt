@@ -83,9 +83,9 @@ impl<A: Allocator + Copy> Ingress<A> {
         validated.epoch
     }
 
-    /// Keeps the next state of a source. Gives the frames that the packet frees.
+    /// Puts the next state of a source in its place. Gives the frames that the packet frees.
     #[inline(always)]
-    fn keep(
+    fn put_next(
         &mut self,
         alloc: A,
         key: OriginKey,
@@ -100,7 +100,7 @@ impl<A: Allocator + Copy> Ingress<A> {
         ensures asker { self.new.asker ≡ self.old.asker }
     {
         let begins = next.begins;
-        let frames = self.known.keep(alloc, key, next)?;
+        let frames = self.known.put_next(alloc, key, next)?;
         self.epochs = counted(self.epochs, begins);
         Ok(frames)
     }
@@ -131,7 +131,7 @@ impl<A: Allocator + Copy> Ingress<A> {
             begins: validated.begins,
             admission,
         };
-        self.keep(alloc, key, next)
+        self.put_next(alloc, key, next)
     }
 
     /// Keeps a source whose packet asks for nothing. Answers the verdict, with what is heard of the packet.

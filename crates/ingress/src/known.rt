@@ -128,10 +128,10 @@ impl<A: Allocator + Copy> Known<A> {
         Ok(frames)
     }
 
-    /// Keeps the next state of a source, as the most recently used. Gives the frames that the packet frees. Only an
-    /// unknown source takes memory.
+    /// Puts the next state of a source in its place, as the most recently used. Gives the frames that the packet frees.
+    /// Only an unknown source takes memory.
     #[inline(always)]
-    pub(crate) fn keep(
+    pub(crate) fn put_next(
         &mut self,
         alloc: A,
         key: OriginKey,

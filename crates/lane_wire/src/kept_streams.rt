@@ -129,8 +129,8 @@ fn make_space(streams: &mut KeptStreams)
     }
 }
 
-/// Keeps a stream behind the others. There is memory for it.
-fn keep(streams: &mut KeptStreams, ssrc: u32, kept: KeptStream)
+/// Inserts a stream behind the others. There is memory for it.
+fn insert_last(streams: &mut KeptStreams, ssrc: u32, kept: KeptStream)
     requires reserved { 0 < spare streams.old }
     requires absent { lookup (nat_eq ssrc) streams.old.entries ≡ None }
     ensures { streams.new.entries ≡ streams.old.entries ++ (ssrc, kept) ∷ [] }
@@ -155,6 +155,6 @@ pub(crate) fn begin(
 {
     streams.reserve(1)?;
     make_space(streams);
-    keep(streams, ssrc, kept);
+    insert_last(streams, ssrc, kept);
     Ok(())
 }

@@ -168,8 +168,8 @@ impl<W: LaneWire + Drop> WireSink<W> {
         self.taken.note(egress);
     }
 
-    /// Keeps a note for its stream, and notes that it was taken. Nothing is sent.
-    fn keep<R: Wait>(&mut self, rt: &R, note: &Egress)
+    /// Counts a note for its stream, and notes that it was taken. Nothing is sent.
+    fn count_note<R: Wait>(&mut self, rt: &R, note: &Egress)
         requires { datagrams_of note.now ≡ [] }
         ensures sent { WereSent (datagrams_of note.now)
             (so_far (W.steps self.old.wire) self.old.counts self.old.is_stuck)
@@ -201,7 +201,7 @@ impl<W: LaneWire + Drop> Sink for WireSink<W> {
     {
         match &egress {
             Egress::Media { .. } | Egress::Control { .. } => self.send(rt, &egress),
-            Egress::Note { .. } => self.keep(rt, &egress),
+            Egress::Note { .. } => self.count_note(rt, &egress),
         }
     }
 

@@ -71,8 +71,8 @@ impl<A: Allocator + Copy> Script<A> {
         })
     }
 
-    /// Takes an octet that isn't an LF.
-    fn keep(&mut self, octet: u8) -> Result<(), RunFault>
+    /// Takes an octet that isn't an LF: it extends the line.
+    fn extend_line(&mut self, octet: u8) -> Result<(), RunFault>
         requires { octet ≢ 10 }
         ensures step { Keeps self.old (octet ∷ []) self.new result }
         ensures line { self.new.line ≡ self.old.line }
@@ -131,7 +131,7 @@ impl<A: Allocator + Copy> Script<A> {
         if octet == b'\n' {
             self.end_line(alloc, writer)
         } else {
-            self.keep(octet)
+            self.extend_line(octet)
         }
     }
 

@@ -116,8 +116,8 @@ impl ScriptWire {
 }
 
 impl ScriptWire {
-    /// Keeps a datagram of two parts. Returns whether it is sent.
-    fn keep(&mut self, to: Address, first: &[u8], rest: &[u8]) -> bool
+    /// Notes that a datagram of two parts was tried. Returns whether it is sent.
+    fn note_tried(&mut self, to: Address, first: &[u8], rest: &[u8]) -> bool
         ensures { self.new.log ≡ self.old.log }
     {
         if let Ok(mut octets) = Vec::from_slice(self.alloc, first) {
@@ -137,13 +137,13 @@ impl Wire for ScriptWire {
     ghost attempts = { λ wire. Some (tried_list wire.log) };
 
     fn send(&mut self, to: Address, octets: &[u8]) -> bool {
-        let sent = self.keep(to, &[], octets);
+        let sent = self.note_tried(to, &[], octets);
         self.log.note(to, &[], octets, sent);
         sent
     }
 
     fn send_parts(&mut self, to: Address, first: &[u8], rest: &[u8]) -> bool {
-        let sent = self.keep(to, first, rest);
+        let sent = self.note_tried(to, first, rest);
         self.log.note(to, first, rest, sent);
         sent
     }

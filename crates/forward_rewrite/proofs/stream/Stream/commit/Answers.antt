@@ -4,8 +4,8 @@ use Rattle.forward_rewrite.specs.inner.Row.{Follows}
 use Rattle.forward_rewrite.proofs.Rows.{may_go_on, kept-lead}
 use Rattle.forward_rewrite.proofs.stream.Stream.commit.Goals as goal
 
-pub keep-requires-clause-goes_on : goal.keep-requires-clause-goes_on
-keep-requires-clause-goes_on g c =
+pub push_sent-requires-clause-goes_on : goal.push_sent-requires-clause-goes_on
+push_sent-requires-clause-goes_on g c =
     let first : c.prepared.inside.first ≡ c.self.inside.next =
     ap (λ (p : PreparedOf). p.first) c.prepared.view_is
     ∙ c.requires
@@ -19,6 +19,6 @@ invariant_of-self g c =
     ap (λ (p : PreparedOf). p.first) c.prepared.view_is
     ∙ c.requires
     ∙ sym (ap (λ (s : StreamOf). s.next) c.self.view_is) in
-    kept-lead c.self.inside.window c.self.inside.window c.keep.new.window c.prepared.inside.entries.items
+    kept-lead c.self.inside.window c.self.inside.window c.push_sent.new.window c.prepared.inside.entries.items
     c.self.inside.next c.prepared.inside.first c.prepared.inside.next c.self.invariant refl first c.prepared.invariant
-    c.keep.ensures
+    c.push_sent.ensures

@@ -7,4 +7,4 @@ returns-then-octet-eq10-clause-step g c = rw c.if-octet-eq10.true c.end_line.ens
 
 pub returns-else-octet-eq10-clause-step : goal.returns-else-octet-eq10-clause-step
 returns-else-octet-eq10-clause-step g c = λ bridge tail heard stands.
-    ([], Appends-none _, c.keep.ensures.step bridge tail heard stands)
+    ([], Appends-none _, c.extend_line.ensures.step bridge tail heard stands)

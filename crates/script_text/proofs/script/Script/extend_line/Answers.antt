@@ -1,6 +1,6 @@
 use Rattle.std.proofs.Common.{◌∷◌, [], ◌++◌, ◌≡◌, refl, sym}
 use Rattle.script_text.proofs.StepLemmas.{too_long, kept_goes, kept_heard, none_ended, pushed}
-use Rattle.script_text.proofs.script.Script.keep.Goals as goal
+use Rattle.script_text.proofs.script.Script.extend_line.Goals as goal
 
 pub returns-then-is_past-clause-step : goal.returns-then-is_past-clause-step
 returns-then-is_past-clause-step g c =

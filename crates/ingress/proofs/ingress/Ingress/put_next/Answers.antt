@@ -2,7 +2,7 @@ use Rattle.std.proofs.Common.{◌∙◌, ◌+◌, ap, subst, if◌then◌else◌
 use Rattle.ingress.specs.inner.SourceEntries.{NextOf, Becomes}
 use Rattle.ingress.specs.inner.Holding.{IngressOf, kept_for}
 use Rattle.ingress.proofs.Moved.{moved}
-use Rattle.ingress.proofs.ingress.Ingress.keep.Goals as goal
+use Rattle.ingress.proofs.ingress.Ingress.put_next.Goals as goal
 
 pub returns-clause-kept : goal.returns-clause-kept
 returns-clause-kept g c =

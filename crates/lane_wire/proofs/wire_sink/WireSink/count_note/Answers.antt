@@ -4,7 +4,7 @@ use Rattle.lane_wire.specs.Logs.{taken_list}
 use Rattle.lane_wire.specs.Sendings.{so_far, WereSent}
 use Rattle.lane_wire.specs.Sinks.{SinkOf}
 use Rattle.lane_wire.proofs.SentLemmas.{sent_none, sent_more}
-use Rattle.lane_wire.proofs.wire_sink.WireSink.keep.Goals as goal
+use Rattle.lane_wire.proofs.wire_sink.WireSink.count_note.Goals as goal
 
 pub invariant_of-self : goal.invariant_of-self
 invariant_of-self g c =

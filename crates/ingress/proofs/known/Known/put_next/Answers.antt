@@ -4,7 +4,7 @@ use Rattle.ingress.specs.inner.SourceEntries.{base_of, gate_for, kept_by, Become
 use Rattle.ingress.specs.inner.Holding.{same_key, kept_at, put_first}
 use Rattle.ingress.specs.Sources.{most_known}
 use Rattle.ingress.proofs.Entries.{set_promoted}
-use Rattle.ingress.proofs.known.Known.keep.Goals as goal
+use Rattle.ingress.proofs.known.Known.put_next.Goals as goal
 
 -- src/known.rt:109:30
 pub become_next-requires : goal.become_next-requires

@@ -3,7 +3,7 @@ use Rattle.std.proofs.Common.{◌≡◌, ◌≤◌, ◌++◌, length}
 use Rattle.std.specs.Vec.Iter.{into_iter_items}
 use Rattle.retransmit.specs.Window.{window_size, latest}
 use Rattle.forward_rewrite.specs.inner.Row.{MayGoOn}
-use Rattle.forward_rewrite.proofs.stream.keep.Given as goal
+use Rattle.forward_rewrite.proofs.stream.push_sent.Given as goal
 
 abbrev pub invariant-loop-entry : goal.invariant-loop-entry
 invariant-loop-entry g l =

@@ -5,7 +5,7 @@ use Rattle.bridge_stats.specs.declared.sender.Sender.{Sender}
 use Rattle.bridge_stats.specs.Senders.{same_sender}
 use Rattle.bridge_stats.specs.Tables.{TableOf, with_kept}
 use Rattle.bridge_stats.specs.Paths.{most_paths}
-use Rattle.bridge_stats.proofs.path_table.PathTable.keep.Goals as goal
+use Rattle.bridge_stats.proofs.path_table.PathTable.put_path.Goals as goal
 
 pub returns-in-Ok : goal.returns-in-Ok
 returns-in-Ok g c =

@@ -1,6 +1,6 @@
 use Rattle.std.proofs.Common.{◌∙◌, nat_eq}
 use Rattle.indexmap.proofs.CallerLemmas.{insert_entry-new}
-use Rattle.lane_wire.proofs.kept_streams.keep.Goals as goal
+use Rattle.lane_wire.proofs.kept_streams.insert_last.Goals as goal
 
 pub returns : goal.returns
 returns c =

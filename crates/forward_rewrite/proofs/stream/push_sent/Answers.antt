@@ -3,7 +3,7 @@ use Rattle.std.specs.Vec.Iter.{into_iter_items}
 use Rattle.std.proofs.lemmas.List.{nil_from_length}
 use Rattle.retransmit.specs.Window.{window_size, latest}
 use Rattle.forward_rewrite.proofs.Rows.{may_follow_first, goes_on_more, few_more, kept_more, all_kept}
-use Rattle.forward_rewrite.proofs.stream.keep.Goals as goal
+use Rattle.forward_rewrite.proofs.stream.push_sent.Goals as goal
 
 pub push-requires : goal.push-requires
 push-requires g c =
