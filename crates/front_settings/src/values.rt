@@ -35,7 +35,7 @@ fn loopback(value: &Value) -> Option<Address>
     ensures { result ≡ loopback_in (view value.now) }
 {
     match address(value) {
-        Some(address) if address.ip[0] == 127 => Some(address),
+        Some(address) if address.octets()[0] == 127 => Some(address),
         _ => None,
     }
 }
