@@ -1,5 +1,5 @@
 -- The lease of a desk (own).
-use Rattle.std.specs.Prelude.{ℕ, ◌+◌, ◌-◌, ◌/◌, min, Bool, true, not, ◌&&◌, ◌||◌, nat_le, List, [], ◌∷◌, codes}
+use Rattle.std.specs.Prelude.{ℕ, ◌+◌, ◌-◌, ◌/◌, min, max, Bool, true, not, ◌&&◌, ◌||◌, nat_le, List, [], ◌∷◌, codes}
 use Rattle.std.specs.Prelude.{Option, Some, None}
 use Rattle.std.specs.Str.{bytes_eq}
 use Rattle.desk_edit.specs.Told.{Told}
@@ -14,6 +14,15 @@ use Rattle.operator_lines.specs.declared.line_desk.LeaseAsk.TheVariants.{Tell, O
 pub record LeaseOf : Type 0 where
   pub until : ℕ
   pub holder : List ℕ
+
+-- the lease of a desk, if it has one, and the latest moment at which it was looked at, in nanoseconds
+pub record DeskLeaseOf : Type 0 where
+  pub held : Option LeaseOf
+  pub latest : ℕ
+
+-- it is looked at, at a moment of a connection: that of another one may have been later
+abbrev pub looked_at : (moment : ℕ) → DeskLeaseOf → DeskLeaseOf
+looked_at moment lease = record lease { latest = max moment lease.latest }
 
 -- the millisecond of a moment, in nanoseconds
 abbrev pub millisecond_of : ℕ → ℕ

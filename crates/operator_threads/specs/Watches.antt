@@ -53,18 +53,20 @@ pub record IsClosed (old new : SittingOf) (line said : List ℕ) : Type 0 where
   pub text : said ≡ closed_line version
   pub noted : new ≡ record old { trouble = Some (record { line = line; wrong = Closed }) }
 
--- the desk has some lease, which says whether it takes the call: then that is answered, and else refused
+-- the desk has some lease, which says whether it takes the call at this moment or a later one: then that is answered,
+-- and else refused
 abbrev pub SeatCalls :
     Desk → Book → (moment : ℕ) → (old new : SittingOf) → (line : List ℕ) → CallOf → (said : List ℕ) → Type 0
 SeatCalls start publisher moment old new line call said =
-    (lease : Option LeaseOf)
-    × MatchBool (takes_calls lease moment (shown_name old.name))
+    (at : ℕ) × (moment ≤ at) × (lease : Option LeaseOf)
+    × MatchBool (takes_calls lease at (shown_name old.name))
     (AnswersCall start publisher moment old new line call said) (IsClosed old new line said)
 
--- the desk's lease changes as it is asked, and what is left of it is told
+-- the desk's lease changes as it is asked, and what is left of it is told, as of this moment or a later one
 abbrev pub TellsLease : (moment : ℕ) → (name : List ℕ) → LeaseAsk → (said : List ℕ) → Type 0
 TellsLease moment name ask said =
-    (lease : Option LeaseOf) × (said ≡ lease_line (lease_after ask moment (shown_name name) lease) moment)
+    (at : ℕ) × (moment ≤ at) × (lease : Option LeaseOf)
+    × (said ≡ lease_line (lease_after ask at (shown_name name) lease) at)
 
 -- A watch begins behind all calls of a legal log, the known ones among them, and their number is told.
 pub record BeginsWatch (start : Desk) (is_named : Bool) (old new : SittingOf) (said : List ℕ) : Type 0 where

@@ -14,6 +14,7 @@ use operator_desk::DeskBrand;
 use operator_lines::{LeaseAsk, LineDesk, Trouble, View, Wrong};
 use published_desk::Notice;
 use std::alloc::{AllocError, Global};
+use std::sync::atomic::Ordering;
 use std::sync::{MutexGuard, Wait};
 
 /// An operator at a shared desk. It is not `Drop`, so that the seat is given back: end it by [`AtDesk::leave`].
@@ -136,7 +137,8 @@ impl<'b, 'a, H: DeskBrand, R: Wait, F: Wake> AtDesk<'b, 'a, H, R, F> {
 
     /// Ends the bridge, whose desk has no answer. What is returned ends the connection.
     pub(crate) fn give_up(&self) -> AllocError {
-        self.operators.fail();
+        self.operators.failed.store(true, Ordering::SeqCst);
+        self.operators.stop();
         self.front.wake();
         AllocError
     }
@@ -178,10 +180,10 @@ impl<'b, 'a, H: DeskBrand, R: Wait, F: Wake> LineDesk for AtDesk<'b, 'a, H, R, F
         out: &mut Vec<u8>,
     ) -> Result<(), AllocError> {
         let (operators, rt) = (self.operators, self.rt);
-        // It is locked until the call is answered. The moment is older than the lock: a call that waited for it is
-        // judged as of then.
-        let lease = operators.lease.lock(rt);
-        let answer = if lease.takes_calls(moment, self.shown_name()) {
+        // It is locked until the call is answered, so that none is accepted behind the answer that it has ended.
+        let mut lease = operators.lease.lock(rt);
+        lease.look(moment);
+        let answer = if lease.takes_calls(self.shown_name()) {
             self.give_call(alloc, moment, line, call, out)
         } else {
             self.refuse_call(alloc, line, out)

@@ -6,6 +6,7 @@ ghost use Rattle.operator_threads.specs.Lease.{
   is_holder,
   lease_after,
   lease_line,
+  looked_at,
   millisecond_of,
   takes_calls,
 };
@@ -58,48 +59,57 @@ impl Held {
     }
 }
 
-/// The lease of a desk, if it has one. Contracts see that one.
+/// The lease of a desk, if it has one, and the latest moment at which it was looked at. Contracts see both.
+///
+/// Connections look at it in the order of its lock, which isn't that of their moments. It is judged by the latest one,
+/// so that a lease which was told as ended stays ended.
 #[derive(Drop)]
 pub(crate) struct Lease {
     held: Option<Held>,
+    /// In nanoseconds.
+    latest: u64,
 }
 
 impl Model for Lease {
-    ghost use Rattle.std.specs.Prelude.{Option};
-    ghost use Rattle.operator_threads.specs.Lease.{LeaseOf};
+    ghost use Rattle.operator_threads.specs.Lease.{DeskLeaseOf};
 
-    ghost Value = { Option LeaseOf };
+    ghost Value = { DeskLeaseOf };
 
-    ghost view = { λ l. l.held };
+    ghost view = { λ l. record { held = l.held; latest = l.latest } };
 }
 
 impl Lease {
     /// There is none.
     pub fn none() -> Self
-        ensures { result ≡ None }
+        ensures { result ≡ record { held = None; latest = 0 } }
     {
-        Self { held: None }
+        Self {
+            held: None,
+            latest: 0,
+        }
+    }
+
+    /// It is looked at, at a moment in nanoseconds.
+    pub fn look(&mut self, moment: u64)
+        ensures { self.new ≡ looked_at moment self.old }
+    {
+        self.latest = moment.max(self.latest);
     }
 
     /// Whether the desk takes the calls of a connection that is told by this name.
-    pub fn takes_calls(&self, moment: u64, name: &[u8]) -> bool
-        ensures { result ≡ takes_calls self.now moment name.now }
+    pub fn takes_calls(&self, name: &[u8]) -> bool
+        ensures { result ≡ takes_calls self.now.held self.now.latest name.now }
     {
         match &self.held {
             None => true,
-            Some(held) => !held.has_ended(moment) || held.is_holder(name),
+            Some(held) => !held.has_ended(self.latest) || held.is_holder(name),
         }
     }
 
     /// What a connection that is told by this name asks. An `Err` changes nothing.
-    pub fn change(
-        &mut self,
-        alloc: Global,
-        moment: u64,
-        name: &[u8],
-        ask: LeaseAsk,
-    ) -> Result<(), AllocError>
-        ensures ok { OnOk result (self.new ≡ lease_after ask moment name.now self.old) }
+    pub fn change(&mut self, alloc: Global, name: &[u8], ask: LeaseAsk) -> Result<(), AllocError>
+        ensures ok { OnOk result (self.new
+            ≡ record self.old { held = lease_after ask self.old.latest name.now self.old.held }) }
         ensures err { OnErr result (self.new ≡ self.old) }
     {
         match ask {
@@ -107,7 +117,7 @@ impl Lease {
             LeaseAsk::Off => self.held = None,
             LeaseAsk::Lasts { milliseconds } => {
                 let holder = Vec::from_slice(alloc, name)?;
-                let until = millisecond_of(moment).saturating_add(milliseconds);
+                let until = millisecond_of(self.latest).saturating_add(milliseconds);
                 self.held = Some(Held { until, holder });
             }
         }
@@ -115,14 +125,15 @@ impl Lease {
     }
 
     /// Appends the line of what is left of it. An `Err` appends nothing.
-    pub fn print(&self, moment: u64, out: &mut Vec<u8>) -> Result<(), AllocError>
-        ensures ok { OnOk result (out.new.items ≡ out.old.items ++ lease_line self.now moment) }
+    pub fn print(&self, out: &mut Vec<u8>) -> Result<(), AllocError>
+        ensures ok { OnOk result (out.new.items
+            ≡ out.old.items ++ lease_line self.now.held self.now.latest) }
         ensures err { OnErr result (out.new.items ≡ out.old.items) }
     {
         match &self.held {
             None => print_line(b"lease", &[Word::Fixed(b"off")], out),
             Some(held) => {
-                let left = held.until.saturating_sub(millisecond_of(moment));
+                let left = held.until.saturating_sub(millisecond_of(self.latest));
                 let words = [Word::Value(Value::U64(left)), Word::Fixed(&held.holder)];
                 print_line(b"lease", &words, out)
             }

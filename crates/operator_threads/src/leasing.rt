@@ -118,8 +118,9 @@ impl<'b, 'a, H: DeskBrand, R: Wait, F: Wake> AtDesk<'b, 'a, H, R, F> {
         ensures err { OnErr result (out.new.items ≡ out.old.items) }
     {
         let mut lease = self.operators.lease.lock(self.rt);
-        let answer = match lease.change(alloc, moment, self.shown_name(), ask) {
-            Ok(()) => lease.print(moment, out),
+        lease.look(moment);
+        let answer = match lease.change(alloc, self.shown_name(), ask) {
+            Ok(()) => lease.print(out),
             Err(error) => Err(error),
         };
         MutexGuard::unlock(lease);

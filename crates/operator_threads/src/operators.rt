@@ -37,7 +37,7 @@ pub struct Operators<'a, H: DeskBrand> {
     /// The same for the calls in force.
     pub(crate) printed_past: Mutex<PrintedPast<'a, H>>,
     pub(crate) stopped: AtomicBool,
-    failed: AtomicBool,
+    pub(crate) failed: AtomicBool,
 }
 
 impl<'a, H: DeskBrand> Operators<'a, H> {
@@ -179,12 +179,6 @@ impl<'a, H: DeskBrand> Operators<'a, H> {
     /// Whether the bridge is stopped.
     pub fn has_stopped(&self) -> bool {
         self.stopped.load(Ordering::SeqCst)
-    }
-
-    /// Stops the bridge, whose desk had no answer for one of its own seats.
-    pub(crate) fn fail(&self) {
-        self.failed.store(true, Ordering::SeqCst);
-        self.stop();
     }
 
     /// Whether the desk had no answer for one of its own seats, which has stopped the bridge.
