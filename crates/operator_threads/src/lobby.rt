@@ -1,7 +1,7 @@
 //! The connections whose first line has not come.
 
-ghost use Rattle.std.specs.Prelude.{◌≡◌, ◌+◌, ◌≤◌, ◌<◌, IfOk, IfSome};
-ghost use Rattle.operator_threads.specs.Lobby.{most_guests};
+ghost use Rattle.std.specs.Prelude.{◌≡◌, ◌+◌, ◌≤◌, ◌<◌, ◌++◌, IfOk, OnOk, IfSome};
+ghost use Rattle.operator_threads.specs.Lobby.{most_guests, has_been_silent, IsBegunBy, fate_of, begun_by};
 
 use mio::net::TcpStream;
 use operator_connection::{Came, meaning};
@@ -36,7 +36,7 @@ pub struct Guest {
 
 /// What becomes of a connection that waits for its first line.
 #[derive(Clone, Copy, Debug, PartialEq, Eq)]
-enum Fate {
+pub(crate) enum Fate {
     /// It waits on.
     Waits,
     /// It is to be closed.
@@ -45,17 +45,39 @@ enum Fate {
     Good,
 }
 
+/// Whether nothing has come for too long, since a moment in nanoseconds.
+fn has_been_silent(since: u64, now: u64) -> bool
+    ensures { result ≡ has_been_silent since now }
+{
+    now.saturating_sub(since) >= LONGEST_SILENCE
+}
+
 impl Guest {
-    /// Keeps what has come, and looks how it begins. A first line that is no good one is answered.
+    /// Keeps what has come, and looks how it begins. What a first line is answered that is no good one is `text` then.
     fn hear(
         &mut self,
         alloc: Global,
         octets: &[u8],
         text: &mut Vec<u8>,
-    ) -> Result<Fate, AllocError> {
+    ) -> Result<Beginning, AllocError>
+        ensures kept { OnOk result (self.new.incoming ≡ self.old.incoming ++ octets.now) }
+        ensures begins { IfOk result (λ begins. IsBegunBy self.new.incoming begins text.new.items) }
+    {
         self.incoming.append(octets)?;
         text.clear();
-        Ok(match greet_octets(alloc, self.incoming.next(), text)? {
+        greet_octets(alloc, self.incoming.next(), text)
+    }
+
+    /// Looks what becomes of it, now that these octets have come. A first line that is no good one is answered.
+    fn judge(
+        &mut self,
+        alloc: Global,
+        octets: &[u8],
+        text: &mut Vec<u8>,
+    ) -> Result<Fate, AllocError>
+        ensures { IfOk result (λ fate. fate ≡ fate_of (begun_by self.new.incoming)) }
+    {
+        Ok(match self.hear(alloc, octets, text)? {
             Beginning::Waits => Fate::Waits,
             Beginning::Good => Fate::Good,
             Beginning::Faulty => {
@@ -71,14 +93,14 @@ impl Guest {
         match meaning(&self.stream.read(chunk)).at_most(chunk.len()) {
             Came::Octets(count) => {
                 self.since = now;
-                match self.hear(alloc, &chunk[..count], text) {
+                match self.judge(alloc, &chunk[..count], text) {
                     Ok(fate) => fate,
                     Err(_) => Fate::Over,
                 }
             }
             Came::End | Came::Failed => Fate::Over,
             Came::Later | Came::Again => {
-                if now.saturating_sub(self.since) >= LONGEST_SILENCE {
+                if has_been_silent(self.since, now) {
                     Fate::Over
                 } else {
                     Fate::Waits

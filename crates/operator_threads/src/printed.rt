@@ -1,8 +1,8 @@
 //! The rows as they were printed last.
 
-ghost use Rattle.std.specs.Prelude.{◌≡◌, ◌++◌, [], IfOk, OnOk, OnErr};
+ghost use Rattle.std.specs.Prelude.{◌≡◌, ◌++◌, ℕ, [], IfOk, OnOk, OnErr};
 ghost use Rattle.std.specs.Bool.{OnTrue};
-ghost use Rattle.operator_threads.specs.Told.{SeatShows};
+ghost use Rattle.operator_threads.specs.Told.{SeatShows, ShowsAt};
 
 use desk_text::print_rows;
 use operator_desk::{DeskBrand, SharedDesk};
@@ -77,7 +77,9 @@ impl<H: DeskBrand> Printed<H> {
         rt: &R,
         alloc: Global,
         desk: &SharedDesk<'_, H>,
-    ) -> Result<(), AllocError> {
+    ) -> Result<(), AllocError>
+        ensures { OnOk result ((version : ℕ) × ShowsAt H.start version self.new) }
+    {
         let (version, rows) = desk.rows(rt, alloc)?;
         self.version = None;
         self.text.clear();

@@ -2,7 +2,8 @@
 
 ghost use Rattle.std.specs.Prelude.{◌≡◌, ◌++◌, [], IfOk, OnOk, OnErr};
 ghost use Rattle.std.specs.Bool.{OnTrue};
-ghost use Rattle.operator_threads.specs.Told.{SeatTellsPast};
+ghost use Rattle.operator_threads.specs.Told.{SeatTellsPast, TellsPast};
+ghost use Rattle.operator_desk.specs.PastCalls.{PastOf};
 
 use desk_text::print_history;
 use operator_desk::{DeskBrand, Past, Seat, SharedDesk};
@@ -84,7 +85,9 @@ impl<'a, H: DeskBrand> PrintedPast<'a, H> {
         alloc: Global,
         desk: &SharedDesk<'a, H>,
         most: u64,
-    ) -> Result<(), AllocError> {
+    ) -> Result<(), AllocError>
+        ensures { OnOk result ((past : PastOf) × TellsPast H.start most past self.new) }
+    {
         let past = desk.past(rt, alloc, most as usize)?;
         self.past = None;
         self.text.clear();
