@@ -26,6 +26,19 @@ FLAGS = [
 # itself, to nobody.
 SILENT = {"PULSE_SERVER": "none"}
 
+# Gives scripts the names that the page's modules export, as they are at each look. `set` of the page assigns them.
+NAMES = """(async () => {
+  if (globalThis.hasNames || document.readyState !== "complete") return;
+  const all = await Promise.all([...document.querySelectorAll("script[type=module]")].map(({ src }) => import(src)));
+  const set = all.find((one) => one.set)?.set ?? {};
+  for (const one of all) for (const name of Object.keys(one)) {
+    Object.defineProperty(globalThis, name, { configurable: true, get: () => one[name], set: set[name] });
+  }
+  globalThis.hasNames = all.length > 0;
+})()"""
+# What a script has that asks whether the names are there.
+ASKS = "typeof desk"
+
 
 class Browser:
     """Chromium with a profile of its own, and one tab."""
@@ -121,12 +134,22 @@ class Browser:
             fail(f"{method}: {told['error']}")
         return told["result"]
 
-    def run(self, script):
-        """The value of a script in the page."""
+    def evaluated(self, script):
+        """The value of a script, and why it has none, or nothing."""
         told = self.ask("Runtime.evaluate", expression=script, awaitPromise=True, returnByValue=True)
-        if "exceptionDetails" in told:
-            fail(f"{script}: {told['exceptionDetails']}")
-        return told["result"].get("value")
+        return told["result"].get("value"), str(told.get("exceptionDetails", ""))
+
+    def run(self, script):
+        """The value of a script in the page, which may name what the page's modules export."""
+        if ASKS in script:
+            self.evaluated(NAMES)
+        value, fault = self.evaluated(script)
+        if "is not defined" in fault:
+            self.evaluated(NAMES)
+            value, fault = self.evaluated(script)
+        if fault:
+            fail(f"{script}: {fault}")
+        return value
 
     def press(self, key, code, modifiers=0):
         """Presses a key and lets it go: its name, and its code of the keyboard (UI Events KeyboardEvent, `keyCode`). Of

@@ -251,7 +251,7 @@ def reverts(browser, shown, told, ask):
     is_told(browser, [("buttons()", ["Undo: add-room 9 8000", "Redo: the return of mute 280"])])
     compare(browser, version + 2, shown(), "the undo of a revert")
     undos = len(REVERTED) + 2
-    browser.run(f"walked = {last}, renderHistory(), press('go {last}'), true")
+    browser.run(f"walked === {last} || press('walk {last}'), press('go {last}'), true")
     agrees(browser)
     settles(browser, version + 2 + undos)
     is_told(browser, [("desk.rows", rows), ("past.done[past.done.length - 1].number", last)])
@@ -260,7 +260,7 @@ def reverts(browser, shown, told, ask):
 
 def presses_revert(browser, number, words):
     """Clicks on a call of the history, and presses by a key what takes it back alone."""
-    browser.run(f"walked = null, renderHistory(), press('walk {number}'), true")
+    browser.run(f"walked === {number} || press('walk {number}'), true")
     button = f"document.querySelector('[data-key=\"revert {number}\"]')"
     is_told(browser, [(f"{button}.textContent.replace(/[\\u2068\\u2069]/g, '')", words)])
     browser.run(f"{button}.focus(), true")

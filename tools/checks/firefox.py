@@ -65,12 +65,12 @@ class Firefox(Browser):
             fail(f"{method}: {told}")
         return told["result"]
 
-    def run(self, script):
-        """The value of a script in the page."""
+    def evaluated(self, script):
+        """The value of a script, and why it has none, or nothing."""
         told = self.ask("script.evaluate", expression=script, target={"context": self.tab}, awaitPromise=True)
         if told["type"] != "success":
-            fail(f"{script}: {told['exceptionDetails']['text']}")
-        return value_of(told["result"])
+            return None, told["exceptionDetails"]["text"]
+        return value_of(told["result"]), ""
 
     def acts(self, kind, actions, **more):
         """Does what a keyboard or a pointer does."""

@@ -46,6 +46,8 @@ class Standin:
         self.lock, self.is_gone, self.counted = threading.Lock(), False, None
         self.pause, self.run, self.text, self.number = 0, secrets.token_hex(16), None, 0
         self.has_events, self.octets, self.closed = True, 0, None
+        # Bugs of the page: of each a web file, a text there, and what stands in its place.
+        self.planted = ()
 
     def waits(self):
         """Answers late, by a pause that may end earlier."""
@@ -142,7 +144,10 @@ class Standin:
             return (WEB / "page.html").read_text().replace(TOKEN, self.token), "text/html"
         kind = KINDS.get(path.rpartition(".")[2])
         if kind and path in (f"/{file.name}" for file in WEB.iterdir()):
-            return (WEB / path[1:]).read_text(), kind
+            text = (WEB / path[1:]).read_text()
+            for name, old, new in self.planted:
+                text = text.replace(old, new) if path == f"/{name}" else text
+            return text, kind
         return None
 
 

@@ -18,9 +18,11 @@ def check(holds, text):
         fail(text)
 
 
-def begins(browser, rooms, size):
-    """A page over a desk of so many rooms and members, with the pointer outside the list."""
+def begins(browser, rooms, size, *planted):
+    """A page over a desk of so many rooms and members, with the pointer outside the list, and bugs that are planted in
+    it."""
     one = standin.Standin()
+    one.planted = planted
     standin.fill(one, rooms, size)
     browser.open(f"http://127.0.0.1:{standin.serve(one).server_port}/")
     browser.wait("typeof desk !== 'undefined' && desk !== null && past !== null", 60)
@@ -153,15 +155,17 @@ def pressed_at(browser, ask, line, press):
     browser.wait("!asking")
     threading.Timer(0.3, ask, [line]).start()
     return browser.run(f"""new Promise((done) => {{
-      const old = render, version = desk.version;
-      render = (...all) => {{
-        old(...all);
-        if (desk.version === version) return;
-        render = old;
+      const version = desk.version;
+      const look = () => {{
+        if (desk.version === version) {{
+          setTimeout(look);
+          return;
+        }}
         closeNotice();
         {press};
         done(at("notice").textContent);
       }};
+      look();
     }})""")
 
 

@@ -1,7 +1,6 @@
 """What the page shows of a call itself: who speaks, figures, and trouble, in places that stay, at each size of window.
 Bugs are planted in the page, each of which has to be noticed."""
 
-import contextlib
 import json
 import pathlib
 import time
@@ -30,22 +29,18 @@ ROOMS = "[...document.querySelectorAll('#board .room')].map((room) => Number(roo
 ROWS = "[...document.querySelectorAll('#board .member')].map((row) => Number(row.dataset.member))"
 
 
-def counts(browser, rooms, size, **given):
+# Bugs of the page: rows whose figures stay, and members who are never in trouble.
+STILL = "rows.js", "export function drawFigures() {", "export function drawFigures() { return;"
+WELL = "rules.js", "export function troubleOf(desk, stats, member) {", "export function troubleOf() { return '';"
+
+
+def counts(browser, rooms, size, *planted, **given):
     """A page over a desk whose members send, once it knows two counts."""
-    one = begins(browser, rooms, size)
+    one = begins(browser, rooms, size, *planted)
     it = Counts(one, **given)
     one.counted = it.told
     browser.wait("stats !== null && stats.span !== null", 30)
     return one, it
-
-
-@contextlib.contextmanager
-def bug(browser, script):
-    """Plants a bug in a function of the page, and takes it out again."""
-    name = script.split(" ")[0]
-    browser.run(f"window.isRight = {name}, {script}, true")
-    yield
-    browser.run(f"{name} = window.isRight, true")
 
 
 def row_of(browser, member):
@@ -70,15 +65,16 @@ def says(browser, member, *wanted, seconds=15):
 def shows_who_speaks(browser):
     """A row shows how loud a member is, and that it speaks, also while it is muted. Nothing moves by it. Who speaks is
     a filter and an order."""
+    _, it = counts(browser, 2, 6, STILL)
+    it.levels = {202001: -30, 202004: -50}
+    browser.wait(f"{NUMBER.format('speaking')} === '1 speaking'", 20)
+    check(row_of(browser, 2001)[1] != "6", "the row is judged by something else than its figures")
     one, it = counts(browser, 2, 6)
     figures = ["0", "9", "0", "31"]
     says(browser, 2001, ["", "0", "−75 dBov", False, figures])
     x, y = middle(browser, '[data-key="toggle 2003"]')
     browser.hovers(x, y)
     it.levels = {202001: -30, 202004: -50}
-    with bug(browser, "drawFigures = () => {}"):
-        browser.wait(f"{NUMBER.format('speaking')} === '1 speaking'", 20)
-        check(row_of(browser, 2001)[1] == "0", "the row is judged by something else than its figures")
     says(browser, 2001, ["●", "6", "speaks, −30 dBov", True, figures])
     says(browser, 2004, ["", "2", "−50 dBov", False, ["0", "9", "0", "34"]])
     stands(browser, x, y, "toggle 2003", "who speaks")
@@ -129,19 +125,21 @@ def shows_figures(browser):
 def finds_the_ill(browser):
     """Of 1,024 members in folded rooms the three that are ill stand in the first window, and each number shows its own.
     How long that took, from the moment at which the page was asked for."""
-    one = begins(browser, 64, 16)
-    it = Counts(one, losing={233007: 0.1}, reports={921004: (0.1, 12, 60)}, silent={263015})
-    one.counted = it.told
-    begun = time.monotonic()
-    browser.run("location.reload(), true")
+    given = {"losing": {233007: 0.1}, "reports": {921004: (0.1, 12, 60)}, "silent": {263015}}
     ill = [21004, 33007, 63015]
     bottoms = "[...document.querySelectorAll('#board .member')].map((row) => row.getBoundingClientRect().bottom)"
     stand = f"{ROWS}.join() === '{ill[0]},{ill[1]},{ill[2]}' && Math.max(...{bottoms}) < innerHeight"
+    counts(browser, 64, 16, WELL, **given)
+    browser.wait(f"{NUMBER.format('silent')} === '1 silent'", 20)
+    browser.run("render(null, true, true), true")
+    check(not browser.run(stand), "who stands there isn't who is in trouble")
+    one = begins(browser, 64, 16)
+    it = Counts(one, **given)
+    one.counted = it.told
+    begun = time.monotonic()
+    browser.run("location.reload(), true")
     browser.wait(f"typeof desk !== 'undefined' && desk !== null && {stand}", 60)
     took = time.monotonic() - begun
-    with bug(browser, "troubleOf = () => ''"):
-        browser.run("render(null, true, true), true")
-        check(not browser.run(stand), "who stands there isn't who is in trouble")
     browser.run("render(null, true, true), true")
     for key, members in ("silent", ill[2:]), ("losing", ill[:2]), ("", None):
         browser.run(f"acts.filter('{key}'), true")

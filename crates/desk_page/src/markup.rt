@@ -10,27 +10,28 @@ pub(crate) const HTML_BEFORE: &[u8] = br##"<!doctype html>
 <meta name="viewport" content="width=device-width, initial-scale=1">
 <title>Desk</title>
 <link rel="stylesheet" href="/page.css">
-<script src="/advice.js" defer></script>
-<script src="/lines.js" defer></script>
-<script src="/overview.js" defer></script>
-<script src="/kept.js" defer></script>
-<script src="/levels.js" defer></script>
-<script src="/stats.js" defer></script>
-<script src="/people.js" defer></script>
-<script src="/news.js" defer></script>
-<script src="/plots.js" defer></script>
-<script src="/rules.js" defer></script>
-<script src="/history.js" defer></script>
-<script src="/view.js" defer></script>
-<script src="/rows.js" defer></script>
-<script src="/page.js" defer></script>
-<script src="/taking.js" defer></script>
-<script src="/link.js" defer></script>
-<script src="/stream.js" defer></script>
-<script src="/counts.js" defer></script>
-<script src="/places.js" defer></script>
-<script src="/drawing.js" defer></script>
-<script src="/hands.js" defer></script>
+<script type="module" src="/advice.js"></script>
+<script type="module" src="/lines.js"></script>
+<script type="module" src="/overview.js"></script>
+<script type="module" src="/kept.js"></script>
+<script type="module" src="/levels.js"></script>
+<script type="module" src="/stats.js"></script>
+<script type="module" src="/people.js"></script>
+<script type="module" src="/news.js"></script>
+<script type="module" src="/plots.js"></script>
+<script type="module" src="/rules.js"></script>
+<script type="module" src="/history.js"></script>
+<script type="module" src="/known.js"></script>
+<script type="module" src="/view.js"></script>
+<script type="module" src="/rows.js"></script>
+<script type="module" src="/page.js"></script>
+<script type="module" src="/taking.js"></script>
+<script type="module" src="/link.js"></script>
+<script type="module" src="/stream.js"></script>
+<script type="module" src="/counts.js"></script>
+<script type="module" src="/places.js"></script>
+<script type="module" src="/drawing.js"></script>
+<script type="module" src="/hands.js"></script>
 <meta name="desk-token" content=""##;
 
 /// The page behind its token.

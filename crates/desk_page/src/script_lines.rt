@@ -3,9 +3,9 @@
 //! advice.js, lines.js, overview.js, kept.js, levels.js, stats.js, people.js, news.js, plots.js, rules.js, history.js.
 
 /// advice.js
-pub(crate) const ADVICE_JS: &[u8] = br##""use strict";
+pub(crate) const ADVICE_JS: &[u8] = br##"
 // What refusals and faults mean, and what to do. `tools/bridge make words` writes this.
-const advice = {
+export const advice = {
   1: "it is there already: take another number, address, SSRC or index, or remove what is there",
   2: "there is no such room: it may have been removed",
   3: "there is no such member: it may have been removed",
@@ -34,7 +34,7 @@ const advice = {
   26: "somebody else would come or go with it: give the command that takes it back",
   27: "the lease has ended: only its holder may call, till a new one or `lease off`",
 };
-const faults = {
+export const faults = {
   1: "the line is too long: 4096 octets are the most",
   2: "an octet is none of a space to ~, and ends the connection",
   3: "the word is none of those that may stand there",
@@ -48,15 +48,18 @@ const faults = {
 "##;
 
 /// lines.js
-pub(crate) const LINES_JS: &[u8] = br##""use strict";
+pub(crate) const LINES_JS: &[u8] = br##"
 // What the page makes of the desk's text, and the lines that clicks send. No function touches the page.
+import { advice, faults } from "./advice.js";
+import { callerInWords, newerIn } from "./people.js";
+import { againstRevert } from "./history.js";
 
 // The rates of rooms, in Hz.
-const SPEECH = 8000, MUSIC = 44100;
+export const SPEECH = 8000, MUSIC = 44100;
 
 // The desk as it stands in the text of /desk.txt: the lines of `show`, and behind `end VERSION` the names' version and
 // what the program calls this text.
-function parseDesk(text) {
+export function parseDesk(text) {
   const desk = { rooms: [], rates: new Map(), members: [], sources: [], slots: [], subs: new Map(), mutes: new Set(),
     gains: new Map(), pins: new Map(), floors: new Map(), version: 0, rows: [], named: 0, state: "" };
   for (const line of text.split("\n")) {
@@ -103,11 +106,11 @@ function memberIn([place, member, room, , , mix], [, , , address, codec]) {
   return { place, member, room, address, codec, mix };
 }
 
-function isMusic(desk, room) { return desk.rates.get(room) === MUSIC; }
+export function isMusic(desk, room) { return desk.rates.get(room) === MUSIC; }
 
 // The rows of a list by one of their fields. It is made once for each list.
 const indexes = new WeakMap();
-function by(rows, field) {
+export function by(rows, field) {
   if (!indexes.has(rows)) indexes.set(rows, {});
   const known = indexes.get(rows);
   if (!known[field]) {
@@ -119,16 +122,16 @@ function by(rows, field) {
   }
   return known[field];
 }
-function withField(rows, field, value) { return by(rows, field).get(value) ?? []; }
-function memberOf(desk, number) { return withField(desk.members, "member", number)[0]; }
-function sourceOf(desk, ssrc) { return withField(desk.sources, "ssrc", ssrc)[0]; }
-function sourcesOf(desk, member, kind) {
+export function withField(rows, field, value) { return by(rows, field).get(value) ?? []; }
+export function memberOf(desk, number) { return withField(desk.members, "member", number)[0]; }
+export function sourceOf(desk, ssrc) { return withField(desk.sources, "ssrc", ssrc)[0]; }
+export function sourcesOf(desk, member, kind) {
   return withField(desk.sources, "member", member).filter((s) => !kind || s.kind === kind);
 }
-function slotsOf(desk, member) {
+export function slotsOf(desk, member) {
   return [...withField(desk.slots, "member", member)].sort((a, b) => a.index - b.index);
 }
-function membersIn(desk, room) { return withField(desk.members, "room", room); }
+export function membersIn(desk, room) { return withField(desk.members, "room", room); }
 
 // The source that the rules of the desk choose for a slot, and the rule.
 function chosen(desk, slot) {
@@ -142,7 +145,7 @@ function chosen(desk, slot) {
 }
 
 // What a slot shows, by which rule, and why it shows nothing.
-function seen(desk, slot) {
+export function seen(desk, slot) {
   const { source, by } = chosen(desk, slot);
   if (source === null) return { source, by, why: by ? "the floor's holder has no video" : "nothing is chosen" };
   if (desk.mutes.has(source)) return { source: null, by, why: `${source} is muted` };
@@ -151,14 +154,14 @@ function seen(desk, slot) {
 }
 
 // The video sources that a slot can be subscribed to, but for the one that it is.
-function videosFor(desk, slot) {
+export function videosFor(desk, slot) {
   const members = membersIn(desk, memberOf(desk, slot.member).room);
   const videos = members.flatMap((m) => sourcesOf(desk, m.member, "video")).map((s) => s.ssrc);
   return videos.filter((ssrc) => desk.subs.get(slot.ssrc) !== ssrc);
 }
 
 // The audio sources that a member hears or could hear, each with its gain.
-function heard(desk, member) {
+export function heard(desk, member) {
   const others = membersIn(desk, member.room).filter((m) => m.member !== member.member);
   return others.flatMap((m) => sourcesOf(desk, m.member, "audio")).map((s) => {
     const gain = desk.gains.has(`${member.member} ${s.ssrc}`) ? desk.gains.get(`${member.member} ${s.ssrc}`) : 256;
@@ -167,15 +170,17 @@ function heard(desk, member) {
 }
 
 // The rooms that a member can move to: those of its room's rate.
-function roomsFor(desk, member) {
+export function roomsFor(desk, member) {
   return desk.rooms.filter((room) => room !== member.room && isMusic(desk, room) === isMusic(desk, member.room));
 }
 
 // The codec of a new member: what was chosen, and else what fits the room.
-function codecOf(desk, { room, codec }) { return codec || (desk && isMusic(desk, Number(room)) ? "l16" : "pcmu"); }
+export function codecOf(desk, { room, codec }) {
+  return codec || (desk && isMusic(desk, Number(room)) ? "l16" : "pcmu");
+}
 
 // The lines that clicks and drags send.
-const lines = {
+export const lines = {
   addRoom: (room, rate) => (Number(rate) === MUSIC ? `add-room ${room} ${MUSIC}` : `add-room ${room}`),
   removeRoom: (room) => `remove-room ${room}`,
   addMember: (f, codec = f.codec) =>
@@ -202,7 +207,7 @@ const lines = {
 };
 
 // The line that a drop sends: a member on a room, or a source on a slot. Nothing where it would change nothing.
-function dropped(desk, drag, on) {
+export function dropped(desk, drag, on) {
   if (drag.member !== undefined && on.room !== undefined) {
     const member = memberOf(desk, drag.member);
     return member && member.room !== on.room ? lines.moveMember(drag.member, on.room) : null;
@@ -214,7 +219,7 @@ function dropped(desk, drag, on) {
 }
 
 // A number from `least` on that no row of its kind has: a room, a member or an SSRC.
-function free(desk, kind, least) {
+export function free(desk, kind, least) {
   const ssrcs = () => [desk.sources, desk.slots].flatMap((rows) => rows.map((row) => row.ssrc));
   const taken = new Set(kind === "room" ? desk.rooms : desk.members.map((m) => (kind === "ssrc" ? m.mix : m.member)));
   if (kind === "ssrc") for (const ssrc of ssrcs()) taken.add(ssrc);
@@ -224,14 +229,14 @@ function free(desk, kind, least) {
 }
 
 // The fields of forms that suggest a free number, each with its form and that number.
-function suggested(desk) {
+export function suggested(desk) {
   const fields = [["add-room", "room", 1], ["add-member", "member", 10], ["add-member", "ssrc", 9001],
     ["add-source", "ssrc", 101], ["add-slot", "ssrc", 501]];
   return fields.map(([form, field, least]) => [form, field, free(desk, field, least)]);
 }
 
 // An answer of the bridge in words. `seen` is what the page knows: the names, the desk and the history.
-function inWords(said, seen = {}) {
+export function inWords(said, seen = {}) {
   const word = said.split(" ");
   if (word[0] === "ok") return { good: true, text: `accepted as version ${word[1]}` };
   if (word[0] === "no") {
@@ -247,7 +252,7 @@ function inWords(said, seen = {}) {
 
 // A response of the page to a call, in words: 200 has the bridge's answer.
 const NO_SEAT = "The page needs a seat: set operators to one more in the bridge's settings.";
-function replyInWords(status, text, seen) {
+export function replyInWords(status, text, seen) {
   if (status === 200) return inWords(text, seen);
   if (text.startsWith("Busy")) {
     return { good: false, text: `all seats of the bridge are taken, so nothing was done. ${NO_SEAT}` };
@@ -258,14 +263,14 @@ function replyInWords(status, text, seen) {
 }
 
 // A response to new names that weren't kept, in words.
-function nameRefusal(status, text) {
+export function nameRefusal(status, text) {
   if (/^no [0-9]+ Unsaved/.test(text)) return "the file of names can't be written, so nothing was changed.";
   if (/^no [0-9]+ NoNames/.test(text)) return "that is no name.";
   return status === 413 ? "there are too many names." : text || String(status);
 }
 
 // The rooms of which something changed between two desks: those of the rows that came or went.
-function changedRooms(before, after, rows) {
+export function changedRooms(before, after, rows) {
   // A member's place may shift, and then the same row goes and comes.
   const times = new Map(), plain = (row) => row.slice(2).replace(/^member [0-9]+ /, "member ");
   for (const row of rows) times.set(plain(row), (times.get(plain(row)) ?? 0) + 1);
@@ -286,7 +291,7 @@ function roomOf(desk, kind, first, second) {
 }
 
 // The rows that went and that came between two desks.
-function changes(before, after) {
+export function changes(before, after) {
   let from = 0, end = 0;
   const least = Math.min(before.length, after.length);
   while (from < least && before[from] === after[from]) from += 1;
@@ -299,33 +304,34 @@ function changes(before, after) {
 "##;
 
 /// overview.js
-pub(crate) const OVERVIEW_JS: &[u8] = br##""use strict";
+pub(crate) const OVERVIEW_JS: &[u8] = br##"
 // Names, what the overview says, and what is done with many members. No function touches the page.
+import { isMusic, lines, memberOf, membersIn, seen, slotsOf, sourceOf, sourcesOf } from "./lines.js";
 
 // Names. They are kept by `member 10`, `room 1` or `source 201`, and a source without one has its member's.
-const LONGEST_NAME = 200;
-function nameOf(names, kind, number) { return names[`${kind} ${number}`] ?? ""; }
-function sourceName(names, desk, ssrc) {
+export const LONGEST_NAME = 200;
+export function nameOf(names, kind, number) { return names[`${kind} ${number}`] ?? ""; }
+export function sourceName(names, desk, ssrc) {
   const source = sourceOf(desk, ssrc);
   return nameOf(names, "source", ssrc) || (source ? nameOf(names, "member", source.member) : "");
 }
-function labelled(name, number) { return name ? `${name} (${number})` : String(number); }
-function cut(name) { return [...name.trim()].slice(0, LONGEST_NAME).join(""); }
-function renamed(names, kind, number, name) {
+export function labelled(name, number) { return name ? `${name} (${number})` : String(number); }
+export function cut(name) { return [...name.trim()].slice(0, LONGEST_NAME).join(""); }
+export function renamed(names, kind, number, name) {
   const next = { ...names, [`${kind} ${number}`]: cut(name) };
   if (!cut(name)) delete next[`${kind} ${number}`];
   return next;
 }
 
 // The names in the text of /names, and their version. What isn't a name is left out.
-function parseNames(text) {
+export function parseNames(text) {
   const end = text.indexOf("\n"), version = Number(text.slice(6, end));
   const pairs = Object.entries(JSON.parse(text.slice(end + 1))).filter(([, name]) => typeof name === "string");
   return { version, names: Object.fromEntries(pairs) };
 }
 
 // What a line of the overview says of a member.
-function memberLine(desk, names, member) {
+export function memberLine(desk, names, member) {
   const sends = sourcesOf(desk, member.member).map((s) =>
     ({ ssrc: s.ssrc, kind: s.kind, muted: desk.mutes.has(s.ssrc), name: nameOf(names, "source", s.ssrc) }));
   const sees = slotsOf(desk, member.member).map((slot) => {
@@ -341,7 +347,7 @@ function memberLine(desk, names, member) {
 }
 
 // What the head of a room says.
-function roomLine(desk, names, room) {
+export function roomLine(desk, names, room) {
   const members = membersIn(desk, room), floor = desk.floors.get(room), pin = desk.pins.get(room);
   const voices = members.flatMap((m) => sourcesOf(desk, m.member, "audio"));
   const holder = floor === undefined ? [] : sourcesOf(desk, floor, "audio");
@@ -357,7 +363,7 @@ function fits(words, texts) {
   const text = texts.join(" ").toLowerCase();
   return words.every((word) => text.includes(word));
 }
-function wordsOf(text) { return text.toLowerCase().split(/\s+/).filter((word) => word !== ""); }
+export function wordsOf(text) { return text.toLowerCase().split(/\s+/).filter((word) => word !== ""); }
 function memberFits(desk, names, member, words) {
   const ssrcs = sourcesOf(desk, member.member).flatMap((s) => [s.ssrc, nameOf(names, "source", s.ssrc)]);
   const slots = slotsOf(desk, member.member).map((s) => s.ssrc);
@@ -367,7 +373,7 @@ function memberFits(desk, names, member, words) {
 
 // The rooms with the members that are shown: all of a room that fits itself, and otherwise those that fit. Where only
 // some are counted, rooms without one are left out. `placeOf` is a room's place by trouble or by who speaks.
-function overview(desk, names, search, sort, isShown = null, placeOf = () => 0) {
+export function overview(desk, names, search, sort, isShown = null, placeOf = () => 0) {
   const words = wordsOf(search);
   const roomFits = (room) => words.length === 0 || fits(words, [`room ${room}`, nameOf(names, "room", room)]);
   const found = desk.rooms.map((room) => {
@@ -382,27 +388,27 @@ function overview(desk, names, search, sort, isShown = null, placeOf = () => 0) 
 }
 
 // Groups. One of one command is that command, and none is nothing.
-const MOST_PARTS = 64;
-function grouped(parts) { return parts.length < 2 ? parts[0] ?? null : lines.group(parts); }
-function voicesOf(desk, members, muted) {
+export const MOST_PARTS = 64;
+export function grouped(parts) { return parts.length < 2 ? parts[0] ?? null : lines.group(parts); }
+export function voicesOf(desk, members, muted) {
   return members.flatMap((member) => sourcesOf(desk, member, "audio")).filter((s) => desk.mutes.has(s.ssrc) === muted);
 }
 // Mutes members, or unmutes them where all are muted already.
-function toggled(desk, members) {
+export function toggled(desk, members) {
   const loud = voicesOf(desk, members, false).map((s) => lines.mute(s.ssrc));
   return loud.length ? loud : voicesOf(desk, members, true).map((s) => lines.unmute(s.ssrc));
 }
-function othersMuted(desk, member) {
+export function othersMuted(desk, member) {
   const others = membersIn(desk, memberOf(desk, member).room).map((m) => m.member).filter((m) => m !== member);
   return voicesOf(desk, others, false).map((s) => lines.mute(s.ssrc));
 }
-function movedAll(desk, members, room) {
+export function movedAll(desk, members, room) {
   const moving = members.map((number) => memberOf(desk, number)).filter((m) => m && m.room !== room);
   return moving.map((m) => lines.moveMember(m.member, room));
 }
 
 // What goes along with a room: a count of each kind.
-function goesAlong(desk, room) {
+export function goesAlong(desk, room) {
   const members = membersIn(desk, room).map((m) => m.member);
   const counts = [["member", members.length], ["source", members.flatMap((m) => sourcesOf(desk, m)).length],
     ["slot", members.flatMap((m) => slotsOf(desk, m)).length]];
@@ -411,9 +417,10 @@ function goesAlong(desk, room) {
 "##;
 
 /// kept.js
-pub(crate) const KEPT_JS: &[u8] = br##""use strict";
+pub(crate) const KEPT_JS: &[u8] = br##"
 // The desk as a file: groups that make all its rows again, as `tools/bridge keep` prints them. No function touches the
 // page.
+import { MOST_PARTS } from "./overview.js";
 
 // A stream begins anew at its FIRST_SEQ, which is moved on, or a receiver might take new packets for old ones.
 const FURTHER = 1000, MOST_OCTETS = 4096;
@@ -448,14 +455,14 @@ function groupsOf(commands) {
 function endOf(groups) {
   return `# end: ${groups.length} groups of ${groups.flatMap((group) => group.split(" / ")).length} commands`;
 }
-function keptText(desk) {
+export function keptText(desk) {
   const groups = groupsOf(desk.rows.map(commandOf));
   const head = `# the desk of version ${desk.version}: FIRST_SEQ of each stream is ${FURTHER} further on, as streams `;
   return `${[`${head}begin anew`, ...groups, endOf(groups)].join("\n")}\n`;
 }
 
 // The groups of such a text, or null where it isn't whole.
-function groupsIn(text) {
+export function groupsIn(text) {
   const lines = text.split("\n").filter((line) => line !== ""), groups = lines.filter((line) => !line.startsWith("#"));
   const areGroups = groups.every((group) => group.startsWith("group ") && group.length <= MOST_OCTETS);
   return areGroups && lines[lines.length - 1] === endOf(groups) ? groups : null;
@@ -463,7 +470,7 @@ function groupsIn(text) {
 "##;
 
 /// levels.js
-pub(crate) const LEVELS_JS: &[u8] = br##""use strict";
+pub(crate) const LEVELS_JS: &[u8] = br##"
 // How loud a source of sound is, and who speaks, by what two counts differ in. No function touches the page.
 
 // The energy of the loudest sample in the bridge's units, and how many times less -45 and -52 dBov are.
@@ -472,17 +479,17 @@ const LOUDEST = 2 ** 20, LOUD = 31623, QUIET = 158489;
 const QUARTER = 250, LOUD_ROW = 2, QUIET_ROW = 4;
 // The least level that is told, that of a span without a sample (RFC 6464). Two counts that are further apart than so
 // many milliseconds say nothing of now.
-const LEAST_LEVEL = -127, LONGEST_SPAN = 5000;
+export const LEAST_LEVEL = -127, LONGEST_SPAN = 5000;
 const NO_SOUND = { level: null, isSpeaking: false, loud: 0, quiet: 0 };
 
 // The level of a span in dBov, by its samples and their energy.
-function levelOf(samples, energy) {
+export function levelOf(samples, energy) {
   return samples > 0 ? Math.max(LEAST_LEVEL, 10 * Math.log10(energy / (LOUDEST * samples))) : LEAST_LEVEL;
 }
 
 // Who speaks, after a span of so many milliseconds. The rule is of quarters of a second. Who counts less often takes
 // each quarter for as loud as the whole span.
-function speechAfter({ isSpeaking, loud, quiet }, samples, energy, ms) {
+export function speechAfter({ isSpeaking, loud, quiet }, samples, energy, ms) {
   const quarters = Math.max(1, Math.round(ms / QUARTER));
   const isLoud = energy * LOUD > samples * LOUDEST, isQuiet = samples === 0 || energy * QUIET < samples * LOUDEST;
   const louder = isLoud ? Math.min(LOUD_ROW, loud + quarters) : 0;
@@ -492,7 +499,7 @@ function speechAfter({ isSpeaking, loud, quiet }, samples, energy, ms) {
 
 // What a count tells of a source's sound, with the one before. A source that wasn't counted before, or that was
 // forgotten meanwhile, began at 0. Before a first count nothing is known, and of a picture never.
-function soundOf(now, before, ms) {
+export function soundOf(now, before, ms) {
   if (typeof now.samples !== "number" || ms === null || ms > LONGEST_SPAN) return NO_SOUND;
   const isSame = typeof before?.samples === "number" && before.samples <= now.samples;
   const samples = now.samples - (isSame ? before.samples : 0), energy = now.energy - (isSame ? before.energy : 0);
@@ -500,7 +507,7 @@ function soundOf(now, before, ms) {
 }
 
 // A level in words, of a member that is muted or not.
-function levelInWords(level, isSpeaking = false, isMuted = false) {
+export function levelInWords(level, isSpeaking = false, isMuted = false) {
   if (level === null) return "level not known";
   if (level === LEAST_LEVEL) return "no sound";
   const dbov = `${Math.round(level).toString().replace("-", "\u2212")} dBov`;
@@ -508,15 +515,17 @@ function levelInWords(level, isSpeaking = false, isMuted = false) {
   return `${isMuted ? "speaks while muted" : "speaks"}, ${dbov}`;
 }
 // A gain of 256ths in words.
-const gainInWords = (q8) => `x${(q8 / 256).toFixed(2)}`;
+export const gainInWords = (q8) => `x${(q8 / 256).toFixed(2)}`;
 // The span of two counts in words.
-function spanInWords(ms) {
+export function spanInWords(ms) {
   return ms === null || ms > LONGEST_SPAN ? "" : `last ${Math.max(1, Math.round(ms / 1000))} s`;
 }
 "##;
 
 /// stats.js
-pub(crate) const STATS_JS: &[u8] = br##""use strict";
+pub(crate) const STATS_JS: &[u8] = br##"
+import { codecOf, free, lines, memberOf, sourceOf, withField } from "./lines.js";
+import { soundOf } from "./levels.js";
 
 // What the bridge counts, as /stats tells it. No function touches the page.
 
@@ -545,7 +554,7 @@ function lossOut({ fraction }, before) {
 
 // The counts of sources by address and SSRC, those of streams by SSRC, and the senders that are no source. `before` is
 // the count before, if any, and `at` the moment, in milliseconds.
-function parseStats(text, before = null, at = 0) {
+export function parseStats(text, before = null, at = 0) {
   const told = JSON.parse(text), span = before ? at - before.at : null;
   const sources = new Map((told.sources ?? []).map((one) => [`${one.address} ${one.ssrc}`, one]));
   for (const [key, one] of sources) {
@@ -559,25 +568,25 @@ function parseStats(text, before = null, at = 0) {
 }
 
 // How long ago something came, in words.
-function agoInWords(ms) {
+export function agoInWords(ms) {
   if (ms < 1000) return "just now";
   if (ms < 60000) return `${Math.floor(ms / 1000)} s ago`;
   return ms < 3600000 ? `${Math.floor(ms / 60000)} min ago` : `${Math.floor(ms / 3600000)} h ago`;
 }
 
 // What came of a declared source, or null where nothing is known. A bridge counts by the address of its member.
-function countOf(stats, desk, ssrc) {
+export function countOf(stats, desk, ssrc) {
   if (!stats) return null;
   const address = memberOf(desk, sourceOf(desk, ssrc)?.member)?.address;
   return stats.sources.get(`${address} ${ssrc}`) ?? { packets: 0, lost: 0, ago_ms: null };
 }
 // Whether nothing comes of a source that is declared.
 function isStill(count) { return !count || count.ago_ms === null || count.ago_ms >= SILENT; }
-function isSilent(stats, desk, ssrc) { return stats !== null && isStill(countOf(stats, desk, ssrc)); }
-function isLossy(stats, desk, ssrc) {
+export function isSilent(stats, desk, ssrc) { return stats !== null && isStill(countOf(stats, desk, ssrc)); }
+export function isLossy(stats, desk, ssrc) {
   return countOf(stats, desk, ssrc)?.isLossy === true;
 }
-function countInWords(count) {
+export function countInWords(count) {
   if (count === null) return "";
   if (count.ago_ms === null) return "no packet came";
   const late = count.share > 0 ? `, ${(100 * count.share).toFixed(1)} percent of late` : "";
@@ -591,7 +600,7 @@ function whyInWords({ bad_payload: bad, bad_type: type, silent_ms: silent }) {
   return silent >= SILENT ? `${dropped}; silent for ${Math.floor(silent / 1000)} s of its sound` : dropped;
 }
 // What the receiver of a stream says of it.
-function streamInWords(count) {
+export function streamInWords(count) {
   const percent = count && count.share !== null ? `${(100 * count.share).toFixed(1)} percent lost` : "";
   const times = [["jitter", count?.jitter_ms], ["round trip", count?.round_trip_ms]];
   const words = times.flatMap(([what, ms]) => (typeof ms === "number" ? [`${what} ${ms} ms`] : []));
@@ -600,10 +609,10 @@ function streamInWords(count) {
 
 // The figures of a member: the level of its loudest source and whether one speaks, and the worst of the loss, jitter
 // and round trip of its sources and of the streams to it. What isn't known is null.
-const UNKNOWN = { level: null, isSpeaking: false, lossIn: null, jitter: null, lossOut: null, trip: null,
+export const UNKNOWN = { level: null, isSpeaking: false, lossIn: null, jitter: null, lossOut: null, trip: null,
   isSilent: false, isLosingIn: false, isLosingOut: false, look: "" };
 const most = (a, b) => (typeof b !== "number" ? a : Math.max(a ?? b, b));
-function figuresOf(desk, stats, member) {
+export function figuresOf(desk, stats, member) {
   if (!stats) return UNKNOWN;
   const { figures } = stats;
   if (figures.desk !== desk) stats.figures = { desk, of: new Map() };
@@ -640,7 +649,7 @@ function addStream(all, count) {
 
 // The rooms in which a source fell silent or began to lose many packets between two counts, a stream began to lose
 // many, or somebody began to speak, or ceased to.
-function turnedRooms(desk, before, after) {
+export function turnedRooms(desk, before, after) {
   const turned = desk.members.filter((member) =>
     figuresOf(desk, before, member).look !== figuresOf(desk, after, member).look);
   return new Set(turned.map(({ room }) => room));
@@ -655,7 +664,7 @@ function strangerOf(desk, { address, ssrc, payload_type: type, packets }) {
 }
 
 // The unknown senders, but for those that have become sources meanwhile.
-function strangersIn(stats, desk) {
+export function strangersIn(stats, desk) {
   const isOf = (ssrc, address) => memberOf(desk, sourceOf(desk, ssrc)?.member)?.address === address;
   const unknown = (stats?.strangers ?? []).filter(({ ssrc, address }) => !isOf(ssrc, address));
   return unknown.map((one) => strangerOf(desk, one));
@@ -663,7 +672,7 @@ function strangersIn(stats, desk) {
 
 // What brings somebody into a room as one group: a member with numbers of the page's choice, its sources, which are
 // what comes from its address already, and a slot if it sees a picture.
-function newcomer(desk, stats, { room, address, sees }) {
+export function newcomer(desk, stats, { room, address, sees }) {
   const own = strangersIn(stats, desk).filter((one) => one.address === address && !one.isElsewhere);
   const unused = (least) => {
     const number = free(desk, "ssrc", least);
@@ -678,16 +687,18 @@ function newcomer(desk, stats, { room, address, sees }) {
 "##;
 
 /// people.js
-pub(crate) const PEOPLE_JS: &[u8] = br##""use strict";
+pub(crate) const PEOPLE_JS: &[u8] = br##"
 // Who gave a call, and when. No function touches the page.
+import { cut } from "./overview.js";
+import { worded } from "./history.js";
 
 // The name of somebody who has said none, how the name of a program begins, and the most octets of a name.
-const NOBODY = "page", PROGRAM = "agent-", LONGEST_PERSON = 64;
-function isProgram(name) { return name.startsWith(PROGRAM); }
+export const NOBODY = "page", PROGRAM = "agent-", LONGEST_PERSON = 64;
+export function isProgram(name) { return name.startsWith(PROGRAM); }
 
 // A person's name as the bridge takes it: one word, in which `%` and two digits stand for each octet of UTF-8 that
 // isn't a letter, a digit or one of -_.!~*'() (RFC 3986 section 2.1). No person is a program, or nameless by `-`.
-function personWord(name) {
+export function personWord(name) {
   let word = "";
   for (const letter of cut(name.toWellFormed())) {
     const more = encodeURIComponent(letter);
@@ -699,7 +710,7 @@ function personWord(name) {
 // Controls, and marks that turn what follows.
 const HIDDEN = /[\u0000-\u001f\u007f-\u009f\u200e\u200f\u202a-\u202e\u2066-\u2069]/g;
 // The name in such a word, or the word where it is none.
-function personName(word) {
+export function personName(word) {
   let name = word;
   try {
     name = decodeURIComponent(word);
@@ -711,7 +722,7 @@ function personName(word) {
 
 // The calls in the text of /past.txt by their numbers, each with its moment, its operator, its name and its line. A
 // bridge that has no such text has none.
-function callsIn(text) {
+export function callsIn(text) {
   const calls = new Map();
   for (const row of text.split("\n")) {
     const [, no, moment, op, name, line] = /^call ([0-9]+) ([0-9]+) ([0-9]+) (\S+) (.+)$/.exec(row) ?? [];
@@ -722,36 +733,37 @@ function callsIn(text) {
 }
 
 // Who gave a call, in words. A name stands by itself, since it may run from right to left.
-function whoOf({ name = "-", operator }) {
+export function whoOf({ name = "-", operator }) {
   return name === "-" ? `operator ${operator}` : `\u2068${personName(name)}\u2069`;
 }
 // When that was: the time of day, and the day too where it wasn't today.
-function timeOf(moment, now) {
+export function timeOf(moment, now) {
   const when = new Date(moment), [day, time] = [when.toDateString(), when.toTimeString().slice(0, 5)];
   return day === new Date(now).toDateString() ? time : `${day.slice(4, 10)} ${time}`;
 }
 // Another person's call, by which a line wasn't sent, in the answer to that line; or null.
-function newerIn(said) { return said.startsWith("Newer: ") ? [...callsIn(said).values()][0] ?? null : null; }
+export function newerIn(said) { return said.startsWith("Newer: ") ? [...callsIn(said).values()][0] ?? null : null; }
 // Who gave a call, when, and what it did.
-function callerInWords(call, { names, desk, past }, now = Date.now()) {
+export function callerInWords(call, { names, desk, past }, now = Date.now()) {
   return `${timeOf(call.moment, now)} ${whoOf(call)}: ${worded(names, desk, call.line, past?.known)}.`;
 }
 // Whether a call is another one's: neither this page's, nor by the name that its operator has.
-function isOthers(call, me, mine) { return call !== undefined && !mine.has(call.number) && call.name !== me; }
+export function isOthers(call, me, mine) { return call !== undefined && !mine.has(call.number) && call.name !== me; }
 // Whether a call makes rooms as a restored desk's first group does: with it all of its members go.
-function makesRooms(call) { return call !== undefined && call.line.startsWith("group add-room "); }
+export function makesRooms(call) { return call !== undefined && call.line.startsWith("group add-room "); }
 "##;
 
 /// news.js
-pub(crate) const NEWS_JS: &[u8] = br##""use strict";
+pub(crate) const NEWS_JS: &[u8] = br##"
 // What the stream of events says. No function touches the page.
+import { callsIn, whoOf } from "./people.js";
 
 // The most calls of the log that a page keeps.
 const MOST_LOGGED = 512;
 
 // The text of /desk.txt after an event `desk`: its data has the state before and after, where octets go, how many, and
 // those that come in their place. The text as it is where it has that state already, and null where it is another one.
-function editedText(text, told) {
+export function editedText(text, told) {
   const [head, ...lines] = told.split("\n"), [before, after, start, removed] = head.split(" ");
   const end = text.lastIndexOf("state "), state = text.slice(end + 6).trimEnd(), from = Number(start);
   if (state === after) return text;
@@ -761,14 +773,14 @@ function editedText(text, told) {
 }
 
 // Whether a text of /desk.txt is from before another one of the same run.
-function isOlderText(text, than) {
+export function isOlderText(text, than) {
   const stateOf = (one) => one.slice(one.lastIndexOf("state ") + 6).trimEnd().split("-");
   const [run, number] = stateOf(text), [otherRun, otherNumber] = stateOf(than);
   return run === otherRun && Number(number) < Number(otherNumber);
 }
 
 // The calls of the log with those of an event `call`, the last ones of all.
-function withCalls(calls, told) {
+export function withCalls(calls, told) {
   const all = new Map([...calls, ...callsIn(told)]);
   for (const number of all.keys()) {
     if (all.size <= MOST_LOGGED) break;
@@ -778,10 +790,10 @@ function withCalls(calls, told) {
 }
 
 // Who held the lease of the desk, by an event `lease`, where it has ended; or null.
-function closedBy(told) { return told.startsWith("closed ") ? told.slice(7) : null; }
+export function closedBy(told) { return told.startsWith("closed ") ? told.slice(7) : null; }
 // What that means. A fleet takes the rooms of a bridge that it doesn't reach to another one.
 const FLEET = "agent-fleet";
-function closedInWords(name) {
+export function closedInWords(name) {
   const why = name === "-" ? "nobody holds its lease" : `the lease of ${whoOf({ name })} has ended`;
   const moved = name === FLEET ? " The rooms may be on another bridge by now." : "";
   return `The desk is closed: ${why}. Calls are refused. Sound and pictures go on.${moved}`;
@@ -789,28 +801,31 @@ function closedInWords(name) {
 "##;
 
 /// plots.js
-pub(crate) const PLOTS_JS: &[u8] = br##""use strict";
+pub(crate) const PLOTS_JS: &[u8] = br##"
 // Two minutes of a member's figures, and the lines that draw them. No function touches the page.
+import { figuresOf } from "./stats.js";
 
 // How far back a trace goes, in milliseconds, and the size of a plot in units of its own.
-const TRACED = 120000, PLOT_WIDTH = 120, PLOT_HEIGHT = 20;
+export const TRACED = 120000, PLOT_WIDTH = 120, PLOT_HEIGHT = 20;
 // What is traced, each with the lowest value and the least value that reaches the top of its plot.
-const PLOTS = [["level", -60, -10], ["lossIn", 0, 0.1], ["jitter", 0, 60], ["lossOut", 0, 0.1], ["trip", 0, 300]];
+export const PLOTS = [
+  ["level", -60, -10], ["lossIn", 0, 0.1], ["jitter", 0, 60], ["lossOut", 0, 0.1], ["trip", 0, 300],
+];
 
 // A trace with one more sample: the moment and the figures of then.
-function traced(trace, at, figures) {
+export function traced(trace, at, figures) {
   const kept = trace.filter(([then]) => then > at - TRACED);
   return [...kept, [at, ...PLOTS.map(([name]) => figures[name])]];
 }
 // The traces of all members, and of no other ones.
-function tracedAll(traces, desk, stats) {
+export function tracedAll(traces, desk, stats) {
   return new Map(desk.members.map((member) =>
     [member.member, traced(traces.get(member.member) ?? [], stats.at, figuresOf(desk, stats, member))]));
 }
 
 // The line of one figure, as a path from the left edge two minutes ago to the right edge now. Where nothing is known
 // the line has a gap, and a sample by itself is a dot.
-function plotted(trace, place, now) {
+export function plotted(trace, place, now) {
   const [, lowest, least] = PLOTS[place], known = trace.map((sample) => sample[place + 1]);
   const highest = Math.max(least, ...known.filter((value) => value !== null));
   let path = "", isOn = false;
@@ -826,19 +841,23 @@ function plotted(trace, place, now) {
 "##;
 
 /// rules.js
-pub(crate) const RULES_JS: &[u8] = br##""use strict";
+pub(crate) const RULES_JS: &[u8] = br##"
 // The rules of the page: what stays in its place, when a press is meant, and who is in trouble. No function touches the
 // page.
+import { lines, sourcesOf } from "./lines.js";
+import { figuresOf } from "./stats.js";
+import { isProgram } from "./people.js";
+import { revertedBy, turnedBy } from "./history.js";
 
 // A press is refused for so long after another's change of its object, or after places have changed, in milliseconds.
-const JUST = 300;
+export const JUST = 300;
 // So long after the last news the page is late, and after that gone.
-const LATE = 4000, GONE = 10000;
+export const LATE = 4000, GONE = 10000;
 // For so long rooms by trouble keep their order, and who ceases to fit a filter stays.
-const SETTLED = 5000;
+export const SETTLED = 5000;
 
 // The objects that a row of the desk is about, as `member 10`.
-function objectsOfRow(row) {
+export function objectsOfRow(row) {
   const [kind, first, second, third] = row.split(" ");
   if (kind === "member") return [`member ${second}`, `room ${third}`];
   if (kind === "source" || kind === "slot") return [`${kind} ${first}`, `member ${second}`];
@@ -851,7 +870,7 @@ const ABOUT = { "add-room": "room", "remove-room": "room", "add-member": "member
   "remove-member": "member", "add-source": "source", "remove-source": "source", "add-slot": "slot",
   "remove-slot": "slot", subscribe: "slot", unsubscribe: "slot", pin: "pin", unpin: "pin", "give-floor": "floor",
   "take-floor": "floor", mute: "source", unmute: "source", undo: "history", redo: "history", revert: "call" };
-function objectsOfLine(line) {
+export function objectsOfLine(line) {
   return line.replace(/^group /, "").split(" / ").map((part) => {
     const [verb, first, second] = part.split(" ");
     if (verb === "set-gain") return `gain ${first} ${second}`;
@@ -862,7 +881,7 @@ function objectsOfLine(line) {
 // The objects that others have changed between two versions of the desk, by the rows that went and came. `mine` are the
 // versions that this page's calls made, and `sent` those of its lines that may have come meanwhile; `waiting` of these
 // have no answer yet.
-function othersObjects(before, after, rows, mine, sent, waiting) {
+export function othersObjects(before, after, rows, mine, sent, waiting) {
   let others = 0;
   for (let version = before + 1; version <= after; version += 1) if (!mine.has(version)) others += 1;
   if (others <= waiting) return [];
@@ -878,27 +897,27 @@ function othersObjects(before, after, rows, mine, sent, waiting) {
 const placesOf = (plan) => plan.map(({ room, members }) => `${room} ${members.join()}`);
 const keysOf = (plan) => plan.flatMap(({ room, members }) => [`room ${room}`, ...members.map((m) => `${room} ${m}`)]);
 // How many changes of place lie between two plans.
-function placeChanges(before, after) {
+export function placeChanges(before, after) {
   const had = new Set(keysOf(before)), has = new Set(keysOf(after));
   const count = [...had].filter((key) => !has.has(key)).length + [...has].filter((key) => !had.has(key)).length;
   return count || Number(placesOf(before).join("/") !== placesOf(after).join("/"));
 }
 // Things in the places that they had: those that are there still as they are now, and the others with a mark.
-function inOldPlaces(before, now, key) {
+export function inOldPlaces(before, now, key) {
   const found = new Map(now.map((one) => [one[key], one]));
   return before.map((one) => found.get(one[key]) ?? { ...one, hasLeft: true });
 }
 
 // What Undo takes back and Redo does again, where programs give calls as well. `calls` are those of the log. A person's
 // call is one that no program gave.
-function undoOf(past, calls) {
+export function undoOf(past, calls) {
   const over = passedOver(past, calls);
   const one = past.done.findLast(({ number }) => isPersons(calls, number) && !over.has(number));
   if (!one) return null;
   const isNewest = one === past.done[past.done.length - 1];
   return { number: one.number, line: isNewest ? lines.undo(past.version) : lines.revert(one.number) };
 }
-function redoOf(past, calls) {
+export function redoOf(past, calls) {
   const last = past.undone[past.undone.length - 1], over = passedOver(past, calls);
   if (last) return { number: last.number, line: lines.redo(past.version) };
   for (const { number } of past.done.filter((one) => isPersons(calls, one.number)).reverse()) {
@@ -924,7 +943,7 @@ function passedOver(past, calls) {
 
 // What troubles a member: nothing comes of a source, many packets are lost on their way to the bridge or from it, or it
 // has the floor and is muted.
-function troubleOf(desk, stats, member) {
+export function troubleOf(desk, stats, member) {
   const figures = figuresOf(desk, stats, member);
   if (figures.isSilent) return "silent";
   if (figures.isLosingIn) return "losing in";
@@ -933,18 +952,18 @@ function troubleOf(desk, stats, member) {
   return isOdd ? "muted floor" : "";
 }
 const WEIGHTS = { "": 0, "muted floor": 1, "losing in": 2, "losing out": 2, silent: 2 };
-function isMuted(desk, member) {
+export function isMuted(desk, member) {
   const voices = sourcesOf(desk, member, "audio");
   return voices.length > 0 && voices.every((s) => desk.mutes.has(s.ssrc));
 }
 // Whether a member is one of those that a number counts. One may be silent with its picture and lose sound.
 const COUNTED = { speaking: (one) => one.isSpeaking, silent: (one) => one.isSilent,
   losing: (one) => one.isLosingIn || one.isLosingOut };
-function isCounted(desk, stats, filter, member) {
+export function isCounted(desk, stats, filter, member) {
   return filter === "muted" ? isMuted(desk, member.member) : COUNTED[filter](figuresOf(desk, stats, member));
 }
 // What is counted of members: those of a room, or of the whole bridge.
-function tallyOf(desk, stats, members) {
+export function tallyOf(desk, stats, members) {
   const tally = { members: members.length, speaking: 0, silent: 0, losing: 0, muted: 0, weight: 0 };
   for (const member of members) {
     for (const key of ["speaking", "silent", "losing", "muted"]) {
@@ -957,12 +976,12 @@ function tallyOf(desk, stats, members) {
 
 // What the page knows of its link, in words. `quiet` is how long ago the last news came, in milliseconds, `since` when
 // that was, and `told` what the program says of its bridge: "", "bridge" or "seats".
-function linkOf(told, quiet) {
+export function linkOf(told, quiet) {
   if (told) return told;
   if (quiet > GONE) return "gone";
   return quiet > LATE ? "late" : "live";
 }
-function linkInWords(link, quiet, since) {
+export function linkInWords(link, quiet, since) {
   if (link === "live") return "Live";
   if (link === "late") return `Late: last news ${Math.floor(quiet / 1000)} s ago`;
   const from = since ? ` since ${since}` : "";
@@ -974,13 +993,15 @@ function linkInWords(link, quiet, since) {
 "##;
 
 /// history.js
-pub(crate) const HISTORY_JS: &[u8] = br##""use strict";
+pub(crate) const HISTORY_JS: &[u8] = br##"
 // The history of calls, as the bridge tells it. No function touches the page.
+import { by } from "./lines.js";
+import { labelled, nameOf, sourceName } from "./overview.js";
 
 // The calls in force and those that can be redone, in the order of the text: each with its number, its operator and its
 // line. The last one in force is what an undo takes back, and the last undone one what a redo does again. The lines of
 // calls by their numbers are kept from the history before, for what its reverts took back is left out.
-function parseHistory(text, before = null) {
+export function parseHistory(text, before = null) {
   const past = { version: 0, done: [], undone: [], known: new Map() };
   let calls = past.done;
   for (const line of text.split("\n")) {
@@ -997,7 +1018,7 @@ function callIn(text) {
 }
 
 // The number of the call that a line takes back alone, or null.
-function revertedBy(line) { return /^revert [0-9]+$/.test(line ?? "") ? Number(line.slice(7)) : null; }
+export function revertedBy(line) { return /^revert [0-9]+$/.test(line ?? "") ? Number(line.slice(7)) : null; }
 
 // The lines of a history by their numbers, and the earlier ones of calls that its reverts took back. Where a number has
 // another line than before, it is another bridge's, and no earlier line counts.
@@ -1013,7 +1034,7 @@ function knownLines(past, before) {
 }
 
 // The call that is out of force or back in it by a revert: the revert of a revert brings its call back.
-function turnedBy(known, line) {
+export function turnedBy(known, line) {
   const number = revertedBy(line), next = revertedBy(known.get(number));
   // A revert names an earlier call, so this ends.
   if (next === null || next >= number) return { number, isBack: false };
@@ -1030,7 +1051,7 @@ const SHORT_NAME = 24, SHORT_WORDS = 32;
 // A call's line in which objects have their names: "mute Bob (202)". A name stands by itself, since it may run from
 // right to left. A revert says what it did: "reverted mute Bob (202)".
 const TURNS = ["reverted", "brought back"], THINGS = ["the revert of", "the return of"];
-function worded(names, desk, line, known = new Map(), [reverted, back] = TURNS) {
+export function worded(names, desk, line, known = new Map(), [reverted, back] = TURNS) {
   if (revertedBy(line) === null) return namedLine(names, desk, line);
   const { number, isBack } = turnedBy(known, line), last = known.get(number) ?? line;
   const what = revertedBy(last) === null ? namedLine(names, desk, last) : `call ${number}`;
@@ -1038,11 +1059,11 @@ function worded(names, desk, line, known = new Map(), [reverted, back] = TURNS) 
 }
 // A call by its number, as something that can be taken back: "mute Bob (202)", "the revert of mute Bob (202)". The
 // page may not know its line, since a history leaves out what was reverted.
-function callWords(names, desk, number, known) {
+export function callWords(names, desk, number, known) {
   return known.has(number) ? worded(names, desk, known.get(number), known, THINGS) : `call ${number}`;
 }
 // The beginning of long words. A name that is cut still stands by itself.
-function begun(words) {
+export function begun(words) {
   const letters = [...words], kept = letters.slice(0, SHORT_WORDS).join("");
   const isOpen = kept.lastIndexOf("\u2068") > kept.lastIndexOf("\u2069");
   return letters.length > SHORT_WORDS ? `${kept}${isOpen ? "\u2069" : ""}\u2026` : words;
@@ -1065,7 +1086,7 @@ function namedWord(names, desk, kind, word) {
 
 // What leads to the desk right behind a call: the undos that take back the calls after it, or the redos up to it. A
 // call that was reverted is undone behind its revert, though the history leaves it out.
-function wayTo(past, number) {
+export function wayTo(past, number) {
   if (past.done.some((one) => one.number === number)) {
     const numbers = new Set(past.done.flatMap((one) => [one.number, revertedBy(one.line) ?? one.number]));
     const later = [...numbers].filter((one) => one > number).sort((a, b) => b - a);
@@ -1074,7 +1095,7 @@ function wayTo(past, number) {
   const undone = past.undone.findIndex((one) => one.number === number);
   return undone < 0 ? null : { word: "redo", calls: past.undone.slice(undone).reverse() };
 }
-function wayWords({ word, calls }, isLast) {
+export function wayWords({ word, calls }, isLast) {
   if (isLast) return "An undo takes it back.";
   const count = calls.length, many = count === 1 ? `One ${word} leads` : `${count} ${word}s lead`;
   return `${many} to the desk right behind it: ${calls.map(({ number }) => number).join(", ")}.`;
@@ -1085,14 +1106,14 @@ const LACKS = { 1: "what it adds would be there already", 2: "no such room", 3: 
   5: "no such slot", 6: "the source would be of the other kind", 7: "they would be in two rooms",
   8: "the SSRC would be used", 12: "the table would be full", 21: "the room would have another rate" };
 // Why a revert is refused, in words, by the words of the refusal from its number on; or undefined.
-function againstRevert(seen, [refusal, , ...more]) {
+export function againstRevert(seen, [refusal, , ...more]) {
   if (refusal === "23") return "it isn't in force any more";
   if (refusal === "24") return `it lies too far back: over ${more[0]} commands came since`;
   if (refusal === "25") return needing(seen, ...more);
   return refusal === "26" ? elsewhere(seen, ...more) : undefined;
 }
 // The call that stands in the way of a revert, by the answer to it; or null.
-function callInTheWay(said) {
+export function callInTheWay(said) {
   const found = /^no [0-9]+ 25 Conflict ([0-9]+) /.exec(said);
   return found && Number(found[1]);
 }
@@ -1111,15 +1132,4 @@ function elsewhere({ names, desk }, kind, word) {
   return rows?.has(Number(word)) ? `it would also take ${what} out` : `it would also bring ${what} back`;
 }
 
-if (typeof module !== "undefined") {
-  module.exports = {
-    memberLine, roomLine, overview, parseNames, renamed, labelled, sourceName, cut, grouped, toggled, othersMuted,
-    movedAll, goesAlong, changedRooms, nameRefusal, parseDesk, isMusic, roomsFor, codecOf, seen, videosFor, heard,
-    lines, dropped, free, suggested, inWords, replyInWords, parseHistory, worded, callWords, begun, wayTo, wayWords,
-    callInTheWay, changes, keptText, groupsIn, parseStats, agoInWords, isSilent, isLossy, countOf, countInWords,
-    streamInWords, turnedRooms, strangersIn, personWord, personName, callsIn, whoOf, timeOf, isOthers, makesRooms,
-    undoOf, redoOf, newcomer, editedText, isOlderText, withCalls, traced, tracedAll, plotted, figuresOf, levelOf,
-    speechAfter, levelInWords, gainInWords, spanInWords, objectsOfRow, objectsOfLine, othersObjects, placeChanges,
-    inOldPlaces, troubleOf, tallyOf, isCounted, linkOf, linkInWords, newerIn, callerInWords, closedBy, closedInWords };
-}
 "##;

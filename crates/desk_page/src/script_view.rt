@@ -1,15 +1,72 @@
 //! How the page shows the desk, and what is done at it.
 //! `tools/bridge make page` writes this file, from these files of web/:
-//! view.js, rows.js, page.js, taking.js, link.js, stream.js, counts.js, places.js, drawing.js, hands.js.
+//! known.js, view.js, rows.js, page.js, taking.js, link.js, stream.js, counts.js, places.js, drawing.js, hands.js.
+
+/// known.js
+pub(crate) const KNOWN_JS: &[u8] = br##"
+// What the page knows. All files read it, and many change it.
+import { NOBODY } from "./people.js";
+
+// The desk and its text, its history, the calls of the log, the names, and what the bridge counts.
+export let desk = null, shownText = null, past = null, calls = new Map();
+export let names = {}, namesVersion = -1, stats = null;
+// The link: when news last came, what the program says of its bridge, and whether the page asks for the desk, or will.
+export let lastNews = performance.now(), since = null, told = "", asking = false, timer = null;
+// Who is at this page; which member is open, which call of the history is unfolded, which number filters the list, what
+// is dragged, and the lines that are collected.
+export let me = NOBODY, opened = null, walked = null, filter = "", drag = null, group = [];
+// What is folded and picked, the last member in each room, gains that are shown though they are even, sliders at rest
+// until their line is sent, and the numbers that forms suggest.
+export const folded = new Map(), picked = new Set(), here = new Map();
+export const widened = new Set(), resting = new Map(), suggestions = new Map();
+// Which control is pressed, the versions that calls of this page made, when others have last changed an object or a
+// member, and how long such a member is marked, in milliseconds.
+export let pressed = null;
+export const mine = new Set(), touchedAt = new Map(), freshAt = new Map(), MARKED = 3000;
+// What stands still: when places changed last, and were ordered, and whether something beside the list is held.
+export let movedAt = -Infinity, orderedAt = -Infinity, heldAside = false;
+
+// How other files change these: what is imported can't be assigned.
+export const set = {
+  desk: (it) => (desk = it),
+  shownText: (it) => (shownText = it),
+  past: (it) => (past = it),
+  calls: (it) => (calls = it),
+  names: (it) => (names = it),
+  namesVersion: (it) => (namesVersion = it),
+  stats: (it) => (stats = it),
+  lastNews: (it) => (lastNews = it),
+  since: (it) => (since = it),
+  told: (it) => (told = it),
+  asking: (it) => (asking = it),
+  timer: (it) => (timer = it),
+  me: (it) => (me = it),
+  opened: (it) => (opened = it),
+  walked: (it) => (walked = it),
+  filter: (it) => (filter = it),
+  drag: (it) => (drag = it),
+  group: (it) => (group = it),
+  pressed: (it) => (pressed = it),
+  movedAt: (it) => (movedAt = it),
+  orderedAt: (it) => (orderedAt = it),
+  heldAside: (it) => (heldAside = it),
+};
+"##;
 
 /// view.js
-pub(crate) const VIEW_JS: &[u8] = br##""use strict";
-// Drawing.
-// What is drawn is changed in place, so that focus, scrolling and what is typed stay.
-const at = (id) => document.getElementById(id);
+pub(crate) const VIEW_JS: &[u8] = br##"
+// Drawing. What is drawn is changed in place, so that focus, scrolling and what is typed stay.
+import { MUSIC, lines } from "./lines.js";
+import { labelled } from "./overview.js";
+import { gainInWords } from "./levels.js";
+import { PLOT_HEIGHT, PLOT_WIDTH } from "./plots.js";
+import { wayWords } from "./history.js";
+import { fate } from "./rows.js";
+
+export function at(id) { return document.getElementById(id); }
 
 // An element with attributes, and children behind one another. `line` is the line that a click sends.
-function el(tag, props, ...children) {
+export function el(tag, props, ...children) {
   const node = document.createElement(tag);
   for (const [name, value] of Object.entries(props ?? {})) {
     if (value === null || value === undefined || value === false) continue;
@@ -18,14 +75,14 @@ function el(tag, props, ...children) {
   node.append(...children.flat().filter((child) => child !== null && child !== undefined && child !== ""));
   return node;
 }
-const soft = (...text) => el("span", { class: "soft" }, ...text);
-const code = (text) => el("code", {}, text);
+export const soft = (...text) => el("span", { class: "soft" }, ...text);
+export const code = (text) => el("code", {}, text);
 // A name may run from right to left, so that it stands by itself.
-const bdi = (text) => el("bdi", {}, text);
+export const bdi = (text) => el("bdi", {}, text);
 
 // The controls that were pressed and have no answer yet, by their keys: each with its line, and the version as which it
 // was accepted, or 0.
-const waits = new Map();
+export const waits = new Map();
 const busy = (key) => (waits.has(key) ? "true" : null);
 
 // A button that sends a line, which it shows when it is pointed at or reached by Tab. `what` tells its object. A button
@@ -35,24 +92,24 @@ function sends(text, line, what, kind = "", key = line) {
     "aria-label": `${text} ${what}`, "aria-busy": busy(key) }, text);
 }
 // A button that the page acts on itself.
-function does(text, act, of, what, more = {}) {
+export function does(text, act, of, what, more = {}) {
   return el("button", { type: "button", class: "small", "data-key": `${act} ${of}`, "data-act": act, "data-of": of,
     "aria-label": `${text} ${what}`, "aria-busy": busy(`${act} ${of}`), ...more }, text);
 }
 // A choice that sends the line `PREFIX CHOSEN`, or hands what is chosen to an act. It is filled once it is opened.
-function chooses(text, what, key, more) {
+export function chooses(text, what, key, more) {
   return el("select", { class: "small", "aria-label": `${text} ${what}`, "data-key": key, "data-choice": key, ...more },
     el("option", { value: "" }, text));
 }
 
 // The sliders that an operator holds, or moved by a key just now, by their keys: the gain that each had then, and the
 // one that was sent. One that another operator has changed meanwhile is lost, and follows the desk.
-const touched = new Map();
+export const touched = new Map();
 const isBusy = (node) => (node.type === "range" ? touched.get(node.dataset.key)?.isLost === false :
   node === document.activeElement);
 
 // Makes a node look like another one, and keeps all of it that is so already.
-function morph(node, next) {
+export function morph(node, next) {
   if (node.nodeType === Node.TEXT_NODE) {
     if (node.data !== next.data) node.data = next.data;
     return;
@@ -68,7 +125,7 @@ function morph(node, next) {
 }
 const keyOf = (node) => node.dataset?.key ?? node.id ?? "";
 const isLike = (node, next) => node.nodeName === next.nodeName && keyOf(node) === keyOf(next);
-function morphChildren(node, nexts) {
+export function morphChildren(node, nexts) {
   const keys = new Set(nexts.map(keyOf).filter((key) => key));
   for (const child of [...node.childNodes]) if (keyOf(child) && !keys.has(keyOf(child))) child.remove();
   let place = node.firstChild;
@@ -94,7 +151,7 @@ function morphChildren(node, nexts) {
 
 // Draws a list into a node: each item with its key and a model. An item whose model is as before isn't drawn again, nor
 // is one that is known to be kept.
-function drawList(node, items, draw) {
+export function drawList(node, items, draw) {
   const known = node.drawn ?? new Map(), drawn = new Map();
   const keys = new Set(items.map((item) => item.key));
   for (const [key, entry] of known) if (!keys.has(key)) entry.node.remove();
@@ -120,7 +177,7 @@ function drawList(node, items, draw) {
 function titled(name, kind, number) {
   return name ? [bdi(name), soft(` ${kind} ${number}`)] : [`${kind} ${number}`];
 }
-const spoken = (name, kind, number) => (name ? `${name} ${kind} ${number}` : `${kind} ${number}`);
+export const spoken = (name, kind, number) => (name ? `${name} ${kind} ${number}` : `${kind} ${number}`);
 
 // A room of the overview: its head, and a list for its members. All of the head has its place, whatever is said there.
 function roomHead(model) {
@@ -148,7 +205,7 @@ function roomHead(model) {
     does("Remove", "remove-room", room, what,
       { class: "small danger quiet", title: lines.removeRoom(room), ...off }));
 }
-function roomCard({ model }) {
+export function roomCard({ model }) {
   const { room, name, isFolded, isEmpty } = model;
   return el("section", { class: "room", "data-room": room, "data-key": `room ${room}`,
     "aria-labelledby": `room-${room}` }, roomHead(model),
@@ -204,7 +261,7 @@ function slotRow({ slot, index, source, label, by: rule, why, isSubscribed, hasL
       sends("Remove", lines.removeSlot(slot), `slot ${slot}`, "danger")),
     count ? el("span", { class: "soft counted" }, count) : "");
 }
-function detailPanel(model) {
+export function detailPanel(model) {
   const { member, name, room, roomLabel, left } = model, who = spoken(name, "member", member);
   const part = (title, rows, none) => [el("h3", { "data-key": title }, title), ...(rows.length ? rows : [soft(none)])];
   return el("section", { id: "detail", class: left ? "left" : null, "aria-labelledby": "detail-title",
@@ -230,7 +287,7 @@ function detailPanel(model) {
 }
 
 // An unknown sender, and a button that fills in the form to add it.
-function strangerItem({ model: { address, ssrc, type, packets, member, isElsewhere, hasLeft } }) {
+export function strangerItem({ model: { address, ssrc, type, packets, member, isElsewhere, hasLeft } }) {
   const whose = member === null ? "no member has this address" : `the address of member ${member}`;
   const known = isElsewhere ? `source ${ssrc} is declared at another address` : whose;
   return el("li", { class: hasLeft ? "left" : null }, `${address} `,
@@ -239,7 +296,7 @@ function strangerItem({ model: { address, ssrc, type, packets, member, isElsewhe
 }
 
 // A call of the history, and below the one that is clicked how it is taken back alone, and what leads to it.
-function callItem({ model: { number, when, who, text, isUndone, isWalked, isOnWay, way, revert, hasLeft } }) {
+export function callItem({ model: { number, when, who, text, isUndone, isWalked, isOnWay, way, revert, hasLeft } }) {
   return el("li", { class: `${isUndone ? "undone" : ""}${isOnWay ? " way" : ""}${hasLeft ? " left" : ""}` },
     el("button", { type: "button", class: "call", "data-act": "walk", "data-of": number, "data-key": `walk ${number}`,
       "aria-label": `${text} version ${number}`, "aria-expanded": String(isWalked) }, code(text)),
@@ -255,23 +312,29 @@ function revertButton(number, who, what) {
     "data-act": "revert", "data-of": number, "aria-label": `Revert: ${what}${whose}, version ${number}`,
     "aria-busy": busy(line) }, el("span", {}, `Revert: ${what}`), whose);
 }
-function wayOf(way) {
+export function wayOf(way) {
   const count = way.calls.length, word = way.word === "undo" ? "Undo" : "Redo";
   return { text: wayWords(way, count === 0), count, label: count > 1 ? `${word} these ${count}` : word };
 }
 "##;
 
 /// rows.js
-pub(crate) const ROWS_JS: &[u8] = br##""use strict";
+pub(crate) const ROWS_JS: &[u8] = br##"
 // A member's row of the overview: its state, its name, its figures, what it sees and sends, and its mute.
+import { memberOf } from "./lines.js";
+import { labelled } from "./overview.js";
+import { LEAST_LEVEL, levelInWords, spanInWords } from "./levels.js";
+import { figuresOf } from "./stats.js";
+import { desk, stats } from "./known.js";
+import { at, bdi, does, el, soft, spoken } from "./view.js";
 
 // What stands out of how a source's packets come: a class, and words.
-function fate({ isSilent: silent, isLossy: lossy }) {
+export function fate({ isSilent: silent, isLossy: lossy }) {
   if (silent) return { mark: " silent", words: "no packet comes" };
   return lossy ? { mark: " lossy", words: "over 2 percent of the packets are lost" } : { mark: "", words: null };
 }
 // A member's state: a sign, a class and words.
-const STATES = { silent: ["\u2716", "warn", "silent: no packet comes"],
+export const STATES = { silent: ["\u2716", "warn", "silent: no packet comes"],
   "losing in": ["\u26a0", "bad", "losing over 2 percent of its packets"],
   "losing out": ["\u26a0", "bad", "losing over 2 percent of what it is sent"],
   "muted floor": ["\u2298", "bad", "has the floor and is muted"],
@@ -284,7 +347,7 @@ function stateOf({ trouble, muted }, { isSpeaking }) {
 const SHAKY = 30, FAR = 250;
 const percent = (share) => (share === null ? "\u2013" : share < 0.0005 ? "0" : (100 * share).toFixed(1));
 const whole = (ms) => (ms === null ? "\u2013" : String(ms));
-function cellsOf({ lossIn, isLosingIn, jitter, lossOut, isLosingOut, trip }) {
+export function cellsOf({ lossIn, isLosingIn, jitter, lossOut, isLosingOut, trip }) {
   return [["in", percent(lossIn), isLosingIn ? " bad" : ""], ["jitter", whole(jitter), jitter >= SHAKY ? " warn" : ""],
     ["out", percent(lossOut), isLosingOut ? " bad" : ""], ["trip", whole(trip), trip >= FAR ? " warn" : ""]];
 }
@@ -329,7 +392,7 @@ const dbov = ({ level }) => (level === null ? null : Math.round(level));
 const areAlike = (a, b) => a.lossIn === b.lossIn && a.jitter === b.jitter && a.lossOut === b.lossOut &&
   a.trip === b.trip && a.look === b.look && dbov(a) === dbov(b);
 // Shows the figures of all rows that are drawn, where they have changed.
-function drawFigures() {
+export function drawFigures() {
   for (const { node: room } of at("board").drawn?.values() ?? []) {
     for (const [number, entry] of room.lastElementChild.drawn ?? []) {
       const member = entry.model.left ? undefined : memberOf(desk, number);
@@ -361,7 +424,7 @@ function seenCell({ sees, left }) {
 }
 
 // A member's line of the overview. One that has left stays in its place as long as places are held.
-function memberRow({ model, room, figures }) {
+export function memberRow({ model, room, figures }) {
   const { member, name, floor, muted, odd, hasAudio, isOpen, isChosen, isHere, trouble, left, isFresh } = model;
   const who = spoken(name, "member", member), words = STATES[trouble][2], off = left ? { "aria-disabled": "true" } : {};
   const short = name ? [bdi(name), soft(` ${member}`)] : [`member ${member}`];
@@ -389,27 +452,33 @@ function memberRow({ model, room, figures }) {
 "##;
 
 /// page.js
-pub(crate) const PAGE_JS: &[u8] = br##""use strict";
-// What the page knows, and what goes out.
-const EVERY = 250, JUDGED_EVERY = 500, TRIES = 3, PATIENCE = 8000, REST = 400, SLOW = 1000;
-const FEW_ROOMS = 8, FEW_MEMBERS = 4, ROW_HEIGHT = 25, HEAD_HEIGHT = 34, FADES = 5000, MARKED = 3000;
-const folded = new Map(), picked = new Set(), here = new Map();
-const widened = new Set(), resting = new Map(), suggestions = new Map();
-let desk = null, shownText = null, drag = null, group = [], timer = null, asking = false, opened = null, past = null;
-let isAskedAgain = false;
-let names = {}, namesVersion = -1, walked = null, stats = null, counted = -Infinity;
-// The calls of the log, who is at this page, and what a question is about that a newer change closes.
-let calls = new Map(), me = NOBODY, asked = null;
-// The link: when news last came, what the program says of its bridge, and what the page makes of both.
-let lastNews = performance.now(), since = null, told = "", link = "connecting";
-// The versions that calls of this page made, when others have last changed an object, and which control is pressed.
-const mine = new Set(), touchedAt = new Map(), freshAt = new Map();
-let pressed = null, fading = null, newsFading = null, counting = false;
-let token = document.querySelector('meta[name="desk-token"]').content;
+pub(crate) const PAGE_JS: &[u8] = br##"
+// What goes out: calls, names and questions; and what clicks do.
+import { heard, lines, memberOf, membersIn, nameRefusal, replyInWords, roomsFor, videosFor,
+  withField } from "./lines.js";
+import { LONGEST_NAME, MOST_PARTS, goesAlong, grouped, labelled, movedAll, nameOf, othersMuted, parseNames, renamed,
+  sourceName, toggled, voicesOf } from "./overview.js";
+import { groupsIn, keptText } from "./kept.js";
+import { newerIn } from "./people.js";
+import { JUST, objectsOfLine } from "./rules.js";
+import { begun, callInTheWay, callWords, wayTo } from "./history.js";
+import { desk, filter, folded, group, here, mine, names, namesVersion, opened, past, picked, pressed, set, touchedAt,
+  walked, widened } from "./known.js";
+import { at, code, el, spoken, waits } from "./view.js";
+import { goes, sendsAfter, takes } from "./taking.js";
+import { ANEW, PATIENCE, get, isGone, post, show } from "./link.js";
+import { isFollowed } from "./stream.js";
+import { fillSource } from "./counts.js";
+import { lastFit } from "./places.js";
+import { render, renderHistory } from "./drawing.js";
+
+// After so many milliseconds without an answer that is said, and a success fades.
+const SLOW = 1000, FADES = 5000;
+let fading = null, newsFading = null;
 
 // What became of the last press. A success fades, a refusal stays until it is closed. Where a call of the history is
 // why, a button leads to it.
-function notice(text, good, why = null) {
+export function notice(text, good, why = null) {
   at("notice").textContent = at("notice").title = text;
   at("notice").className = good ? "good" : "";
   at("notice").hidden = at("close-notice").hidden = false;
@@ -419,17 +488,17 @@ function notice(text, good, why = null) {
   clearTimeout(fading);
   if (good) fading = setTimeout(closeNotice, FADES);
 }
-function closeNotice() { at("notice").hidden = at("close-notice").hidden = at("show-call").hidden = true; }
+export function closeNotice() { at("notice").hidden = at("close-notice").hidden = at("show-call").hidden = true; }
 
 // What others did.
-function tellNews(text) {
+export function tellNews(text) {
   at("news").textContent = at("news").title = text;
   clearTimeout(newsFading);
   newsFading = setTimeout(() => { at("news").textContent = at("news").title = ""; }, 2 * FADES);
 }
 
 // Why a line isn't sent just now, in words, or nothing.
-function whyNot(line, key) {
+export function whyNot(line, key) {
   if (isGone()) return `${at("status").textContent} Nothing is sent until it is back.`;
   if (key && waits.has(key)) return "The press before has no answer yet.";
   const just = performance.now() - JUST, object = objectsOfLine(line).find((one) => touchedAt.get(one) > just);
@@ -446,7 +515,7 @@ function answered(key, version) {
   else waits.delete(key);
   showWaits();
 }
-function showWaits() {
+export function showWaits() {
   for (const node of document.querySelectorAll("[data-key][aria-busy]")) {
     if (!waits.has(node.dataset.key)) node.removeAttribute("aria-busy");
   }
@@ -459,7 +528,7 @@ function showWaits() {
 // Sends a line once, unless there is a reason not to, which is told. The version as which it is accepted, or 0.
 // Whatever comes of it, the desk is shown again; the line is never sent again by itself. `saw` is the version of the
 // desk that the person saw.
-async function call(line, words = line, key = pressed, saw = desk?.version) {
+export async function call(line, words = line, key = pressed, saw = desk?.version) {
   const why = whyNot(line, key);
   if (why) {
     notice(`${words}: not sent. ${why}`);
@@ -500,7 +569,7 @@ function save() {
 
 // Makes a desk again from such a file: all of it or nothing.
 const RESTORED = "Where it is restored streams begin anew, with FIRST_SEQ 1,000 further on.";
-async function restore(text) {
+export async function restore(text) {
   const groups = groupsIn(text), what = "Restore";
   if (!groups) return notice(`${what}: that is no saved desk, or part of it is missing. Nothing was sent.`);
   if (desk.rows.length > 0) return notice(`${what}: the desk has rooms. Remove them first. Nothing was sent.`);
@@ -520,7 +589,7 @@ async function takesBack(versions) {
 }
 
 // Sends commands as one call.
-function callAll(parts, what) {
+export function callAll(parts, what) {
   const count = parts.length;
   if (count > MOST_PARTS) return notice(`${what}: that takes ${count} commands. A group has ${MOST_PARTS} at most.`);
   if (count > 0) return call(grouped(parts), count > 1 ? `${what} (${count} commands as one)` : parts[0]);
@@ -529,23 +598,24 @@ function callAll(parts, what) {
 
 function collect(line) { group.push(line); showGroup(); return 0; }
 
-function showGroup() {
+export function showGroup() {
   at("collected").replaceChildren(...group.map((line) => el("li", {}, code(line))));
   at("collected").hidden = at("group-buttons").hidden = group.length === 0;
 }
 
 // Names, as the page's program keeps them.
-async function takeNames() {
+export async function takeNames() {
   const reply = await get("/names");
   document.body.classList.toggle("nameless", reply.status === 404);
   if (!reply.ok) return false;
   const told = parseNames(await reply.text());
-  [names, namesVersion] = [told.names, told.version];
+  set.names(told.names);
+  set.namesVersion(told.version);
   return true;
 }
 
 // Names a thing for all. Where another browser has named something meanwhile, its names are taken first.
-async function rename(kind, number, name) {
+export async function rename(kind, number, name) {
   const what = `the name of ${kind} ${number}`;
   for (let turn = 0; turn < 8; turn += 1) {
     const body = `names ${namesVersion}\n${JSON.stringify(renamed(names, kind, number, name))}`;
@@ -568,7 +638,7 @@ async function rename(kind, number, name) {
 }
 
 // Asks a question, with a field for a text where one is given. The text, or null.
-function question(title, text, yes, value = null) {
+export function question(title, text, yes, value = null) {
   at("ask-title").textContent = title;
   at("ask-text").textContent = text;
   at("ask-yes").textContent = yes;
@@ -583,10 +653,10 @@ function question(title, text, yes, value = null) {
 }
 
 // A call of the history as something that is taken back or done again.
-const saidOf = (number) => callWords(names, desk, number, past?.known ?? new Map());
+export const saidOf = (number) => callWords(names, desk, number, past?.known ?? new Map());
 // Unfolds a call of the history, and goes there.
 function showCall(number) {
-  walked = number;
+  set.walked(number);
   renderHistory();
   const node = at("calls").querySelector(`[data-key="walk ${number}"]`);
   node?.scrollIntoView({ block: "nearest" });
@@ -594,22 +664,23 @@ function showCall(number) {
 }
 
 const pickedVoices = (muted) => voicesOf(desk, [...picked], muted);
-const sourceLabel = (ssrc) => labelled(sourceName(names, desk, ssrc), ssrc);
+export const sourceLabel = (ssrc) => labelled(sourceName(names, desk, ssrc), ssrc);
 
-// What clicks do, by their `data-act`.
-const acts = {
+// What clicks do, by their `data-act`. The page asks before a room goes that has more members than these few.
+const FEW_MEMBERS = 4;
+export const acts = {
   open: (of) => {
-    opened = opened === Number(of) ? null : Number(of);
+    set.opened(opened === Number(of) ? null : Number(of));
     setHere(Number(of));
     render();
   },
-  close: () => { opened = null; render(); },
+  close: () => { set.opened(null); render(); },
   "take-stranger": (of) => fillSource(Number(of)),
-  walk: (of) => { walked = walked === Number(of) ? null : Number(of); renderHistory(); },
+  walk: (of) => { set.walked(walked === Number(of) ? null : Number(of)); renderHistory(); },
   "show-call": (of) => showCall(Number(of)),
   go: (of) => { const way = past && wayTo(past, Number(of)); if (way) goes(way); },
   fold: (of) => { folded.set(Number(of), !isFolded(Number(of))); render(null, true, true); },
-  filter: (of) => { filter = filter === of ? "" : of; lastFit.clear(); render(null, true, true); },
+  filter: (of) => { set.filter(filter === of ? "" : of); lastFit.clear(); render(null, true, true); },
   unknown: () => {
     at("unknown").scrollIntoView({ block: "nearest" });
     at("strangers").querySelector("button")?.focus();
@@ -646,7 +717,7 @@ const slotOf = (ssrc) => withField(desk.slots, "ssrc", ssrc)[0];
 const evenlyHeard = (member) => heard(desk, memberOf(desk, member)).filter((s) => s.gain === 256);
 
 // What a choice offers, and what is done with what is picked.
-const choices = {
+export const choices = {
   subscribe: { options: (slot) => videosFor(desk, slotOf(slot)).map((ssrc) => [ssrc, sourceLabel(ssrc)]),
     choose: (slot, ssrc) => call(lines.subscribe(slot, ssrc)) },
   "move-member": { options: (member) => roomsFor(desk, memberOf(desk, member)).map(roomOption),
@@ -656,24 +727,32 @@ const choices = {
   "move-chosen": { options: () => desk.rooms.map(roomOption),
     choose: (_, room) => callAll(movedAll(desk, [...picked], room), `move the selected members to room ${room}`) },
 };
-const roomOption = (room) => [room, labelled(nameOf(names, "room", room), room)];
-function offer(select) {
+export const roomOption = (room) => [room, labelled(nameOf(names, "room", room), room)];
+export function offer(select) {
   if (select.options.length > 1) return;
   const [kind, of] = select.dataset.choice.split(" ");
   select.append(...choices[kind].options(Number(of)).map(([value, text]) => el("option", { value }, text)));
 }
 
-const isFolded = (room) => folded.get(room) ?? desk.rooms.length > FEW_ROOMS;
-function setHere(member) {
+// Where there are more rooms than these few, a room is folded until it is unfolded.
+const FEW_ROOMS = 8;
+export const isFolded = (room) => folded.get(room) ?? desk.rooms.length > FEW_ROOMS;
+export function setHere(member) {
   const row = memberOf(desk, member);
   if (row) here.set(row.room, member);
 }
 "##;
 
 /// taking.js
-pub(crate) const TAKING_JS: &[u8] = br##""use strict";
+pub(crate) const TAKING_JS: &[u8] = br##"
 // Taking calls back, and doing them again.
+import { callerInWords, isOthers, makesRooms, timeOf, whoOf } from "./people.js";
+import { calls, desk, me, mine, names, past } from "./known.js";
+import { at } from "./view.js";
+import { call, notice, question, saidOf, whyNot } from "./page.js";
 
+// What a question is about that a newer change closes.
+let asked = null;
 // Asks before another one's calls, or a restored desk, are taken back. A change that comes meanwhile closes the
 // question.
 async function mayTake(numbers, word) {
@@ -688,24 +767,24 @@ async function mayTake(numbers, word) {
   asked = null;
   return isWanted;
 }
-function closeStale() {
+export function closeStale() {
   if (!asked || asked.version === past.version) return;
   at("ask").close();
   notice("Not done: another change came first. Look, and press again.");
 }
 // Sends a line that wasn't sent since another person's call of its row came first, if that is still wanted.
-async function sendsAfter(other, line, words, key) {
+export async function sendsAfter(other, line, words, key) {
   const text = `${callerInWords(other, { names, desk, past })} Yours was not sent: ${words}.`;
   if (await question("Send yours all the same?", text, "Send") === null) return 0;
   return call(line, words, key, Math.max(other.number, desk.version));
 }
 // Takes a call back, or does one again, by a line.
-async function takes({ number, line }, words, key, word) {
+export async function takes({ number, line }, words, key, word) {
   if (word === "Redo" || whyNot(line, key) || await mayTake([number], word)) await call(line, words, key);
 }
 
 // Undoes or redoes calls, one after another. It stops where one isn't accepted, such as where another call came first.
-async function goes({ word, calls: those }) {
+export async function goes({ word, calls: those }) {
   const name = word === "undo" ? "Undo" : "Redo";
   if (word === "undo" && !await mayTake(those.map(({ number }) => number), name)) return;
   let version = past.version;
@@ -716,15 +795,34 @@ async function goes({ word, calls: those }) {
 "##;
 
 /// link.js
-pub(crate) const LINK_JS: &[u8] = br##""use strict";
+pub(crate) const LINK_JS: &[u8] = br##"
 // Asking the page's program, and what comes in: the desk, its history, and what others did.
+import { changedRooms, changes, memberOf, parseDesk, sourceOf } from "./lines.js";
+import { gainInWords } from "./levels.js";
+import { callsIn, timeOf, whoOf } from "./people.js";
+import { isOlderText } from "./news.js";
+import { GONE, linkInWords, linkOf, othersObjects } from "./rules.js";
+import { parseHistory, worded } from "./history.js";
+import { MARKED, asking, calls, desk, drag, freshAt, lastNews, me, mine, names, namesVersion, past, resting, set,
+  shownText, since, timer, told, touchedAt } from "./known.js";
+import { at, touched, waits } from "./view.js";
+import { notice, saidOf, showWaits, sourceLabel, takeNames, tellNews } from "./page.js";
+import { closeStale } from "./taking.js";
+import { isFollowed } from "./stream.js";
+import { render, renderHistory } from "./drawing.js";
 
-async function ask(path, options) {
+// How often the page asks for the desk by itself, how often it tries, and how long it waits, in milliseconds.
+export const EVERY = 250, PATIENCE = 8000;
+const TRIES = 3;
+let token = document.querySelector('meta[name="desk-token"]').content;
+let isAskedAgain = false, link = "connecting";
+
+export async function ask(path, options) {
   return fetch(path, { ...options, cache: "no-store", signal: AbortSignal.timeout(options?.method ? PATIENCE : GONE) });
 }
 
 // Asks without changing anything. A connection that has to make way for others is tried again.
-async function get(path) {
+export async function get(path) {
   for (let turn = 1; ; turn += 1) {
     try {
       return await ask(path);
@@ -737,7 +835,7 @@ async function get(path) {
 
 // Posts. A call says which version of the desk its person saw. A token of an earlier run of the program is replaced,
 // but nothing is sent twice.
-async function post(path, body, saw) {
+export async function post(path, body, saw) {
   const headers = { "X-Desk-Token": token, "X-Desk-Person": me };
   if (saw !== undefined) headers["X-Desk-Seen"] = saw;
   const reply = await ask(path, { method: "POST", headers, body });
@@ -747,38 +845,38 @@ async function post(path, body, saw) {
 async function takeToken() {
   const page = new DOMParser().parseFromString(await (await get("/")).text(), "text/html");
   token = page.querySelector('meta[name="desk-token"]').content;
-  namesVersion = -1;
+  set.namesVersion(-1);
 }
-const ANEW = "not sent: the page's program was started anew. Look, and press again.";
+export const ANEW = "not sent: the page's program was started anew. Look, and press again.";
 
 // Asks for the desk, and shows it where it has changed. Without a stream of events it is asked for again and again.
-async function show() {
+export async function show() {
   if (asking) {
     isAskedAgain = true;
     return;
   }
-  asking = true;
+  set.asking(true);
   clearTimeout(timer);
   try {
     const reply = await get(shownText && desk.state ? `/desk.txt?after=${desk.state}` : "/desk.txt");
     const text = reply.status === 204 ? shownText : await reply.text();
     if (reply.ok) await take(text);
-    else told = text.startsWith("Busy") ? "seats" : "bridge";
+    else set.told(text.startsWith("Busy") ? "seats" : "bridge");
   } catch (error) {
     const isLink = error instanceof TypeError || ["TimeoutError", "AbortError"].includes(error.name);
     if (!isLink) console.error(error);
   }
   judge();
-  asking = false;
+  set.asking(false);
   clearTimeout(timer);
   if (isAskedAgain) show();
-  else if (!isFollowed()) timer = setTimeout(show, EVERY);
+  else if (!isFollowed()) set.timer(setTimeout(show, EVERY));
   isAskedAgain = false;
 }
 
 // What the page makes of its link. Where it is gone all can be read, and nothing is sent.
-const isGone = () => ["gone", "bridge", "seats"].includes(link);
-function judge() {
+export const isGone = () => ["gone", "bridge", "seats"].includes(link);
+export function judge() {
   const quiet = performance.now() - lastNews, is = linkOf(told, quiet);
   link = is === "live" && !desk ? "connecting" : is;
   const text = linkInWords(link, quiet, since);
@@ -791,12 +889,14 @@ function judge() {
 
 // Texts are taken one after another, since each may have to wait for names and history.
 let taking = Promise.resolve();
-function take(text) {
+export function take(text) {
   taking = taking.catch(() => {}).then(() => takeText(text));
   return taking;
 }
 async function takeText(text) {
-  [told, lastNews, since] = ["", performance.now(), new Date().toTimeString().slice(0, 8)];
+  set.told("");
+  set.lastNews(performance.now());
+  set.since(new Date().toTimeString().slice(0, 8));
   judge();
   const isNew = !shownText || (text !== shownText && !isOlderText(text, shownText));
   if (isNew && !drag) await takeDesk(text);
@@ -810,14 +910,14 @@ async function takeDesk(text) {
   const rooms = desk && !isRenamed ? changedRooms(desk, next, rows) : null;
   // Another desk of the same version, or of an earlier one, is another bridge's.
   if (desk && (next.version < desk.version || (next.version === desk.version && rows.length > 0))) {
-    past = null;
-    calls = new Map();
+    set.past(null);
+    set.calls(new Map());
     mine.clear();
     waits.clear();
   }
   if (desk) takeOthers(next, rows);
-  shownText = text;
-  desk = next;
+  set.shownText(text);
+  set.desk(next);
   for (const [key, { version }] of waits) if (version && version <= desk.version) waits.delete(key);
   showWaits();
   loseSliders();
@@ -865,10 +965,10 @@ async function takeHistory() {
   // A log from before the history lacks its newest calls. The stream of events tells calls before the desk.
   for (let turn = 0; turn < 2 && !calls.has(next.version); turn += 1) {
     const logged = await get("/past.txt"), log = callsIn(logged.ok ? await logged.text() : "");
-    calls = log;
+    set.calls(log);
     if (log.size === 0) break;
   }
-  past = next;
+  set.past(next);
   if (before) tellOthers(before);
   renderHistory();
   closeStale();
@@ -892,20 +992,25 @@ function tellOthers(before) {
 "##;
 
 /// stream.js
-pub(crate) const STREAM_JS: &[u8] = br##""use strict";
+pub(crate) const STREAM_JS: &[u8] = br##"
 // The stream of events: the page's program tells what happens, and isn't asked for it. Where no stream can be had, the
 // page asks as often as it does without one.
+import { closedBy, closedInWords, editedText, withCalls } from "./news.js";
+import { GONE } from "./rules.js";
+import { calls, desk, drag, lastNews, past, set, shownText, timer, told } from "./known.js";
+import { at } from "./view.js";
+import { judge, show, take } from "./link.js";
 
 // How long after a stream was refused another one is tried, and how long a tab that nobody sees keeps its own: browsers
 // have six connections to a host for all of their tabs.
 const RETRIED = 5000, KEPT_HIDDEN = 30000;
 let stream = null, isHeard = false, openedAt = -Infinity, hiding = null, coming = Promise.resolve();
-const isFollowed = () => isHeard && stream?.readyState === EventSource.OPEN;
+export const isFollowed = () => isHeard && stream?.readyState === EventSource.OPEN;
 
 // News came. What the program says of its bridge stays.
 function newsCame() {
-  lastNews = performance.now();
-  if (!told) since = new Date().toTimeString().slice(0, 8);
+  set.lastNews(performance.now());
+  if (!told) set.since(new Date().toTimeString().slice(0, 8));
   judge();
 }
 const onEvent = {
@@ -913,7 +1018,7 @@ const onEvent = {
     isHeard = true;
     clearTimeout(timer);
     if (!desk || desk.state !== state) return show();
-    told = "";
+    set.told("");
     return newsCame();
   },
   desk: (edit) => {
@@ -921,9 +1026,9 @@ const onEvent = {
     return text === null ? show() : take(text);
   },
   lease: (state) => showClosed(closedBy(state)),
-  call: (line) => { calls = withCalls(calls, line); },
+  call: (line) => { set.calls(withCalls(calls, line)); },
   bridge: (word) => {
-    told = { gone: "bridge", busy: "seats" }[word] ?? "";
+    set.told({ gone: "bridge", busy: "seats" }[word] ?? "");
     newsCame();
     return told ? null : show();
   },
@@ -939,9 +1044,9 @@ function showClosed(name) {
   if (at("closed").textContent === text) return;
   at("closed").textContent = at("closed").title = text;
   document.body.classList.toggle("closed", name !== null);
-  movedAt = performance.now();
+  set.movedAt(performance.now());
 }
-function openStream() {
+export function openStream() {
   closeStream();
   openedAt = performance.now();
   stream = new EventSource("/events");
@@ -953,13 +1058,13 @@ function openStream() {
     show();
   });
 }
-function closeStream() {
+export function closeStream() {
   stream?.close();
   stream = null;
   isHeard = false;
 }
 // Opens a stream again that was refused, or that says nothing any more.
-function watchStream() {
+export function watchStream() {
   if (!stream || performance.now() - openedAt < RETRIED) return;
   const isSilent = isHeard && performance.now() - lastNews > GONE;
   if (stream.readyState === EventSource.CLOSED || isSilent) openStream();
@@ -972,17 +1077,26 @@ document.addEventListener("visibilitychange", () => {
 "##;
 
 /// counts.js
-pub(crate) const COUNTS_JS: &[u8] = br##""use strict";
-
+pub(crate) const COUNTS_JS: &[u8] = br##"
 // What the bridge counts: asking for it, and the senders that are no source.
+import { parseStats, strangersIn, turnedRooms } from "./stats.js";
+import { tracedAll } from "./plots.js";
+import { desk, filter, set, stats } from "./known.js";
+import { at, strangerItem } from "./view.js";
+import { drawFigures } from "./rows.js";
+import { ask } from "./link.js";
+import { drawHeld, isHeld } from "./places.js";
+import { render } from "./drawing.js";
+
 // How long after a count the next one is asked for, in milliseconds. An answer for many sources is long.
 const OFTEN = 1000, SELDOM = 2000, MANY_SOURCES = 256;
+let counted = -Infinity, counting = false;
 // The figures of two minutes, by member.
-let traces = new Map();
+export let traces = new Map();
 const countedEvery = () => (stats && stats.sources.size > MANY_SOURCES ? SELDOM : OFTEN);
 // Asks what the bridge counts, while somebody can see the page. Where the bridge doesn't know the question, the status
 // is no success, and nothing is shown of it.
-async function count() {
+export async function count() {
   if (counting || document.visibilityState !== "visible" || performance.now() - counted < countedEvery()) return;
   counting = true;
   counted = performance.now();
@@ -997,10 +1111,10 @@ async function count() {
 }
 function takeStats(next) {
   const before = stats;
-  stats = next;
+  set.stats(next);
   traces = next && desk ? tracedAll(traces, desk, next) : new Map();
   if (!desk) return;
-  if (!before) orderedAt = -Infinity;
+  if (!before) set.orderedAt(-Infinity);
   const turned = before || next ? turnedRooms(desk, before, next) : new Set();
   // Rooms with trouble rise, and who ceases to fit a filter goes, even where nothing has turned since the count before.
   render(filter ? null : turned, false);
@@ -1008,14 +1122,14 @@ function takeStats(next) {
 }
 
 // The senders that are no source, where the bridge tells of any.
-function renderStrangers() {
+export function renderStrangers() {
   const items = strangersIn(stats, desk).map((model) => ({ key: `${model.address} ${model.ssrc}`, model }));
   if (!isHeld("aside")) at("unknown").hidden = items.length === 0;
   drawHeld(at("strangers"), items, strangerItem);
 }
 
 // Fills in the form that adds a source. Which member it is of is the operator's choice.
-function fillSource(ssrc) {
+export function fillSource(ssrc) {
   const found = strangersIn(stats, desk).find((one) => one.ssrc === ssrc);
   if (!found) return;
   const { member, kind } = found, fields = at("add-source").elements;
@@ -1027,17 +1141,27 @@ function fillSource(ssrc) {
 "##;
 
 /// places.js
-pub(crate) const PLACES_JS: &[u8] = br##""use strict";
+pub(crate) const PLACES_JS: &[u8] = br##"
 // What stands where: the rooms, their members, and the numbers of the whole bridge.
+import { memberOf, membersIn } from "./lines.js";
+import { labelled, memberLine, nameOf, overview, roomLine, wordsOf } from "./overview.js";
+import { UNKNOWN, figuresOf, isLossy, isSilent, strangersIn } from "./stats.js";
+import { SETTLED, inOldPlaces, isCounted, placeChanges, tallyOf, troubleOf } from "./rules.js";
+import { MARKED, desk, drag, filter, freshAt, heldAside, here, names, opened, orderedAt, picked, set,
+  stats } from "./known.js";
+import { at, drawList, el, morphChildren, roomCard } from "./view.js";
+import { memberRow } from "./rows.js";
+import { isFolded } from "./page.js";
+import { render } from "./drawing.js";
 
 // Places. Nothing comes, goes or moves in the list or beside it while the pointer is there, a button is held, or a menu
 // is open, and until 600 ms after a touch. What a row says changes at once.
 const over = { board: false, aside: false }, TOUCH = 600;
-let down = null, heldBack = 0, heldAside = false, drawnPlan = [], movedAt = -Infinity, drawnPanel = null, drawnSum = "";
-let filter = "", order = new Map(), orderedAt = -Infinity, spoke = new Set();
-const lastFit = new Map();
+let down = null, heldBack = 0, drawnPlan = [], drawnSum = "";
+let order = new Map(), spoke = new Set();
+export const lastFit = new Map();
 const isMenuOpen = () => CSS.supports("selector(:open)") && document.querySelector("select:open") !== null;
-function isHeld(part) { return over[part] || down === part || drag !== null || isMenuOpen(); }
+export function isHeld(part) { return over[part] || down === part || drag !== null || isMenuOpen(); }
 function releases() {
   down = null;
   if (heldBack > 0 || heldAside) render();
@@ -1058,7 +1182,7 @@ for (const type of ["pointerup", "pointercancel", "dragend"]) {
 at("waiting").addEventListener("click", () => render(null, true, true));
 
 // Tells how many changes of place are held back.
-function tellHeld() {
+export function tellHeld() {
   const count = heldBack + Number(heldAside), what = `change${count === 1 ? "" : "s"} of place held back: show now`;
   const text = count ? `${count} ${what}` : "";
   if (at("waiting").textContent !== text) at("waiting").textContent = text;
@@ -1066,18 +1190,18 @@ function tellHeld() {
 }
 
 // Draws a list beside the overview: while places are held, what was drawn before stays where it is.
-function drawHeld(node, items, draw) {
+export function drawHeld(node, items, draw) {
   const old = [...(node.drawn ?? [])].map(([key, { model }]) => ({ key, model }));
   const isSame = old.map(({ key }) => key).join() === items.map(({ key }) => key).join();
   if (isSame || old.length === 0 || !isHeld("aside")) return drawList(node, items, draw);
-  heldAside = true;
+  set.heldAside(true);
   const kept = inOldPlaces(old, items, "key");
   return drawList(node, kept.map(({ key, model, hasLeft }) => ({ key, model: { ...model, hasLeft } })), draw);
 }
 
 // What is counted of a room, and who of it is in trouble, until something of it changes.
-const infos = new Map();
-function infoOf(room) {
+export const infos = new Map();
+export function infoOf(room) {
   if (!infos.has(room)) {
     const members = membersIn(desk, room);
     const troubled = members.filter((one) => troubleOf(desk, stats, one) !== "").map(({ member }) => member);
@@ -1099,7 +1223,7 @@ function sortRooms(isAsked) {
   order = new Map(rooms.map((room, place) => [room, place]));
   spoke = new Set(key === "weight" ? [] : desk.members.filter((one) => isCounted(desk, stats, key, one))
     .map(({ member }) => member));
-  orderedAt = performance.now();
+  set.orderedAt(performance.now());
 }
 const placeOf = (room) => order.get(room) ?? Number.MAX_SAFE_INTEGER;
 // Where rooms are by who speaks, their members are.
@@ -1117,14 +1241,16 @@ function planOf(isNarrowed) {
   });
 }
 
+// About how high a member and the head of a room are, for rooms that aren't drawn since nobody sees them, in pixels.
+const ROW_HEIGHT = 25, HEAD_HEIGHT = 34;
 // The overview. Where only some rooms have changed, the others stay as they are drawn. What an operator asks for of the
 // list itself, such as a search, is done at once.
-function renderRooms(changed, isAsked) {
+export function renderRooms(changed, isAsked) {
   const isNarrowed = wordsOf(at("search").value).length > 0 || filter !== "";
   sortRooms(isAsked);
   const next = planOf(isNarrowed), moved = placeChanges(drawnPlan, next);
   const isKept = moved > 0 && drawnPlan.length > 0 && !isAsked && isHeld("board"), plan = isKept ? drawnPlan : next;
-  if (moved > 0 && drawnPlan.length > 0 && !isKept && (!isAsked || heldBack > 0)) movedAt = performance.now();
+  if (moved > 0 && drawnPlan.length > 0 && !isKept && (!isAsked || heldBack > 0)) set.movedAt(performance.now());
   heldBack = isKept ? moved : 0;
   const known = at("board").drawn ?? new Map(), all = !changed || isNarrowed;
   const items = plan.map(({ room, isClosed, members }) => (!all && !changed.has(room) ? { key: room, isKept: true } :
@@ -1146,7 +1272,9 @@ function roomModel(room, isFolded, members, known) {
   return { ...roomLine(desk, names, room), isFolded, tally: infoOf(room).tally, isEmpty: members.length === 0 };
 }
 
-const withCount = (s) => ({ ...s, isSilent: isSilent(stats, desk, s.ssrc), isLossy: isLossy(stats, desk, s.ssrc) });
+export function withCount(s) {
+  return { ...s, isSilent: isSilent(stats, desk, s.ssrc), isLossy: isLossy(stats, desk, s.ssrc) };
+}
 function memberItem(room, number, members, known) {
   const isHere = number === (members.includes(here.get(room)) ? here.get(room) : members[0]);
   const member = memberOf(desk, number);
@@ -1163,7 +1291,7 @@ function memberItem(room, number, members, known) {
 }
 
 // The numbers of the whole bridge. Those of members are filters, and the one of all members takes a filter away.
-function renderSum() {
+export function renderSum() {
   const keys = ["speaking", "silent", "losing", "muted"];
   const sums = keys.map((key) => desk.rooms.reduce((all, room) => all + infoOf(room).tally[key], 0));
   const unknown = strangersIn(stats, desk).length, rooms = desk.rooms.length, people = desk.members.length;
@@ -1185,8 +1313,23 @@ function renderSum() {
 "##;
 
 /// drawing.js
-pub(crate) const DRAWING_JS: &[u8] = br##""use strict";
+pub(crate) const DRAWING_JS: &[u8] = br##"
 // Drawing what stands around the rooms, and all of the page.
+import { heard, memberOf, membersIn, seen, slotsOf, suggested } from "./lines.js";
+import { labelled, memberLine, nameOf, sourceName } from "./overview.js";
+import { levelInWords, spanInWords } from "./levels.js";
+import { countInWords, countOf, figuresOf, streamInWords } from "./stats.js";
+import { timeOf, whoOf } from "./people.js";
+import { PLOTS, plotted } from "./plots.js";
+import { inOldPlaces, isMuted, redoOf, troubleOf, undoOf } from "./rules.js";
+import { wayTo, worded } from "./history.js";
+import { calls, desk, here, names, opened, past, picked, set, stats, suggestions, walked, widened } from "./known.js";
+import { at, callItem, chooses, detailPanel, does, el, morph, morphChildren, wayOf } from "./view.js";
+import { STATES, cellsOf } from "./rows.js";
+import { roomOption, saidOf } from "./page.js";
+import { takes } from "./taking.js";
+import { renderStrangers, traces } from "./counts.js";
+import { drawHeld, infos, isHeld, renderRooms, renderSum, tellHeld, withCount } from "./places.js";
 
 // Undo and Redo name the call that they take. Their line has the version at which that is so, or is a revert that
 // leaves what programs did since.
@@ -1259,15 +1402,17 @@ function detailOf(member) {
     gains: hears.filter(isShown).map((s) => ({ ...s, label: label(s.ssrc) })),
     hears: hears.some((s) => !isShown(s)), others: membersIn(desk, room).length > 1 };
 }
-function renderDetail() {
+let drawnPanel = null;
+export function renderDetail() {
   const member = opened === null ? undefined : memberOf(desk, opened);
   const isStill = drawnPanel?.member === opened;
   if (member) drawnPanel = isStill && isHeld("aside") ? heldDetail(drawnPanel, detailOf(member)) : detailOf(member);
   else if (isStill && isHeld("aside")) {
     drawnPanel = { ...drawnPanel, left: "has left" };
-    heldAside = true;
+    set.heldAside(true);
   } else {
-    opened = drawnPanel = null;
+    set.opened(null);
+    drawnPanel = null;
     at("detail").hidden = true;
     at("detail").replaceChildren();
     return;
@@ -1279,18 +1424,18 @@ function heldDetail(before, now) {
   const keys = { sources: "ssrc", slots: "slot" }, kept = { ...now, others: before.others, hears: before.hears };
   for (const [part, key] of Object.entries(keys)) {
     kept[part] = inOldPlaces(before[part], now[part], key);
-    if (before[part].map((one) => one[key]).join() !== now[part].map((one) => one[key]).join()) heldAside = true;
+    if (before[part].map((one) => one[key]).join() !== now[part].map((one) => one[key]).join()) set.heldAside(true);
   }
   kept.gains = before.gains.map((one) => {
     const found = heard(desk, memberOf(desk, now.member)).find((s) => s.ssrc === one.ssrc);
     return found ? { ...one, ...found, hasLeft: false } : { ...one, hasLeft: true };
   });
   const isWider = now.gains.some((one) => !before.gains.some((old) => old.ssrc === one.ssrc));
-  if (isWider || now.gains.length !== before.gains.length) heldAside = true;
+  if (isWider || now.gains.length !== before.gains.length) set.heldAside(true);
   return kept;
 }
 
-function renderHistory() {
+export function renderHistory() {
   button("undo", "Undo", past && undoOf(past, calls));
   button("redo", "Redo", past && redoOf(past, calls));
   const way = past && walked !== null ? wayTo(past, walked) : null, passed = way?.calls.map((one) => one.number) ?? [];
@@ -1329,10 +1474,10 @@ function renderForms() {
 
 // Draws what may have changed: some rooms, or all where none are given, and the forms unless their choices are as
 // before. What is asked for by the operator changes places at once.
-function render(changed = null, hasForms = true, isAsked = false) {
+export function render(changed = null, hasForms = true, isAsked = false) {
   if (!desk) return;
   const focused = document.activeElement, key = focused?.dataset?.key, heirs = heirsOf(focused);
-  heldAside = false;
+  set.heldAside(false);
   if (changed) for (const room of changed) infos.delete(room);
   else infos.clear();
   renderSum();
@@ -1359,8 +1504,25 @@ function heirsOf(node) {
 "##;
 
 /// hands.js
-pub(crate) const HANDS_JS: &[u8] = br##""use strict";
+pub(crate) const HANDS_JS: &[u8] = br##"
 // What clicks, keys and drags do.
+import { codecOf, dropped, lines } from "./lines.js";
+import { cut, movedAll } from "./overview.js";
+import { gainInWords } from "./levels.js";
+import { newcomer } from "./stats.js";
+import { personWord } from "./people.js";
+import { JUST } from "./rules.js";
+import { desk, drag, folded, group, movedAt, opened, past, picked, resting, set, stats, suggestions } from "./known.js";
+import { at, touched } from "./view.js";
+import { acts, call, callAll, choices, closeNotice, isFolded, notice, offer, rename, restore, setHere,
+  showGroup } from "./page.js";
+import { EVERY, judge, show } from "./link.js";
+import { isFollowed, openStream, watchStream } from "./stream.js";
+import { count } from "./counts.js";
+import { render, renderDetail, renderHistory } from "./drawing.js";
+
+// How often the link is judged, and how long a slider rests before its line is sent, in milliseconds.
+const JUDGED_EVERY = 500, REST = 400;
 
 // Clicks and choices.
 document.addEventListener("click", (event) => {
@@ -1382,9 +1544,9 @@ document.addEventListener("click", (event) => {
 });
 // Does what a control is for. What it sends has its answer shown at the control.
 function presses(key, act) {
-  pressed = key;
+  set.pressed(key);
   act();
-  pressed = null;
+  set.pressed(null);
 }
 const tells = ({ target }) => {
   const line = target.closest?.("[data-line]")?.dataset.line;
@@ -1457,8 +1619,8 @@ document.addEventListener("pointerdown", ({ target }) => {
 });
 document.addEventListener("dragstart", (event) => {
   const source = event.target.closest?.(".source"), row = event.target.closest?.(".member");
-  if (source) drag = { source: Number(source.dataset.source) };
-  else if (row) drag = { member: Number(row.dataset.member) };
+  if (source) set.drag({ source: Number(source.dataset.source) });
+  else if (row) set.drag({ member: Number(row.dataset.member) });
   else return;
   event.dataTransfer.setData("text/plain", "");
 });
@@ -1481,14 +1643,14 @@ document.addEventListener("drop", (event) => {
   if (!line) return;
   event.preventDefault();
   const isMany = drag.member !== undefined && picked.has(drag.member) && picked.size > 1;
-  drag = null;
+  set.drag(null);
   if (isMany) callAll(movedAll(desk, [...picked], Number(line.split(" ")[2])), "move the selected members");
   else call(line);
 });
 document.addEventListener("dragend", () => {
   unmark();
-  drag = null;
-  shownText = null;
+  set.drag(null);
+  set.shownText(null);
   if (isFollowed()) show();
 });
 
@@ -1570,7 +1732,7 @@ at("file").addEventListener("change", async ({ target }) => {
 });
 // Who is at the page, as the browser keeps it.
 function takePerson(name) {
-  me = personWord(name);
+  set.me(personWord(name));
   if (past) renderHistory();
 }
 // A browser may refuse to keep anything.
@@ -1589,7 +1751,7 @@ at("fold").addEventListener("click", () => {
   for (const room of desk?.rooms ?? []) folded.set(room, !are);
   render(null, true, true);
 });
-const dropGroup = () => { group = []; showGroup(); };
+const dropGroup = () => { set.group([]); showGroup(); };
 at("drop-group").addEventListener("click", dropGroup);
 at("send-group").addEventListener("click", () => {
   const line = lines.group(group);

@@ -7,8 +7,8 @@ use crate::script_lines::{
     RULES_JS, STATS_JS,
 };
 use crate::script_view::{
-    COUNTS_JS, DRAWING_JS, HANDS_JS, LINK_JS, PAGE_JS, PLACES_JS, ROWS_JS, STREAM_JS, TAKING_JS,
-    VIEW_JS,
+    COUNTS_JS, DRAWING_JS, HANDS_JS, KNOWN_JS, LINK_JS, PAGE_JS, PLACES_JS, ROWS_JS, STREAM_JS,
+    TAKING_JS, VIEW_JS,
 };
 use crate::style::PAGE_CSS;
 use desk_http::AssetFile;
@@ -38,6 +38,7 @@ fn push_script_lines(files: &mut Vec<AssetFile>) -> Result<(), AllocError> {
 }
 
 fn push_script_view(files: &mut Vec<AssetFile>) -> Result<(), AllocError> {
+    push(files, "known.js", KNOWN_JS)?;
     push(files, "view.js", VIEW_JS)?;
     push(files, "rows.js", ROWS_JS)?;
     push(files, "page.js", PAGE_JS)?;

@@ -1,6 +1,5 @@
-"use strict";
 // What refusals and faults mean, and what to do. `tools/bridge make words` writes this.
-const advice = {
+export const advice = {
   1: "it is there already: take another number, address, SSRC or index, or remove what is there",
   2: "there is no such room: it may have been removed",
   3: "there is no such member: it may have been removed",
@@ -29,7 +28,7 @@ const advice = {
   26: "somebody else would come or go with it: give the command that takes it back",
   27: "the lease has ended: only its holder may call, till a new one or `lease off`",
 };
-const faults = {
+export const faults = {
   1: "the line is too long: 4096 octets are the most",
   2: "an octet is none of a space to ~, and ends the connection",
   3: "the word is none of those that may stand there",

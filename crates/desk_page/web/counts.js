@@ -1,14 +1,22 @@
-"use strict";
-
 // What the bridge counts: asking for it, and the senders that are no source.
+import { parseStats, strangersIn, turnedRooms } from "./stats.js";
+import { tracedAll } from "./plots.js";
+import { desk, filter, set, stats } from "./known.js";
+import { at, strangerItem } from "./view.js";
+import { drawFigures } from "./rows.js";
+import { ask } from "./link.js";
+import { drawHeld, isHeld } from "./places.js";
+import { render } from "./drawing.js";
+
 // How long after a count the next one is asked for, in milliseconds. An answer for many sources is long.
 const OFTEN = 1000, SELDOM = 2000, MANY_SOURCES = 256;
+let counted = -Infinity, counting = false;
 // The figures of two minutes, by member.
-let traces = new Map();
+export let traces = new Map();
 const countedEvery = () => (stats && stats.sources.size > MANY_SOURCES ? SELDOM : OFTEN);
 // Asks what the bridge counts, while somebody can see the page. Where the bridge doesn't know the question, the status
 // is no success, and nothing is shown of it.
-async function count() {
+export async function count() {
   if (counting || document.visibilityState !== "visible" || performance.now() - counted < countedEvery()) return;
   counting = true;
   counted = performance.now();
@@ -23,10 +31,10 @@ async function count() {
 }
 function takeStats(next) {
   const before = stats;
-  stats = next;
+  set.stats(next);
   traces = next && desk ? tracedAll(traces, desk, next) : new Map();
   if (!desk) return;
-  if (!before) orderedAt = -Infinity;
+  if (!before) set.orderedAt(-Infinity);
   const turned = before || next ? turnedRooms(desk, before, next) : new Set();
   // Rooms with trouble rise, and who ceases to fit a filter goes, even where nothing has turned since the count before.
   render(filter ? null : turned, false);
@@ -34,14 +42,14 @@ function takeStats(next) {
 }
 
 // The senders that are no source, where the bridge tells of any.
-function renderStrangers() {
+export function renderStrangers() {
   const items = strangersIn(stats, desk).map((model) => ({ key: `${model.address} ${model.ssrc}`, model }));
   if (!isHeld("aside")) at("unknown").hidden = items.length === 0;
   drawHeld(at("strangers"), items, strangerItem);
 }
 
 // Fills in the form that adds a source. Which member it is of is the operator's choice.
-function fillSource(ssrc) {
+export function fillSource(ssrc) {
   const found = strangersIn(stats, desk).find((one) => one.ssrc === ssrc);
   if (!found) return;
   const { member, kind } = found, fields = at("add-source").elements;

@@ -1,5 +1,19 @@
-"use strict";
 // Drawing what stands around the rooms, and all of the page.
+import { heard, memberOf, membersIn, seen, slotsOf, suggested } from "./lines.js";
+import { labelled, memberLine, nameOf, sourceName } from "./overview.js";
+import { levelInWords, spanInWords } from "./levels.js";
+import { countInWords, countOf, figuresOf, streamInWords } from "./stats.js";
+import { timeOf, whoOf } from "./people.js";
+import { PLOTS, plotted } from "./plots.js";
+import { inOldPlaces, isMuted, redoOf, troubleOf, undoOf } from "./rules.js";
+import { wayTo, worded } from "./history.js";
+import { calls, desk, here, names, opened, past, picked, set, stats, suggestions, walked, widened } from "./known.js";
+import { at, callItem, chooses, detailPanel, does, el, morph, morphChildren, wayOf } from "./view.js";
+import { STATES, cellsOf } from "./rows.js";
+import { roomOption, saidOf } from "./page.js";
+import { takes } from "./taking.js";
+import { renderStrangers, traces } from "./counts.js";
+import { drawHeld, infos, isHeld, renderRooms, renderSum, tellHeld, withCount } from "./places.js";
 
 // Undo and Redo name the call that they take. Their line has the version at which that is so, or is a revert that
 // leaves what programs did since.
@@ -72,15 +86,17 @@ function detailOf(member) {
     gains: hears.filter(isShown).map((s) => ({ ...s, label: label(s.ssrc) })),
     hears: hears.some((s) => !isShown(s)), others: membersIn(desk, room).length > 1 };
 }
-function renderDetail() {
+let drawnPanel = null;
+export function renderDetail() {
   const member = opened === null ? undefined : memberOf(desk, opened);
   const isStill = drawnPanel?.member === opened;
   if (member) drawnPanel = isStill && isHeld("aside") ? heldDetail(drawnPanel, detailOf(member)) : detailOf(member);
   else if (isStill && isHeld("aside")) {
     drawnPanel = { ...drawnPanel, left: "has left" };
-    heldAside = true;
+    set.heldAside(true);
   } else {
-    opened = drawnPanel = null;
+    set.opened(null);
+    drawnPanel = null;
     at("detail").hidden = true;
     at("detail").replaceChildren();
     return;
@@ -92,18 +108,18 @@ function heldDetail(before, now) {
   const keys = { sources: "ssrc", slots: "slot" }, kept = { ...now, others: before.others, hears: before.hears };
   for (const [part, key] of Object.entries(keys)) {
     kept[part] = inOldPlaces(before[part], now[part], key);
-    if (before[part].map((one) => one[key]).join() !== now[part].map((one) => one[key]).join()) heldAside = true;
+    if (before[part].map((one) => one[key]).join() !== now[part].map((one) => one[key]).join()) set.heldAside(true);
   }
   kept.gains = before.gains.map((one) => {
     const found = heard(desk, memberOf(desk, now.member)).find((s) => s.ssrc === one.ssrc);
     return found ? { ...one, ...found, hasLeft: false } : { ...one, hasLeft: true };
   });
   const isWider = now.gains.some((one) => !before.gains.some((old) => old.ssrc === one.ssrc));
-  if (isWider || now.gains.length !== before.gains.length) heldAside = true;
+  if (isWider || now.gains.length !== before.gains.length) set.heldAside(true);
   return kept;
 }
 
-function renderHistory() {
+export function renderHistory() {
   button("undo", "Undo", past && undoOf(past, calls));
   button("redo", "Redo", past && redoOf(past, calls));
   const way = past && walked !== null ? wayTo(past, walked) : null, passed = way?.calls.map((one) => one.number) ?? [];
@@ -142,10 +158,10 @@ function renderForms() {
 
 // Draws what may have changed: some rooms, or all where none are given, and the forms unless their choices are as
 // before. What is asked for by the operator changes places at once.
-function render(changed = null, hasForms = true, isAsked = false) {
+export function render(changed = null, hasForms = true, isAsked = false) {
   if (!desk) return;
   const focused = document.activeElement, key = focused?.dataset?.key, heirs = heirsOf(focused);
-  heldAside = false;
+  set.heldAside(false);
   if (changed) for (const room of changed) infos.delete(room);
   else infos.clear();
   renderSum();

@@ -1,5 +1,21 @@
-"use strict";
 // What clicks, keys and drags do.
+import { codecOf, dropped, lines } from "./lines.js";
+import { cut, movedAll } from "./overview.js";
+import { gainInWords } from "./levels.js";
+import { newcomer } from "./stats.js";
+import { personWord } from "./people.js";
+import { JUST } from "./rules.js";
+import { desk, drag, folded, group, movedAt, opened, past, picked, resting, set, stats, suggestions } from "./known.js";
+import { at, touched } from "./view.js";
+import { acts, call, callAll, choices, closeNotice, isFolded, notice, offer, rename, restore, setHere,
+  showGroup } from "./page.js";
+import { EVERY, judge, show } from "./link.js";
+import { isFollowed, openStream, watchStream } from "./stream.js";
+import { count } from "./counts.js";
+import { render, renderDetail, renderHistory } from "./drawing.js";
+
+// How often the link is judged, and how long a slider rests before its line is sent, in milliseconds.
+const JUDGED_EVERY = 500, REST = 400;
 
 // Clicks and choices.
 document.addEventListener("click", (event) => {
@@ -21,9 +37,9 @@ document.addEventListener("click", (event) => {
 });
 // Does what a control is for. What it sends has its answer shown at the control.
 function presses(key, act) {
-  pressed = key;
+  set.pressed(key);
   act();
-  pressed = null;
+  set.pressed(null);
 }
 const tells = ({ target }) => {
   const line = target.closest?.("[data-line]")?.dataset.line;
@@ -96,8 +112,8 @@ document.addEventListener("pointerdown", ({ target }) => {
 });
 document.addEventListener("dragstart", (event) => {
   const source = event.target.closest?.(".source"), row = event.target.closest?.(".member");
-  if (source) drag = { source: Number(source.dataset.source) };
-  else if (row) drag = { member: Number(row.dataset.member) };
+  if (source) set.drag({ source: Number(source.dataset.source) });
+  else if (row) set.drag({ member: Number(row.dataset.member) });
   else return;
   event.dataTransfer.setData("text/plain", "");
 });
@@ -120,14 +136,14 @@ document.addEventListener("drop", (event) => {
   if (!line) return;
   event.preventDefault();
   const isMany = drag.member !== undefined && picked.has(drag.member) && picked.size > 1;
-  drag = null;
+  set.drag(null);
   if (isMany) callAll(movedAll(desk, [...picked], Number(line.split(" ")[2])), "move the selected members");
   else call(line);
 });
 document.addEventListener("dragend", () => {
   unmark();
-  drag = null;
-  shownText = null;
+  set.drag(null);
+  set.shownText(null);
   if (isFollowed()) show();
 });
 
@@ -209,7 +225,7 @@ at("file").addEventListener("change", async ({ target }) => {
 });
 // Who is at the page, as the browser keeps it.
 function takePerson(name) {
-  me = personWord(name);
+  set.me(personWord(name));
   if (past) renderHistory();
 }
 // A browser may refuse to keep anything.
@@ -228,7 +244,7 @@ at("fold").addEventListener("click", () => {
   for (const room of desk?.rooms ?? []) folded.set(room, !are);
   render(null, true, true);
 });
-const dropGroup = () => { group = []; showGroup(); };
+const dropGroup = () => { set.group([]); showGroup(); };
 at("drop-group").addEventListener("click", dropGroup);
 at("send-group").addEventListener("click", () => {
   const line = lines.group(group);

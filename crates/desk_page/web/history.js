@@ -1,10 +1,11 @@
-"use strict";
 // The history of calls, as the bridge tells it. No function touches the page.
+import { by } from "./lines.js";
+import { labelled, nameOf, sourceName } from "./overview.js";
 
 // The calls in force and those that can be redone, in the order of the text: each with its number, its operator and its
 // line. The last one in force is what an undo takes back, and the last undone one what a redo does again. The lines of
 // calls by their numbers are kept from the history before, for what its reverts took back is left out.
-function parseHistory(text, before = null) {
+export function parseHistory(text, before = null) {
   const past = { version: 0, done: [], undone: [], known: new Map() };
   let calls = past.done;
   for (const line of text.split("\n")) {
@@ -21,7 +22,7 @@ function callIn(text) {
 }
 
 // The number of the call that a line takes back alone, or null.
-function revertedBy(line) { return /^revert [0-9]+$/.test(line ?? "") ? Number(line.slice(7)) : null; }
+export function revertedBy(line) { return /^revert [0-9]+$/.test(line ?? "") ? Number(line.slice(7)) : null; }
 
 // The lines of a history by their numbers, and the earlier ones of calls that its reverts took back. Where a number has
 // another line than before, it is another bridge's, and no earlier line counts.
@@ -37,7 +38,7 @@ function knownLines(past, before) {
 }
 
 // The call that is out of force or back in it by a revert: the revert of a revert brings its call back.
-function turnedBy(known, line) {
+export function turnedBy(known, line) {
   const number = revertedBy(line), next = revertedBy(known.get(number));
   // A revert names an earlier call, so this ends.
   if (next === null || next >= number) return { number, isBack: false };
@@ -54,7 +55,7 @@ const SHORT_NAME = 24, SHORT_WORDS = 32;
 // A call's line in which objects have their names: "mute Bob (202)". A name stands by itself, since it may run from
 // right to left. A revert says what it did: "reverted mute Bob (202)".
 const TURNS = ["reverted", "brought back"], THINGS = ["the revert of", "the return of"];
-function worded(names, desk, line, known = new Map(), [reverted, back] = TURNS) {
+export function worded(names, desk, line, known = new Map(), [reverted, back] = TURNS) {
   if (revertedBy(line) === null) return namedLine(names, desk, line);
   const { number, isBack } = turnedBy(known, line), last = known.get(number) ?? line;
   const what = revertedBy(last) === null ? namedLine(names, desk, last) : `call ${number}`;
@@ -62,11 +63,11 @@ function worded(names, desk, line, known = new Map(), [reverted, back] = TURNS) 
 }
 // A call by its number, as something that can be taken back: "mute Bob (202)", "the revert of mute Bob (202)". The
 // page may not know its line, since a history leaves out what was reverted.
-function callWords(names, desk, number, known) {
+export function callWords(names, desk, number, known) {
   return known.has(number) ? worded(names, desk, known.get(number), known, THINGS) : `call ${number}`;
 }
 // The beginning of long words. A name that is cut still stands by itself.
-function begun(words) {
+export function begun(words) {
   const letters = [...words], kept = letters.slice(0, SHORT_WORDS).join("");
   const isOpen = kept.lastIndexOf("\u2068") > kept.lastIndexOf("\u2069");
   return letters.length > SHORT_WORDS ? `${kept}${isOpen ? "\u2069" : ""}\u2026` : words;
@@ -89,7 +90,7 @@ function namedWord(names, desk, kind, word) {
 
 // What leads to the desk right behind a call: the undos that take back the calls after it, or the redos up to it. A
 // call that was reverted is undone behind its revert, though the history leaves it out.
-function wayTo(past, number) {
+export function wayTo(past, number) {
   if (past.done.some((one) => one.number === number)) {
     const numbers = new Set(past.done.flatMap((one) => [one.number, revertedBy(one.line) ?? one.number]));
     const later = [...numbers].filter((one) => one > number).sort((a, b) => b - a);
@@ -98,7 +99,7 @@ function wayTo(past, number) {
   const undone = past.undone.findIndex((one) => one.number === number);
   return undone < 0 ? null : { word: "redo", calls: past.undone.slice(undone).reverse() };
 }
-function wayWords({ word, calls }, isLast) {
+export function wayWords({ word, calls }, isLast) {
   if (isLast) return "An undo takes it back.";
   const count = calls.length, many = count === 1 ? `One ${word} leads` : `${count} ${word}s lead`;
   return `${many} to the desk right behind it: ${calls.map(({ number }) => number).join(", ")}.`;
@@ -109,14 +110,14 @@ const LACKS = { 1: "what it adds would be there already", 2: "no such room", 3: 
   5: "no such slot", 6: "the source would be of the other kind", 7: "they would be in two rooms",
   8: "the SSRC would be used", 12: "the table would be full", 21: "the room would have another rate" };
 // Why a revert is refused, in words, by the words of the refusal from its number on; or undefined.
-function againstRevert(seen, [refusal, , ...more]) {
+export function againstRevert(seen, [refusal, , ...more]) {
   if (refusal === "23") return "it isn't in force any more";
   if (refusal === "24") return `it lies too far back: over ${more[0]} commands came since`;
   if (refusal === "25") return needing(seen, ...more);
   return refusal === "26" ? elsewhere(seen, ...more) : undefined;
 }
 // The call that stands in the way of a revert, by the answer to it; or null.
-function callInTheWay(said) {
+export function callInTheWay(said) {
   const found = /^no [0-9]+ 25 Conflict ([0-9]+) /.exec(said);
   return found && Number(found[1]);
 }
@@ -135,14 +136,3 @@ function elsewhere({ names, desk }, kind, word) {
   return rows?.has(Number(word)) ? `it would also take ${what} out` : `it would also bring ${what} back`;
 }
 
-if (typeof module !== "undefined") {
-  module.exports = {
-    memberLine, roomLine, overview, parseNames, renamed, labelled, sourceName, cut, grouped, toggled, othersMuted,
-    movedAll, goesAlong, changedRooms, nameRefusal, parseDesk, isMusic, roomsFor, codecOf, seen, videosFor, heard,
-    lines, dropped, free, suggested, inWords, replyInWords, parseHistory, worded, callWords, begun, wayTo, wayWords,
-    callInTheWay, changes, keptText, groupsIn, parseStats, agoInWords, isSilent, isLossy, countOf, countInWords,
-    streamInWords, turnedRooms, strangersIn, personWord, personName, callsIn, whoOf, timeOf, isOthers, makesRooms,
-    undoOf, redoOf, newcomer, editedText, isOlderText, withCalls, traced, tracedAll, plotted, figuresOf, levelOf,
-    speechAfter, levelInWords, gainInWords, spanInWords, objectsOfRow, objectsOfLine, othersObjects, placeChanges,
-    inOldPlaces, troubleOf, tallyOf, isCounted, linkOf, linkInWords, newerIn, callerInWords, closedBy, closedInWords };
-}

@@ -1,6 +1,6 @@
-"use strict";
 // The desk as a file: groups that make all its rows again, as `tools/bridge keep` prints them. No function touches the
 // page.
+import { MOST_PARTS } from "./overview.js";
 
 // A stream begins anew at its FIRST_SEQ, which is moved on, or a receiver might take new packets for old ones.
 const FURTHER = 1000, MOST_OCTETS = 4096;
@@ -35,14 +35,14 @@ function groupsOf(commands) {
 function endOf(groups) {
   return `# end: ${groups.length} groups of ${groups.flatMap((group) => group.split(" / ")).length} commands`;
 }
-function keptText(desk) {
+export function keptText(desk) {
   const groups = groupsOf(desk.rows.map(commandOf));
   const head = `# the desk of version ${desk.version}: FIRST_SEQ of each stream is ${FURTHER} further on, as streams `;
   return `${[`${head}begin anew`, ...groups, endOf(groups)].join("\n")}\n`;
 }
 
 // The groups of such a text, or null where it isn't whole.
-function groupsIn(text) {
+export function groupsIn(text) {
   const lines = text.split("\n").filter((line) => line !== ""), groups = lines.filter((line) => !line.startsWith("#"));
   const areGroups = groups.every((group) => group.startsWith("group ") && group.length <= MOST_OCTETS);
   return areGroups && lines[lines.length - 1] === endOf(groups) ? groups : null;

@@ -1,12 +1,14 @@
-"use strict";
 // What the page makes of the desk's text, and the lines that clicks send. No function touches the page.
+import { advice, faults } from "./advice.js";
+import { callerInWords, newerIn } from "./people.js";
+import { againstRevert } from "./history.js";
 
 // The rates of rooms, in Hz.
-const SPEECH = 8000, MUSIC = 44100;
+export const SPEECH = 8000, MUSIC = 44100;
 
 // The desk as it stands in the text of /desk.txt: the lines of `show`, and behind `end VERSION` the names' version and
 // what the program calls this text.
-function parseDesk(text) {
+export function parseDesk(text) {
   const desk = { rooms: [], rates: new Map(), members: [], sources: [], slots: [], subs: new Map(), mutes: new Set(),
     gains: new Map(), pins: new Map(), floors: new Map(), version: 0, rows: [], named: 0, state: "" };
   for (const line of text.split("\n")) {
@@ -53,11 +55,11 @@ function memberIn([place, member, room, , , mix], [, , , address, codec]) {
   return { place, member, room, address, codec, mix };
 }
 
-function isMusic(desk, room) { return desk.rates.get(room) === MUSIC; }
+export function isMusic(desk, room) { return desk.rates.get(room) === MUSIC; }
 
 // The rows of a list by one of their fields. It is made once for each list.
 const indexes = new WeakMap();
-function by(rows, field) {
+export function by(rows, field) {
   if (!indexes.has(rows)) indexes.set(rows, {});
   const known = indexes.get(rows);
   if (!known[field]) {
@@ -69,16 +71,16 @@ function by(rows, field) {
   }
   return known[field];
 }
-function withField(rows, field, value) { return by(rows, field).get(value) ?? []; }
-function memberOf(desk, number) { return withField(desk.members, "member", number)[0]; }
-function sourceOf(desk, ssrc) { return withField(desk.sources, "ssrc", ssrc)[0]; }
-function sourcesOf(desk, member, kind) {
+export function withField(rows, field, value) { return by(rows, field).get(value) ?? []; }
+export function memberOf(desk, number) { return withField(desk.members, "member", number)[0]; }
+export function sourceOf(desk, ssrc) { return withField(desk.sources, "ssrc", ssrc)[0]; }
+export function sourcesOf(desk, member, kind) {
   return withField(desk.sources, "member", member).filter((s) => !kind || s.kind === kind);
 }
-function slotsOf(desk, member) {
+export function slotsOf(desk, member) {
   return [...withField(desk.slots, "member", member)].sort((a, b) => a.index - b.index);
 }
-function membersIn(desk, room) { return withField(desk.members, "room", room); }
+export function membersIn(desk, room) { return withField(desk.members, "room", room); }
 
 // The source that the rules of the desk choose for a slot, and the rule.
 function chosen(desk, slot) {
@@ -92,7 +94,7 @@ function chosen(desk, slot) {
 }
 
 // What a slot shows, by which rule, and why it shows nothing.
-function seen(desk, slot) {
+export function seen(desk, slot) {
   const { source, by } = chosen(desk, slot);
   if (source === null) return { source, by, why: by ? "the floor's holder has no video" : "nothing is chosen" };
   if (desk.mutes.has(source)) return { source: null, by, why: `${source} is muted` };
@@ -101,14 +103,14 @@ function seen(desk, slot) {
 }
 
 // The video sources that a slot can be subscribed to, but for the one that it is.
-function videosFor(desk, slot) {
+export function videosFor(desk, slot) {
   const members = membersIn(desk, memberOf(desk, slot.member).room);
   const videos = members.flatMap((m) => sourcesOf(desk, m.member, "video")).map((s) => s.ssrc);
   return videos.filter((ssrc) => desk.subs.get(slot.ssrc) !== ssrc);
 }
 
 // The audio sources that a member hears or could hear, each with its gain.
-function heard(desk, member) {
+export function heard(desk, member) {
   const others = membersIn(desk, member.room).filter((m) => m.member !== member.member);
   return others.flatMap((m) => sourcesOf(desk, m.member, "audio")).map((s) => {
     const gain = desk.gains.has(`${member.member} ${s.ssrc}`) ? desk.gains.get(`${member.member} ${s.ssrc}`) : 256;
@@ -117,15 +119,17 @@ function heard(desk, member) {
 }
 
 // The rooms that a member can move to: those of its room's rate.
-function roomsFor(desk, member) {
+export function roomsFor(desk, member) {
   return desk.rooms.filter((room) => room !== member.room && isMusic(desk, room) === isMusic(desk, member.room));
 }
 
 // The codec of a new member: what was chosen, and else what fits the room.
-function codecOf(desk, { room, codec }) { return codec || (desk && isMusic(desk, Number(room)) ? "l16" : "pcmu"); }
+export function codecOf(desk, { room, codec }) {
+  return codec || (desk && isMusic(desk, Number(room)) ? "l16" : "pcmu");
+}
 
 // The lines that clicks and drags send.
-const lines = {
+export const lines = {
   addRoom: (room, rate) => (Number(rate) === MUSIC ? `add-room ${room} ${MUSIC}` : `add-room ${room}`),
   removeRoom: (room) => `remove-room ${room}`,
   addMember: (f, codec = f.codec) =>
@@ -152,7 +156,7 @@ const lines = {
 };
 
 // The line that a drop sends: a member on a room, or a source on a slot. Nothing where it would change nothing.
-function dropped(desk, drag, on) {
+export function dropped(desk, drag, on) {
   if (drag.member !== undefined && on.room !== undefined) {
     const member = memberOf(desk, drag.member);
     return member && member.room !== on.room ? lines.moveMember(drag.member, on.room) : null;
@@ -164,7 +168,7 @@ function dropped(desk, drag, on) {
 }
 
 // A number from `least` on that no row of its kind has: a room, a member or an SSRC.
-function free(desk, kind, least) {
+export function free(desk, kind, least) {
   const ssrcs = () => [desk.sources, desk.slots].flatMap((rows) => rows.map((row) => row.ssrc));
   const taken = new Set(kind === "room" ? desk.rooms : desk.members.map((m) => (kind === "ssrc" ? m.mix : m.member)));
   if (kind === "ssrc") for (const ssrc of ssrcs()) taken.add(ssrc);
@@ -174,14 +178,14 @@ function free(desk, kind, least) {
 }
 
 // The fields of forms that suggest a free number, each with its form and that number.
-function suggested(desk) {
+export function suggested(desk) {
   const fields = [["add-room", "room", 1], ["add-member", "member", 10], ["add-member", "ssrc", 9001],
     ["add-source", "ssrc", 101], ["add-slot", "ssrc", 501]];
   return fields.map(([form, field, least]) => [form, field, free(desk, field, least)]);
 }
 
 // An answer of the bridge in words. `seen` is what the page knows: the names, the desk and the history.
-function inWords(said, seen = {}) {
+export function inWords(said, seen = {}) {
   const word = said.split(" ");
   if (word[0] === "ok") return { good: true, text: `accepted as version ${word[1]}` };
   if (word[0] === "no") {
@@ -197,7 +201,7 @@ function inWords(said, seen = {}) {
 
 // A response of the page to a call, in words: 200 has the bridge's answer.
 const NO_SEAT = "The page needs a seat: set operators to one more in the bridge's settings.";
-function replyInWords(status, text, seen) {
+export function replyInWords(status, text, seen) {
   if (status === 200) return inWords(text, seen);
   if (text.startsWith("Busy")) {
     return { good: false, text: `all seats of the bridge are taken, so nothing was done. ${NO_SEAT}` };
@@ -208,14 +212,14 @@ function replyInWords(status, text, seen) {
 }
 
 // A response to new names that weren't kept, in words.
-function nameRefusal(status, text) {
+export function nameRefusal(status, text) {
   if (/^no [0-9]+ Unsaved/.test(text)) return "the file of names can't be written, so nothing was changed.";
   if (/^no [0-9]+ NoNames/.test(text)) return "that is no name.";
   return status === 413 ? "there are too many names." : text || String(status);
 }
 
 // The rooms of which something changed between two desks: those of the rows that came or went.
-function changedRooms(before, after, rows) {
+export function changedRooms(before, after, rows) {
   // A member's place may shift, and then the same row goes and comes.
   const times = new Map(), plain = (row) => row.slice(2).replace(/^member [0-9]+ /, "member ");
   for (const row of rows) times.set(plain(row), (times.get(plain(row)) ?? 0) + 1);
@@ -236,7 +240,7 @@ function roomOf(desk, kind, first, second) {
 }
 
 // The rows that went and that came between two desks.
-function changes(before, after) {
+export function changes(before, after) {
   let from = 0, end = 0;
   const least = Math.min(before.length, after.length);
   while (from < least && before[from] === after[from]) from += 1;

@@ -1,12 +1,30 @@
-"use strict";
 // Asking the page's program, and what comes in: the desk, its history, and what others did.
+import { changedRooms, changes, memberOf, parseDesk, sourceOf } from "./lines.js";
+import { gainInWords } from "./levels.js";
+import { callsIn, timeOf, whoOf } from "./people.js";
+import { isOlderText } from "./news.js";
+import { GONE, linkInWords, linkOf, othersObjects } from "./rules.js";
+import { parseHistory, worded } from "./history.js";
+import { MARKED, asking, calls, desk, drag, freshAt, lastNews, me, mine, names, namesVersion, past, resting, set,
+  shownText, since, timer, told, touchedAt } from "./known.js";
+import { at, touched, waits } from "./view.js";
+import { notice, saidOf, showWaits, sourceLabel, takeNames, tellNews } from "./page.js";
+import { closeStale } from "./taking.js";
+import { isFollowed } from "./stream.js";
+import { render, renderHistory } from "./drawing.js";
 
-async function ask(path, options) {
+// How often the page asks for the desk by itself, how often it tries, and how long it waits, in milliseconds.
+export const EVERY = 250, PATIENCE = 8000;
+const TRIES = 3;
+let token = document.querySelector('meta[name="desk-token"]').content;
+let isAskedAgain = false, link = "connecting";
+
+export async function ask(path, options) {
   return fetch(path, { ...options, cache: "no-store", signal: AbortSignal.timeout(options?.method ? PATIENCE : GONE) });
 }
 
 // Asks without changing anything. A connection that has to make way for others is tried again.
-async function get(path) {
+export async function get(path) {
   for (let turn = 1; ; turn += 1) {
     try {
       return await ask(path);
@@ -19,7 +37,7 @@ async function get(path) {
 
 // Posts. A call says which version of the desk its person saw. A token of an earlier run of the program is replaced,
 // but nothing is sent twice.
-async function post(path, body, saw) {
+export async function post(path, body, saw) {
   const headers = { "X-Desk-Token": token, "X-Desk-Person": me };
   if (saw !== undefined) headers["X-Desk-Seen"] = saw;
   const reply = await ask(path, { method: "POST", headers, body });
@@ -29,38 +47,38 @@ async function post(path, body, saw) {
 async function takeToken() {
   const page = new DOMParser().parseFromString(await (await get("/")).text(), "text/html");
   token = page.querySelector('meta[name="desk-token"]').content;
-  namesVersion = -1;
+  set.namesVersion(-1);
 }
-const ANEW = "not sent: the page's program was started anew. Look, and press again.";
+export const ANEW = "not sent: the page's program was started anew. Look, and press again.";
 
 // Asks for the desk, and shows it where it has changed. Without a stream of events it is asked for again and again.
-async function show() {
+export async function show() {
   if (asking) {
     isAskedAgain = true;
     return;
   }
-  asking = true;
+  set.asking(true);
   clearTimeout(timer);
   try {
     const reply = await get(shownText && desk.state ? `/desk.txt?after=${desk.state}` : "/desk.txt");
     const text = reply.status === 204 ? shownText : await reply.text();
     if (reply.ok) await take(text);
-    else told = text.startsWith("Busy") ? "seats" : "bridge";
+    else set.told(text.startsWith("Busy") ? "seats" : "bridge");
   } catch (error) {
     const isLink = error instanceof TypeError || ["TimeoutError", "AbortError"].includes(error.name);
     if (!isLink) console.error(error);
   }
   judge();
-  asking = false;
+  set.asking(false);
   clearTimeout(timer);
   if (isAskedAgain) show();
-  else if (!isFollowed()) timer = setTimeout(show, EVERY);
+  else if (!isFollowed()) set.timer(setTimeout(show, EVERY));
   isAskedAgain = false;
 }
 
 // What the page makes of its link. Where it is gone all can be read, and nothing is sent.
-const isGone = () => ["gone", "bridge", "seats"].includes(link);
-function judge() {
+export const isGone = () => ["gone", "bridge", "seats"].includes(link);
+export function judge() {
   const quiet = performance.now() - lastNews, is = linkOf(told, quiet);
   link = is === "live" && !desk ? "connecting" : is;
   const text = linkInWords(link, quiet, since);
@@ -73,12 +91,14 @@ function judge() {
 
 // Texts are taken one after another, since each may have to wait for names and history.
 let taking = Promise.resolve();
-function take(text) {
+export function take(text) {
   taking = taking.catch(() => {}).then(() => takeText(text));
   return taking;
 }
 async function takeText(text) {
-  [told, lastNews, since] = ["", performance.now(), new Date().toTimeString().slice(0, 8)];
+  set.told("");
+  set.lastNews(performance.now());
+  set.since(new Date().toTimeString().slice(0, 8));
   judge();
   const isNew = !shownText || (text !== shownText && !isOlderText(text, shownText));
   if (isNew && !drag) await takeDesk(text);
@@ -92,14 +112,14 @@ async function takeDesk(text) {
   const rooms = desk && !isRenamed ? changedRooms(desk, next, rows) : null;
   // Another desk of the same version, or of an earlier one, is another bridge's.
   if (desk && (next.version < desk.version || (next.version === desk.version && rows.length > 0))) {
-    past = null;
-    calls = new Map();
+    set.past(null);
+    set.calls(new Map());
     mine.clear();
     waits.clear();
   }
   if (desk) takeOthers(next, rows);
-  shownText = text;
-  desk = next;
+  set.shownText(text);
+  set.desk(next);
   for (const [key, { version }] of waits) if (version && version <= desk.version) waits.delete(key);
   showWaits();
   loseSliders();
@@ -147,10 +167,10 @@ async function takeHistory() {
   // A log from before the history lacks its newest calls. The stream of events tells calls before the desk.
   for (let turn = 0; turn < 2 && !calls.has(next.version); turn += 1) {
     const logged = await get("/past.txt"), log = callsIn(logged.ok ? await logged.text() : "");
-    calls = log;
+    set.calls(log);
     if (log.size === 0) break;
   }
-  past = next;
+  set.past(next);
   if (before) tellOthers(before);
   renderHistory();
   closeStale();

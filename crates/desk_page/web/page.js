@@ -1,24 +1,29 @@
-"use strict";
-// What the page knows, and what goes out.
-const EVERY = 250, JUDGED_EVERY = 500, TRIES = 3, PATIENCE = 8000, REST = 400, SLOW = 1000;
-const FEW_ROOMS = 8, FEW_MEMBERS = 4, ROW_HEIGHT = 25, HEAD_HEIGHT = 34, FADES = 5000, MARKED = 3000;
-const folded = new Map(), picked = new Set(), here = new Map();
-const widened = new Set(), resting = new Map(), suggestions = new Map();
-let desk = null, shownText = null, drag = null, group = [], timer = null, asking = false, opened = null, past = null;
-let isAskedAgain = false;
-let names = {}, namesVersion = -1, walked = null, stats = null, counted = -Infinity;
-// The calls of the log, who is at this page, and what a question is about that a newer change closes.
-let calls = new Map(), me = NOBODY, asked = null;
-// The link: when news last came, what the program says of its bridge, and what the page makes of both.
-let lastNews = performance.now(), since = null, told = "", link = "connecting";
-// The versions that calls of this page made, when others have last changed an object, and which control is pressed.
-const mine = new Set(), touchedAt = new Map(), freshAt = new Map();
-let pressed = null, fading = null, newsFading = null, counting = false;
-let token = document.querySelector('meta[name="desk-token"]').content;
+// What goes out: calls, names and questions; and what clicks do.
+import { heard, lines, memberOf, membersIn, nameRefusal, replyInWords, roomsFor, videosFor,
+  withField } from "./lines.js";
+import { LONGEST_NAME, MOST_PARTS, goesAlong, grouped, labelled, movedAll, nameOf, othersMuted, parseNames, renamed,
+  sourceName, toggled, voicesOf } from "./overview.js";
+import { groupsIn, keptText } from "./kept.js";
+import { newerIn } from "./people.js";
+import { JUST, objectsOfLine } from "./rules.js";
+import { begun, callInTheWay, callWords, wayTo } from "./history.js";
+import { desk, filter, folded, group, here, mine, names, namesVersion, opened, past, picked, pressed, set, touchedAt,
+  walked, widened } from "./known.js";
+import { at, code, el, spoken, waits } from "./view.js";
+import { goes, sendsAfter, takes } from "./taking.js";
+import { ANEW, PATIENCE, get, isGone, post, show } from "./link.js";
+import { isFollowed } from "./stream.js";
+import { fillSource } from "./counts.js";
+import { lastFit } from "./places.js";
+import { render, renderHistory } from "./drawing.js";
+
+// After so many milliseconds without an answer that is said, and a success fades.
+const SLOW = 1000, FADES = 5000;
+let fading = null, newsFading = null;
 
 // What became of the last press. A success fades, a refusal stays until it is closed. Where a call of the history is
 // why, a button leads to it.
-function notice(text, good, why = null) {
+export function notice(text, good, why = null) {
   at("notice").textContent = at("notice").title = text;
   at("notice").className = good ? "good" : "";
   at("notice").hidden = at("close-notice").hidden = false;
@@ -28,17 +33,17 @@ function notice(text, good, why = null) {
   clearTimeout(fading);
   if (good) fading = setTimeout(closeNotice, FADES);
 }
-function closeNotice() { at("notice").hidden = at("close-notice").hidden = at("show-call").hidden = true; }
+export function closeNotice() { at("notice").hidden = at("close-notice").hidden = at("show-call").hidden = true; }
 
 // What others did.
-function tellNews(text) {
+export function tellNews(text) {
   at("news").textContent = at("news").title = text;
   clearTimeout(newsFading);
   newsFading = setTimeout(() => { at("news").textContent = at("news").title = ""; }, 2 * FADES);
 }
 
 // Why a line isn't sent just now, in words, or nothing.
-function whyNot(line, key) {
+export function whyNot(line, key) {
   if (isGone()) return `${at("status").textContent} Nothing is sent until it is back.`;
   if (key && waits.has(key)) return "The press before has no answer yet.";
   const just = performance.now() - JUST, object = objectsOfLine(line).find((one) => touchedAt.get(one) > just);
@@ -55,7 +60,7 @@ function answered(key, version) {
   else waits.delete(key);
   showWaits();
 }
-function showWaits() {
+export function showWaits() {
   for (const node of document.querySelectorAll("[data-key][aria-busy]")) {
     if (!waits.has(node.dataset.key)) node.removeAttribute("aria-busy");
   }
@@ -68,7 +73,7 @@ function showWaits() {
 // Sends a line once, unless there is a reason not to, which is told. The version as which it is accepted, or 0.
 // Whatever comes of it, the desk is shown again; the line is never sent again by itself. `saw` is the version of the
 // desk that the person saw.
-async function call(line, words = line, key = pressed, saw = desk?.version) {
+export async function call(line, words = line, key = pressed, saw = desk?.version) {
   const why = whyNot(line, key);
   if (why) {
     notice(`${words}: not sent. ${why}`);
@@ -109,7 +114,7 @@ function save() {
 
 // Makes a desk again from such a file: all of it or nothing.
 const RESTORED = "Where it is restored streams begin anew, with FIRST_SEQ 1,000 further on.";
-async function restore(text) {
+export async function restore(text) {
   const groups = groupsIn(text), what = "Restore";
   if (!groups) return notice(`${what}: that is no saved desk, or part of it is missing. Nothing was sent.`);
   if (desk.rows.length > 0) return notice(`${what}: the desk has rooms. Remove them first. Nothing was sent.`);
@@ -129,7 +134,7 @@ async function takesBack(versions) {
 }
 
 // Sends commands as one call.
-function callAll(parts, what) {
+export function callAll(parts, what) {
   const count = parts.length;
   if (count > MOST_PARTS) return notice(`${what}: that takes ${count} commands. A group has ${MOST_PARTS} at most.`);
   if (count > 0) return call(grouped(parts), count > 1 ? `${what} (${count} commands as one)` : parts[0]);
@@ -138,23 +143,24 @@ function callAll(parts, what) {
 
 function collect(line) { group.push(line); showGroup(); return 0; }
 
-function showGroup() {
+export function showGroup() {
   at("collected").replaceChildren(...group.map((line) => el("li", {}, code(line))));
   at("collected").hidden = at("group-buttons").hidden = group.length === 0;
 }
 
 // Names, as the page's program keeps them.
-async function takeNames() {
+export async function takeNames() {
   const reply = await get("/names");
   document.body.classList.toggle("nameless", reply.status === 404);
   if (!reply.ok) return false;
   const told = parseNames(await reply.text());
-  [names, namesVersion] = [told.names, told.version];
+  set.names(told.names);
+  set.namesVersion(told.version);
   return true;
 }
 
 // Names a thing for all. Where another browser has named something meanwhile, its names are taken first.
-async function rename(kind, number, name) {
+export async function rename(kind, number, name) {
   const what = `the name of ${kind} ${number}`;
   for (let turn = 0; turn < 8; turn += 1) {
     const body = `names ${namesVersion}\n${JSON.stringify(renamed(names, kind, number, name))}`;
@@ -177,7 +183,7 @@ async function rename(kind, number, name) {
 }
 
 // Asks a question, with a field for a text where one is given. The text, or null.
-function question(title, text, yes, value = null) {
+export function question(title, text, yes, value = null) {
   at("ask-title").textContent = title;
   at("ask-text").textContent = text;
   at("ask-yes").textContent = yes;
@@ -192,10 +198,10 @@ function question(title, text, yes, value = null) {
 }
 
 // A call of the history as something that is taken back or done again.
-const saidOf = (number) => callWords(names, desk, number, past?.known ?? new Map());
+export const saidOf = (number) => callWords(names, desk, number, past?.known ?? new Map());
 // Unfolds a call of the history, and goes there.
 function showCall(number) {
-  walked = number;
+  set.walked(number);
   renderHistory();
   const node = at("calls").querySelector(`[data-key="walk ${number}"]`);
   node?.scrollIntoView({ block: "nearest" });
@@ -203,22 +209,23 @@ function showCall(number) {
 }
 
 const pickedVoices = (muted) => voicesOf(desk, [...picked], muted);
-const sourceLabel = (ssrc) => labelled(sourceName(names, desk, ssrc), ssrc);
+export const sourceLabel = (ssrc) => labelled(sourceName(names, desk, ssrc), ssrc);
 
-// What clicks do, by their `data-act`.
-const acts = {
+// What clicks do, by their `data-act`. The page asks before a room goes that has more members than these few.
+const FEW_MEMBERS = 4;
+export const acts = {
   open: (of) => {
-    opened = opened === Number(of) ? null : Number(of);
+    set.opened(opened === Number(of) ? null : Number(of));
     setHere(Number(of));
     render();
   },
-  close: () => { opened = null; render(); },
+  close: () => { set.opened(null); render(); },
   "take-stranger": (of) => fillSource(Number(of)),
-  walk: (of) => { walked = walked === Number(of) ? null : Number(of); renderHistory(); },
+  walk: (of) => { set.walked(walked === Number(of) ? null : Number(of)); renderHistory(); },
   "show-call": (of) => showCall(Number(of)),
   go: (of) => { const way = past && wayTo(past, Number(of)); if (way) goes(way); },
   fold: (of) => { folded.set(Number(of), !isFolded(Number(of))); render(null, true, true); },
-  filter: (of) => { filter = filter === of ? "" : of; lastFit.clear(); render(null, true, true); },
+  filter: (of) => { set.filter(filter === of ? "" : of); lastFit.clear(); render(null, true, true); },
   unknown: () => {
     at("unknown").scrollIntoView({ block: "nearest" });
     at("strangers").querySelector("button")?.focus();
@@ -255,7 +262,7 @@ const slotOf = (ssrc) => withField(desk.slots, "ssrc", ssrc)[0];
 const evenlyHeard = (member) => heard(desk, memberOf(desk, member)).filter((s) => s.gain === 256);
 
 // What a choice offers, and what is done with what is picked.
-const choices = {
+export const choices = {
   subscribe: { options: (slot) => videosFor(desk, slotOf(slot)).map((ssrc) => [ssrc, sourceLabel(ssrc)]),
     choose: (slot, ssrc) => call(lines.subscribe(slot, ssrc)) },
   "move-member": { options: (member) => roomsFor(desk, memberOf(desk, member)).map(roomOption),
@@ -265,15 +272,17 @@ const choices = {
   "move-chosen": { options: () => desk.rooms.map(roomOption),
     choose: (_, room) => callAll(movedAll(desk, [...picked], room), `move the selected members to room ${room}`) },
 };
-const roomOption = (room) => [room, labelled(nameOf(names, "room", room), room)];
-function offer(select) {
+export const roomOption = (room) => [room, labelled(nameOf(names, "room", room), room)];
+export function offer(select) {
   if (select.options.length > 1) return;
   const [kind, of] = select.dataset.choice.split(" ");
   select.append(...choices[kind].options(Number(of)).map(([value, text]) => el("option", { value }, text)));
 }
 
-const isFolded = (room) => folded.get(room) ?? desk.rooms.length > FEW_ROOMS;
-function setHere(member) {
+// Where there are more rooms than these few, a room is folded until it is unfolded.
+const FEW_ROOMS = 8;
+export const isFolded = (room) => folded.get(room) ?? desk.rooms.length > FEW_ROOMS;
+export function setHere(member) {
   const row = memberOf(desk, member);
   if (row) here.set(row.room, member);
 }

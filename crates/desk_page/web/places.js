@@ -1,14 +1,23 @@
-"use strict";
 // What stands where: the rooms, their members, and the numbers of the whole bridge.
+import { memberOf, membersIn } from "./lines.js";
+import { labelled, memberLine, nameOf, overview, roomLine, wordsOf } from "./overview.js";
+import { UNKNOWN, figuresOf, isLossy, isSilent, strangersIn } from "./stats.js";
+import { SETTLED, inOldPlaces, isCounted, placeChanges, tallyOf, troubleOf } from "./rules.js";
+import { MARKED, desk, drag, filter, freshAt, heldAside, here, names, opened, orderedAt, picked, set,
+  stats } from "./known.js";
+import { at, drawList, el, morphChildren, roomCard } from "./view.js";
+import { memberRow } from "./rows.js";
+import { isFolded } from "./page.js";
+import { render } from "./drawing.js";
 
 // Places. Nothing comes, goes or moves in the list or beside it while the pointer is there, a button is held, or a menu
 // is open, and until 600 ms after a touch. What a row says changes at once.
 const over = { board: false, aside: false }, TOUCH = 600;
-let down = null, heldBack = 0, heldAside = false, drawnPlan = [], movedAt = -Infinity, drawnPanel = null, drawnSum = "";
-let filter = "", order = new Map(), orderedAt = -Infinity, spoke = new Set();
-const lastFit = new Map();
+let down = null, heldBack = 0, drawnPlan = [], drawnSum = "";
+let order = new Map(), spoke = new Set();
+export const lastFit = new Map();
 const isMenuOpen = () => CSS.supports("selector(:open)") && document.querySelector("select:open") !== null;
-function isHeld(part) { return over[part] || down === part || drag !== null || isMenuOpen(); }
+export function isHeld(part) { return over[part] || down === part || drag !== null || isMenuOpen(); }
 function releases() {
   down = null;
   if (heldBack > 0 || heldAside) render();
@@ -29,7 +38,7 @@ for (const type of ["pointerup", "pointercancel", "dragend"]) {
 at("waiting").addEventListener("click", () => render(null, true, true));
 
 // Tells how many changes of place are held back.
-function tellHeld() {
+export function tellHeld() {
   const count = heldBack + Number(heldAside), what = `change${count === 1 ? "" : "s"} of place held back: show now`;
   const text = count ? `${count} ${what}` : "";
   if (at("waiting").textContent !== text) at("waiting").textContent = text;
@@ -37,18 +46,18 @@ function tellHeld() {
 }
 
 // Draws a list beside the overview: while places are held, what was drawn before stays where it is.
-function drawHeld(node, items, draw) {
+export function drawHeld(node, items, draw) {
   const old = [...(node.drawn ?? [])].map(([key, { model }]) => ({ key, model }));
   const isSame = old.map(({ key }) => key).join() === items.map(({ key }) => key).join();
   if (isSame || old.length === 0 || !isHeld("aside")) return drawList(node, items, draw);
-  heldAside = true;
+  set.heldAside(true);
   const kept = inOldPlaces(old, items, "key");
   return drawList(node, kept.map(({ key, model, hasLeft }) => ({ key, model: { ...model, hasLeft } })), draw);
 }
 
 // What is counted of a room, and who of it is in trouble, until something of it changes.
-const infos = new Map();
-function infoOf(room) {
+export const infos = new Map();
+export function infoOf(room) {
   if (!infos.has(room)) {
     const members = membersIn(desk, room);
     const troubled = members.filter((one) => troubleOf(desk, stats, one) !== "").map(({ member }) => member);
@@ -70,7 +79,7 @@ function sortRooms(isAsked) {
   order = new Map(rooms.map((room, place) => [room, place]));
   spoke = new Set(key === "weight" ? [] : desk.members.filter((one) => isCounted(desk, stats, key, one))
     .map(({ member }) => member));
-  orderedAt = performance.now();
+  set.orderedAt(performance.now());
 }
 const placeOf = (room) => order.get(room) ?? Number.MAX_SAFE_INTEGER;
 // Where rooms are by who speaks, their members are.
@@ -88,14 +97,16 @@ function planOf(isNarrowed) {
   });
 }
 
+// About how high a member and the head of a room are, for rooms that aren't drawn since nobody sees them, in pixels.
+const ROW_HEIGHT = 25, HEAD_HEIGHT = 34;
 // The overview. Where only some rooms have changed, the others stay as they are drawn. What an operator asks for of the
 // list itself, such as a search, is done at once.
-function renderRooms(changed, isAsked) {
+export function renderRooms(changed, isAsked) {
   const isNarrowed = wordsOf(at("search").value).length > 0 || filter !== "";
   sortRooms(isAsked);
   const next = planOf(isNarrowed), moved = placeChanges(drawnPlan, next);
   const isKept = moved > 0 && drawnPlan.length > 0 && !isAsked && isHeld("board"), plan = isKept ? drawnPlan : next;
-  if (moved > 0 && drawnPlan.length > 0 && !isKept && (!isAsked || heldBack > 0)) movedAt = performance.now();
+  if (moved > 0 && drawnPlan.length > 0 && !isKept && (!isAsked || heldBack > 0)) set.movedAt(performance.now());
   heldBack = isKept ? moved : 0;
   const known = at("board").drawn ?? new Map(), all = !changed || isNarrowed;
   const items = plan.map(({ room, isClosed, members }) => (!all && !changed.has(room) ? { key: room, isKept: true } :
@@ -117,7 +128,9 @@ function roomModel(room, isFolded, members, known) {
   return { ...roomLine(desk, names, room), isFolded, tally: infoOf(room).tally, isEmpty: members.length === 0 };
 }
 
-const withCount = (s) => ({ ...s, isSilent: isSilent(stats, desk, s.ssrc), isLossy: isLossy(stats, desk, s.ssrc) });
+export function withCount(s) {
+  return { ...s, isSilent: isSilent(stats, desk, s.ssrc), isLossy: isLossy(stats, desk, s.ssrc) };
+}
 function memberItem(room, number, members, known) {
   const isHere = number === (members.includes(here.get(room)) ? here.get(room) : members[0]);
   const member = memberOf(desk, number);
@@ -134,7 +147,7 @@ function memberItem(room, number, members, known) {
 }
 
 // The numbers of the whole bridge. Those of members are filters, and the one of all members takes a filter away.
-function renderSum() {
+export function renderSum() {
   const keys = ["speaking", "silent", "losing", "muted"];
   const sums = keys.map((key) => desk.rooms.reduce((all, room) => all + infoOf(room).tally[key], 0));
   const unknown = strangersIn(stats, desk).length, rooms = desk.rooms.length, people = desk.members.length;

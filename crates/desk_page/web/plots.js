@@ -1,25 +1,27 @@
-"use strict";
 // Two minutes of a member's figures, and the lines that draw them. No function touches the page.
+import { figuresOf } from "./stats.js";
 
 // How far back a trace goes, in milliseconds, and the size of a plot in units of its own.
-const TRACED = 120000, PLOT_WIDTH = 120, PLOT_HEIGHT = 20;
+export const TRACED = 120000, PLOT_WIDTH = 120, PLOT_HEIGHT = 20;
 // What is traced, each with the lowest value and the least value that reaches the top of its plot.
-const PLOTS = [["level", -60, -10], ["lossIn", 0, 0.1], ["jitter", 0, 60], ["lossOut", 0, 0.1], ["trip", 0, 300]];
+export const PLOTS = [
+  ["level", -60, -10], ["lossIn", 0, 0.1], ["jitter", 0, 60], ["lossOut", 0, 0.1], ["trip", 0, 300],
+];
 
 // A trace with one more sample: the moment and the figures of then.
-function traced(trace, at, figures) {
+export function traced(trace, at, figures) {
   const kept = trace.filter(([then]) => then > at - TRACED);
   return [...kept, [at, ...PLOTS.map(([name]) => figures[name])]];
 }
 // The traces of all members, and of no other ones.
-function tracedAll(traces, desk, stats) {
+export function tracedAll(traces, desk, stats) {
   return new Map(desk.members.map((member) =>
     [member.member, traced(traces.get(member.member) ?? [], stats.at, figuresOf(desk, stats, member))]));
 }
 
 // The line of one figure, as a path from the left edge two minutes ago to the right edge now. Where nothing is known
 // the line has a gap, and a sample by itself is a dot.
-function plotted(trace, place, now) {
+export function plotted(trace, place, now) {
   const [, lowest, least] = PLOTS[place], known = trace.map((sample) => sample[place + 1]);
   const highest = Math.max(least, ...known.filter((value) => value !== null));
   let path = "", isOn = false;

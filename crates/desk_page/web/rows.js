@@ -1,13 +1,18 @@
-"use strict";
 // A member's row of the overview: its state, its name, its figures, what it sees and sends, and its mute.
+import { memberOf } from "./lines.js";
+import { labelled } from "./overview.js";
+import { LEAST_LEVEL, levelInWords, spanInWords } from "./levels.js";
+import { figuresOf } from "./stats.js";
+import { desk, stats } from "./known.js";
+import { at, bdi, does, el, soft, spoken } from "./view.js";
 
 // What stands out of how a source's packets come: a class, and words.
-function fate({ isSilent: silent, isLossy: lossy }) {
+export function fate({ isSilent: silent, isLossy: lossy }) {
   if (silent) return { mark: " silent", words: "no packet comes" };
   return lossy ? { mark: " lossy", words: "over 2 percent of the packets are lost" } : { mark: "", words: null };
 }
 // A member's state: a sign, a class and words.
-const STATES = { silent: ["\u2716", "warn", "silent: no packet comes"],
+export const STATES = { silent: ["\u2716", "warn", "silent: no packet comes"],
   "losing in": ["\u26a0", "bad", "losing over 2 percent of its packets"],
   "losing out": ["\u26a0", "bad", "losing over 2 percent of what it is sent"],
   "muted floor": ["\u2298", "bad", "has the floor and is muted"],
@@ -20,7 +25,7 @@ function stateOf({ trouble, muted }, { isSpeaking }) {
 const SHAKY = 30, FAR = 250;
 const percent = (share) => (share === null ? "\u2013" : share < 0.0005 ? "0" : (100 * share).toFixed(1));
 const whole = (ms) => (ms === null ? "\u2013" : String(ms));
-function cellsOf({ lossIn, isLosingIn, jitter, lossOut, isLosingOut, trip }) {
+export function cellsOf({ lossIn, isLosingIn, jitter, lossOut, isLosingOut, trip }) {
   return [["in", percent(lossIn), isLosingIn ? " bad" : ""], ["jitter", whole(jitter), jitter >= SHAKY ? " warn" : ""],
     ["out", percent(lossOut), isLosingOut ? " bad" : ""], ["trip", whole(trip), trip >= FAR ? " warn" : ""]];
 }
@@ -65,7 +70,7 @@ const dbov = ({ level }) => (level === null ? null : Math.round(level));
 const areAlike = (a, b) => a.lossIn === b.lossIn && a.jitter === b.jitter && a.lossOut === b.lossOut &&
   a.trip === b.trip && a.look === b.look && dbov(a) === dbov(b);
 // Shows the figures of all rows that are drawn, where they have changed.
-function drawFigures() {
+export function drawFigures() {
   for (const { node: room } of at("board").drawn?.values() ?? []) {
     for (const [number, entry] of room.lastElementChild.drawn ?? []) {
       const member = entry.model.left ? undefined : memberOf(desk, number);
@@ -97,7 +102,7 @@ function seenCell({ sees, left }) {
 }
 
 // A member's line of the overview. One that has left stays in its place as long as places are held.
-function memberRow({ model, room, figures }) {
+export function memberRow({ model, room, figures }) {
   const { member, name, floor, muted, odd, hasAudio, isOpen, isChosen, isHere, trouble, left, isFresh } = model;
   const who = spoken(name, "member", member), words = STATES[trouble][2], off = left ? { "aria-disabled": "true" } : {};
   const short = name ? [bdi(name), soft(` ${member}`)] : [`member ${member}`];

@@ -1,16 +1,19 @@
-"use strict";
 // The rules of the page: what stays in its place, when a press is meant, and who is in trouble. No function touches the
 // page.
+import { lines, sourcesOf } from "./lines.js";
+import { figuresOf } from "./stats.js";
+import { isProgram } from "./people.js";
+import { revertedBy, turnedBy } from "./history.js";
 
 // A press is refused for so long after another's change of its object, or after places have changed, in milliseconds.
-const JUST = 300;
+export const JUST = 300;
 // So long after the last news the page is late, and after that gone.
-const LATE = 4000, GONE = 10000;
+export const LATE = 4000, GONE = 10000;
 // For so long rooms by trouble keep their order, and who ceases to fit a filter stays.
-const SETTLED = 5000;
+export const SETTLED = 5000;
 
 // The objects that a row of the desk is about, as `member 10`.
-function objectsOfRow(row) {
+export function objectsOfRow(row) {
   const [kind, first, second, third] = row.split(" ");
   if (kind === "member") return [`member ${second}`, `room ${third}`];
   if (kind === "source" || kind === "slot") return [`${kind} ${first}`, `member ${second}`];
@@ -23,7 +26,7 @@ const ABOUT = { "add-room": "room", "remove-room": "room", "add-member": "member
   "remove-member": "member", "add-source": "source", "remove-source": "source", "add-slot": "slot",
   "remove-slot": "slot", subscribe: "slot", unsubscribe: "slot", pin: "pin", unpin: "pin", "give-floor": "floor",
   "take-floor": "floor", mute: "source", unmute: "source", undo: "history", redo: "history", revert: "call" };
-function objectsOfLine(line) {
+export function objectsOfLine(line) {
   return line.replace(/^group /, "").split(" / ").map((part) => {
     const [verb, first, second] = part.split(" ");
     if (verb === "set-gain") return `gain ${first} ${second}`;
@@ -34,7 +37,7 @@ function objectsOfLine(line) {
 // The objects that others have changed between two versions of the desk, by the rows that went and came. `mine` are the
 // versions that this page's calls made, and `sent` those of its lines that may have come meanwhile; `waiting` of these
 // have no answer yet.
-function othersObjects(before, after, rows, mine, sent, waiting) {
+export function othersObjects(before, after, rows, mine, sent, waiting) {
   let others = 0;
   for (let version = before + 1; version <= after; version += 1) if (!mine.has(version)) others += 1;
   if (others <= waiting) return [];
@@ -50,27 +53,27 @@ function othersObjects(before, after, rows, mine, sent, waiting) {
 const placesOf = (plan) => plan.map(({ room, members }) => `${room} ${members.join()}`);
 const keysOf = (plan) => plan.flatMap(({ room, members }) => [`room ${room}`, ...members.map((m) => `${room} ${m}`)]);
 // How many changes of place lie between two plans.
-function placeChanges(before, after) {
+export function placeChanges(before, after) {
   const had = new Set(keysOf(before)), has = new Set(keysOf(after));
   const count = [...had].filter((key) => !has.has(key)).length + [...has].filter((key) => !had.has(key)).length;
   return count || Number(placesOf(before).join("/") !== placesOf(after).join("/"));
 }
 // Things in the places that they had: those that are there still as they are now, and the others with a mark.
-function inOldPlaces(before, now, key) {
+export function inOldPlaces(before, now, key) {
   const found = new Map(now.map((one) => [one[key], one]));
   return before.map((one) => found.get(one[key]) ?? { ...one, hasLeft: true });
 }
 
 // What Undo takes back and Redo does again, where programs give calls as well. `calls` are those of the log. A person's
 // call is one that no program gave.
-function undoOf(past, calls) {
+export function undoOf(past, calls) {
   const over = passedOver(past, calls);
   const one = past.done.findLast(({ number }) => isPersons(calls, number) && !over.has(number));
   if (!one) return null;
   const isNewest = one === past.done[past.done.length - 1];
   return { number: one.number, line: isNewest ? lines.undo(past.version) : lines.revert(one.number) };
 }
-function redoOf(past, calls) {
+export function redoOf(past, calls) {
   const last = past.undone[past.undone.length - 1], over = passedOver(past, calls);
   if (last) return { number: last.number, line: lines.redo(past.version) };
   for (const { number } of past.done.filter((one) => isPersons(calls, one.number)).reverse()) {
@@ -96,7 +99,7 @@ function passedOver(past, calls) {
 
 // What troubles a member: nothing comes of a source, many packets are lost on their way to the bridge or from it, or it
 // has the floor and is muted.
-function troubleOf(desk, stats, member) {
+export function troubleOf(desk, stats, member) {
   const figures = figuresOf(desk, stats, member);
   if (figures.isSilent) return "silent";
   if (figures.isLosingIn) return "losing in";
@@ -105,18 +108,18 @@ function troubleOf(desk, stats, member) {
   return isOdd ? "muted floor" : "";
 }
 const WEIGHTS = { "": 0, "muted floor": 1, "losing in": 2, "losing out": 2, silent: 2 };
-function isMuted(desk, member) {
+export function isMuted(desk, member) {
   const voices = sourcesOf(desk, member, "audio");
   return voices.length > 0 && voices.every((s) => desk.mutes.has(s.ssrc));
 }
 // Whether a member is one of those that a number counts. One may be silent with its picture and lose sound.
 const COUNTED = { speaking: (one) => one.isSpeaking, silent: (one) => one.isSilent,
   losing: (one) => one.isLosingIn || one.isLosingOut };
-function isCounted(desk, stats, filter, member) {
+export function isCounted(desk, stats, filter, member) {
   return filter === "muted" ? isMuted(desk, member.member) : COUNTED[filter](figuresOf(desk, stats, member));
 }
 // What is counted of members: those of a room, or of the whole bridge.
-function tallyOf(desk, stats, members) {
+export function tallyOf(desk, stats, members) {
   const tally = { members: members.length, speaking: 0, silent: 0, losing: 0, muted: 0, weight: 0 };
   for (const member of members) {
     for (const key of ["speaking", "silent", "losing", "muted"]) {
@@ -129,12 +132,12 @@ function tallyOf(desk, stats, members) {
 
 // What the page knows of its link, in words. `quiet` is how long ago the last news came, in milliseconds, `since` when
 // that was, and `told` what the program says of its bridge: "", "bridge" or "seats".
-function linkOf(told, quiet) {
+export function linkOf(told, quiet) {
   if (told) return told;
   if (quiet > GONE) return "gone";
   return quiet > LATE ? "late" : "live";
 }
-function linkInWords(link, quiet, since) {
+export function linkInWords(link, quiet, since) {
   if (link === "live") return "Live";
   if (link === "late") return `Late: last news ${Math.floor(quiet / 1000)} s ago`;
   const from = since ? ` since ${since}` : "";

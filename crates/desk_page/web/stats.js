@@ -1,4 +1,5 @@
-"use strict";
+import { codecOf, free, lines, memberOf, sourceOf, withField } from "./lines.js";
+import { soundOf } from "./levels.js";
 
 // What the bridge counts, as /stats tells it. No function touches the page.
 
@@ -27,7 +28,7 @@ function lossOut({ fraction }, before) {
 
 // The counts of sources by address and SSRC, those of streams by SSRC, and the senders that are no source. `before` is
 // the count before, if any, and `at` the moment, in milliseconds.
-function parseStats(text, before = null, at = 0) {
+export function parseStats(text, before = null, at = 0) {
   const told = JSON.parse(text), span = before ? at - before.at : null;
   const sources = new Map((told.sources ?? []).map((one) => [`${one.address} ${one.ssrc}`, one]));
   for (const [key, one] of sources) {
@@ -41,25 +42,25 @@ function parseStats(text, before = null, at = 0) {
 }
 
 // How long ago something came, in words.
-function agoInWords(ms) {
+export function agoInWords(ms) {
   if (ms < 1000) return "just now";
   if (ms < 60000) return `${Math.floor(ms / 1000)} s ago`;
   return ms < 3600000 ? `${Math.floor(ms / 60000)} min ago` : `${Math.floor(ms / 3600000)} h ago`;
 }
 
 // What came of a declared source, or null where nothing is known. A bridge counts by the address of its member.
-function countOf(stats, desk, ssrc) {
+export function countOf(stats, desk, ssrc) {
   if (!stats) return null;
   const address = memberOf(desk, sourceOf(desk, ssrc)?.member)?.address;
   return stats.sources.get(`${address} ${ssrc}`) ?? { packets: 0, lost: 0, ago_ms: null };
 }
 // Whether nothing comes of a source that is declared.
 function isStill(count) { return !count || count.ago_ms === null || count.ago_ms >= SILENT; }
-function isSilent(stats, desk, ssrc) { return stats !== null && isStill(countOf(stats, desk, ssrc)); }
-function isLossy(stats, desk, ssrc) {
+export function isSilent(stats, desk, ssrc) { return stats !== null && isStill(countOf(stats, desk, ssrc)); }
+export function isLossy(stats, desk, ssrc) {
   return countOf(stats, desk, ssrc)?.isLossy === true;
 }
-function countInWords(count) {
+export function countInWords(count) {
   if (count === null) return "";
   if (count.ago_ms === null) return "no packet came";
   const late = count.share > 0 ? `, ${(100 * count.share).toFixed(1)} percent of late` : "";
@@ -73,7 +74,7 @@ function whyInWords({ bad_payload: bad, bad_type: type, silent_ms: silent }) {
   return silent >= SILENT ? `${dropped}; silent for ${Math.floor(silent / 1000)} s of its sound` : dropped;
 }
 // What the receiver of a stream says of it.
-function streamInWords(count) {
+export function streamInWords(count) {
   const percent = count && count.share !== null ? `${(100 * count.share).toFixed(1)} percent lost` : "";
   const times = [["jitter", count?.jitter_ms], ["round trip", count?.round_trip_ms]];
   const words = times.flatMap(([what, ms]) => (typeof ms === "number" ? [`${what} ${ms} ms`] : []));
@@ -82,10 +83,10 @@ function streamInWords(count) {
 
 // The figures of a member: the level of its loudest source and whether one speaks, and the worst of the loss, jitter
 // and round trip of its sources and of the streams to it. What isn't known is null.
-const UNKNOWN = { level: null, isSpeaking: false, lossIn: null, jitter: null, lossOut: null, trip: null,
+export const UNKNOWN = { level: null, isSpeaking: false, lossIn: null, jitter: null, lossOut: null, trip: null,
   isSilent: false, isLosingIn: false, isLosingOut: false, look: "" };
 const most = (a, b) => (typeof b !== "number" ? a : Math.max(a ?? b, b));
-function figuresOf(desk, stats, member) {
+export function figuresOf(desk, stats, member) {
   if (!stats) return UNKNOWN;
   const { figures } = stats;
   if (figures.desk !== desk) stats.figures = { desk, of: new Map() };
@@ -122,7 +123,7 @@ function addStream(all, count) {
 
 // The rooms in which a source fell silent or began to lose many packets between two counts, a stream began to lose
 // many, or somebody began to speak, or ceased to.
-function turnedRooms(desk, before, after) {
+export function turnedRooms(desk, before, after) {
   const turned = desk.members.filter((member) =>
     figuresOf(desk, before, member).look !== figuresOf(desk, after, member).look);
   return new Set(turned.map(({ room }) => room));
@@ -137,7 +138,7 @@ function strangerOf(desk, { address, ssrc, payload_type: type, packets }) {
 }
 
 // The unknown senders, but for those that have become sources meanwhile.
-function strangersIn(stats, desk) {
+export function strangersIn(stats, desk) {
   const isOf = (ssrc, address) => memberOf(desk, sourceOf(desk, ssrc)?.member)?.address === address;
   const unknown = (stats?.strangers ?? []).filter(({ ssrc, address }) => !isOf(ssrc, address));
   return unknown.map((one) => strangerOf(desk, one));
@@ -145,7 +146,7 @@ function strangersIn(stats, desk) {
 
 // What brings somebody into a room as one group: a member with numbers of the page's choice, its sources, which are
 // what comes from its address already, and a slot if it sees a picture.
-function newcomer(desk, stats, { room, address, sees }) {
+export function newcomer(desk, stats, { room, address, sees }) {
   const own = strangersIn(stats, desk).filter((one) => one.address === address && !one.isElsewhere);
   const unused = (least) => {
     const number = free(desk, "ssrc", least);

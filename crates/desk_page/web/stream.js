@@ -1,17 +1,21 @@
-"use strict";
 // The stream of events: the page's program tells what happens, and isn't asked for it. Where no stream can be had, the
 // page asks as often as it does without one.
+import { closedBy, closedInWords, editedText, withCalls } from "./news.js";
+import { GONE } from "./rules.js";
+import { calls, desk, drag, lastNews, past, set, shownText, timer, told } from "./known.js";
+import { at } from "./view.js";
+import { judge, show, take } from "./link.js";
 
 // How long after a stream was refused another one is tried, and how long a tab that nobody sees keeps its own: browsers
 // have six connections to a host for all of their tabs.
 const RETRIED = 5000, KEPT_HIDDEN = 30000;
 let stream = null, isHeard = false, openedAt = -Infinity, hiding = null, coming = Promise.resolve();
-const isFollowed = () => isHeard && stream?.readyState === EventSource.OPEN;
+export const isFollowed = () => isHeard && stream?.readyState === EventSource.OPEN;
 
 // News came. What the program says of its bridge stays.
 function newsCame() {
-  lastNews = performance.now();
-  if (!told) since = new Date().toTimeString().slice(0, 8);
+  set.lastNews(performance.now());
+  if (!told) set.since(new Date().toTimeString().slice(0, 8));
   judge();
 }
 const onEvent = {
@@ -19,7 +23,7 @@ const onEvent = {
     isHeard = true;
     clearTimeout(timer);
     if (!desk || desk.state !== state) return show();
-    told = "";
+    set.told("");
     return newsCame();
   },
   desk: (edit) => {
@@ -27,9 +31,9 @@ const onEvent = {
     return text === null ? show() : take(text);
   },
   lease: (state) => showClosed(closedBy(state)),
-  call: (line) => { calls = withCalls(calls, line); },
+  call: (line) => { set.calls(withCalls(calls, line)); },
   bridge: (word) => {
-    told = { gone: "bridge", busy: "seats" }[word] ?? "";
+    set.told({ gone: "bridge", busy: "seats" }[word] ?? "");
     newsCame();
     return told ? null : show();
   },
@@ -45,9 +49,9 @@ function showClosed(name) {
   if (at("closed").textContent === text) return;
   at("closed").textContent = at("closed").title = text;
   document.body.classList.toggle("closed", name !== null);
-  movedAt = performance.now();
+  set.movedAt(performance.now());
 }
-function openStream() {
+export function openStream() {
   closeStream();
   openedAt = performance.now();
   stream = new EventSource("/events");
@@ -59,13 +63,13 @@ function openStream() {
     show();
   });
 }
-function closeStream() {
+export function closeStream() {
   stream?.close();
   stream = null;
   isHeard = false;
 }
 // Opens a stream again that was refused, or that says nothing any more.
-function watchStream() {
+export function watchStream() {
   if (!stream || performance.now() - openedAt < RETRIED) return;
   const isSilent = isHeard && performance.now() - lastNews > GONE;
   if (stream.readyState === EventSource.CLOSED || isSilent) openStream();

@@ -1,10 +1,15 @@
-"use strict";
-// Drawing.
-// What is drawn is changed in place, so that focus, scrolling and what is typed stay.
-const at = (id) => document.getElementById(id);
+// Drawing. What is drawn is changed in place, so that focus, scrolling and what is typed stay.
+import { MUSIC, lines } from "./lines.js";
+import { labelled } from "./overview.js";
+import { gainInWords } from "./levels.js";
+import { PLOT_HEIGHT, PLOT_WIDTH } from "./plots.js";
+import { wayWords } from "./history.js";
+import { fate } from "./rows.js";
+
+export function at(id) { return document.getElementById(id); }
 
 // An element with attributes, and children behind one another. `line` is the line that a click sends.
-function el(tag, props, ...children) {
+export function el(tag, props, ...children) {
   const node = document.createElement(tag);
   for (const [name, value] of Object.entries(props ?? {})) {
     if (value === null || value === undefined || value === false) continue;
@@ -13,14 +18,14 @@ function el(tag, props, ...children) {
   node.append(...children.flat().filter((child) => child !== null && child !== undefined && child !== ""));
   return node;
 }
-const soft = (...text) => el("span", { class: "soft" }, ...text);
-const code = (text) => el("code", {}, text);
+export const soft = (...text) => el("span", { class: "soft" }, ...text);
+export const code = (text) => el("code", {}, text);
 // A name may run from right to left, so that it stands by itself.
-const bdi = (text) => el("bdi", {}, text);
+export const bdi = (text) => el("bdi", {}, text);
 
 // The controls that were pressed and have no answer yet, by their keys: each with its line, and the version as which it
 // was accepted, or 0.
-const waits = new Map();
+export const waits = new Map();
 const busy = (key) => (waits.has(key) ? "true" : null);
 
 // A button that sends a line, which it shows when it is pointed at or reached by Tab. `what` tells its object. A button
@@ -30,24 +35,24 @@ function sends(text, line, what, kind = "", key = line) {
     "aria-label": `${text} ${what}`, "aria-busy": busy(key) }, text);
 }
 // A button that the page acts on itself.
-function does(text, act, of, what, more = {}) {
+export function does(text, act, of, what, more = {}) {
   return el("button", { type: "button", class: "small", "data-key": `${act} ${of}`, "data-act": act, "data-of": of,
     "aria-label": `${text} ${what}`, "aria-busy": busy(`${act} ${of}`), ...more }, text);
 }
 // A choice that sends the line `PREFIX CHOSEN`, or hands what is chosen to an act. It is filled once it is opened.
-function chooses(text, what, key, more) {
+export function chooses(text, what, key, more) {
   return el("select", { class: "small", "aria-label": `${text} ${what}`, "data-key": key, "data-choice": key, ...more },
     el("option", { value: "" }, text));
 }
 
 // The sliders that an operator holds, or moved by a key just now, by their keys: the gain that each had then, and the
 // one that was sent. One that another operator has changed meanwhile is lost, and follows the desk.
-const touched = new Map();
+export const touched = new Map();
 const isBusy = (node) => (node.type === "range" ? touched.get(node.dataset.key)?.isLost === false :
   node === document.activeElement);
 
 // Makes a node look like another one, and keeps all of it that is so already.
-function morph(node, next) {
+export function morph(node, next) {
   if (node.nodeType === Node.TEXT_NODE) {
     if (node.data !== next.data) node.data = next.data;
     return;
@@ -63,7 +68,7 @@ function morph(node, next) {
 }
 const keyOf = (node) => node.dataset?.key ?? node.id ?? "";
 const isLike = (node, next) => node.nodeName === next.nodeName && keyOf(node) === keyOf(next);
-function morphChildren(node, nexts) {
+export function morphChildren(node, nexts) {
   const keys = new Set(nexts.map(keyOf).filter((key) => key));
   for (const child of [...node.childNodes]) if (keyOf(child) && !keys.has(keyOf(child))) child.remove();
   let place = node.firstChild;
@@ -89,7 +94,7 @@ function morphChildren(node, nexts) {
 
 // Draws a list into a node: each item with its key and a model. An item whose model is as before isn't drawn again, nor
 // is one that is known to be kept.
-function drawList(node, items, draw) {
+export function drawList(node, items, draw) {
   const known = node.drawn ?? new Map(), drawn = new Map();
   const keys = new Set(items.map((item) => item.key));
   for (const [key, entry] of known) if (!keys.has(key)) entry.node.remove();
@@ -115,7 +120,7 @@ function drawList(node, items, draw) {
 function titled(name, kind, number) {
   return name ? [bdi(name), soft(` ${kind} ${number}`)] : [`${kind} ${number}`];
 }
-const spoken = (name, kind, number) => (name ? `${name} ${kind} ${number}` : `${kind} ${number}`);
+export const spoken = (name, kind, number) => (name ? `${name} ${kind} ${number}` : `${kind} ${number}`);
 
 // A room of the overview: its head, and a list for its members. All of the head has its place, whatever is said there.
 function roomHead(model) {
@@ -143,7 +148,7 @@ function roomHead(model) {
     does("Remove", "remove-room", room, what,
       { class: "small danger quiet", title: lines.removeRoom(room), ...off }));
 }
-function roomCard({ model }) {
+export function roomCard({ model }) {
   const { room, name, isFolded, isEmpty } = model;
   return el("section", { class: "room", "data-room": room, "data-key": `room ${room}`,
     "aria-labelledby": `room-${room}` }, roomHead(model),
@@ -199,7 +204,7 @@ function slotRow({ slot, index, source, label, by: rule, why, isSubscribed, hasL
       sends("Remove", lines.removeSlot(slot), `slot ${slot}`, "danger")),
     count ? el("span", { class: "soft counted" }, count) : "");
 }
-function detailPanel(model) {
+export function detailPanel(model) {
   const { member, name, room, roomLabel, left } = model, who = spoken(name, "member", member);
   const part = (title, rows, none) => [el("h3", { "data-key": title }, title), ...(rows.length ? rows : [soft(none)])];
   return el("section", { id: "detail", class: left ? "left" : null, "aria-labelledby": "detail-title",
@@ -225,7 +230,7 @@ function detailPanel(model) {
 }
 
 // An unknown sender, and a button that fills in the form to add it.
-function strangerItem({ model: { address, ssrc, type, packets, member, isElsewhere, hasLeft } }) {
+export function strangerItem({ model: { address, ssrc, type, packets, member, isElsewhere, hasLeft } }) {
   const whose = member === null ? "no member has this address" : `the address of member ${member}`;
   const known = isElsewhere ? `source ${ssrc} is declared at another address` : whose;
   return el("li", { class: hasLeft ? "left" : null }, `${address} `,
@@ -234,7 +239,7 @@ function strangerItem({ model: { address, ssrc, type, packets, member, isElsewhe
 }
 
 // A call of the history, and below the one that is clicked how it is taken back alone, and what leads to it.
-function callItem({ model: { number, when, who, text, isUndone, isWalked, isOnWay, way, revert, hasLeft } }) {
+export function callItem({ model: { number, when, who, text, isUndone, isWalked, isOnWay, way, revert, hasLeft } }) {
   return el("li", { class: `${isUndone ? "undone" : ""}${isOnWay ? " way" : ""}${hasLeft ? " left" : ""}` },
     el("button", { type: "button", class: "call", "data-act": "walk", "data-of": number, "data-key": `walk ${number}`,
       "aria-label": `${text} version ${number}`, "aria-expanded": String(isWalked) }, code(text)),
@@ -250,7 +255,7 @@ function revertButton(number, who, what) {
     "data-act": "revert", "data-of": number, "aria-label": `Revert: ${what}${whose}, version ${number}`,
     "aria-busy": busy(line) }, el("span", {}, `Revert: ${what}`), whose);
 }
-function wayOf(way) {
+export function wayOf(way) {
   const count = way.calls.length, word = way.word === "undo" ? "Undo" : "Redo";
   return { text: wayWords(way, count === 0), count, label: count > 1 ? `${word} these ${count}` : word };
 }

@@ -536,9 +536,13 @@ TRIES = "page_lines.js", "page_figures.js", "page_people.js"
 def tried_by_node(files, tests):
     """What node says of tries of the page's functions, by the texts of their web files."""
     with tempfile.TemporaryDirectory() as folder:
-        path = pathlib.Path(folder) / "lines.js"
-        path.write_text("\n".join(files.values()))
-        words = ["node", pathlib.Path(__file__).with_name(tests), path]
+        path = pathlib.Path(folder)
+        for name, text in files.items():
+            (path / name).write_text(text)
+        (path / "package.json").write_text('{ "type": "module" }')
+        (path / "all.js").write_text("".join(f'export * from "./{name}";\n' for name in files))
+        here = pathlib.Path(__file__)
+        words = ["node", here.with_name("page_run.mjs"), path / "all.js", here.with_name(tests)]
         return subprocess.run(words, capture_output=True, text=True, check=False)
 
 

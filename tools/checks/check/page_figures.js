@@ -1,8 +1,8 @@
-// Tries what the page makes of a bridge's counts: node page_figures.js FILE.
+// Tries what the page makes of a bridge's counts: node page_run.mjs ALL page_figures.js.
 "use strict";
 const assert = require("node:assert");
 const { text } = require("./page_desk.js");
-const page = require(process.argv[2]);
+const { page } = globalThis;
 
 const desk = page.parseDesk(text);
 let tried = 0;

@@ -1,7 +1,7 @@
-// Tries the page's functions that touch no page: node page_lines.js FILE.
+// Tries the page's functions that touch no page: node page_run.mjs ALL page_lines.js.
 "use strict";
 const assert = require("node:assert");
-const page = require(process.argv[2]);
+const { page } = globalThis;
 
 const { text } = require("./page_desk.js");
 const desk = page.parseDesk(text);

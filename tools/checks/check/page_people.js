@@ -1,7 +1,7 @@
-// Tries what the page makes of persons and of the log: node page_people.js FILE.
+// Tries what the page makes of persons and of the log: node page_run.mjs ALL page_people.js.
 "use strict";
 const assert = require("node:assert");
-const page = require(process.argv[2]);
+const { page } = globalThis;
 let tried = 0;
 function same(got, wanted) {
   assert.deepStrictEqual(got, wanted);

@@ -14,9 +14,9 @@ WEB, SOURCES = CRATES / "desk_page/web", CRATES / "desk_page/src"
 TOKEN = "TOKEN"
 MADE = "`tools/bridge make page` writes this file, from these files of web/:\n//! {}."
 LINES = "advice.js lines.js overview.js kept.js levels.js stats.js people.js news.js plots.js rules.js history.js"
-VIEW = "view.js rows.js page.js taking.js link.js stream.js counts.js places.js drawing.js hands.js"
+VIEW = "known.js view.js rows.js page.js taking.js link.js stream.js counts.js places.js drawing.js hands.js"
 STYLE = "page.css"
-SCRIPT = re.compile(r'<script src="/([^"]*)" defer></script>')
+SCRIPT = re.compile(r'<script type="module" src="/([^"]*)"></script>')
 # Each source of files that browsers ask for by name: what it is, and its files.
 PARTS = {
     "script_lines": ("What the page makes of the bridge's texts, and the lines that clicks send.", LINES),
@@ -79,10 +79,11 @@ def constant(name):
 
 
 def part(title, files):
-    """A source with a constant for each file."""
+    """A source with a constant for each file. A script begins on a line of its own, since a line has 120 columns."""
     lines = [f"//! {title}", f"//! {MADE.format(', '.join(files.split()))}"]
     for name in files.split():
-        lines += ["", f"/// {name}", f'pub(crate) const {constant(name)}: &[u8] = br##"{text_of(name)}"##;']
+        text = ("\n" if name.endswith(".js") else "") + text_of(name)
+        lines += ["", f"/// {name}", f'pub(crate) const {constant(name)}: &[u8] = br##"{text}"##;']
     return "\n".join(lines) + "\n"
 
 

@@ -20,7 +20,6 @@ NUMBERS = CRATES / "desk_edit/specs/Told.antt"
 FAULTS = CRATES / "desk_text/specs/Text.antt"
 # Faults of scripts alone, which no operator is told.
 OF_SCRIPTS = ("BadHex", "BadFrame")
-STRICT = '"use strict";'
 
 
 def options(parser):
@@ -77,9 +76,9 @@ def document():
 
 def script():
     """The page's script with both tables."""
-    lines = [STRICT, "// What refusals and faults mean, and what to do. `tools/bridge make words` writes this."]
+    lines = ["// What refusals and faults mean, and what to do. `tools/bridge make words` writes this."]
     for name, part in zip(("advice", "faults"), rows()):
-        lines.append(f"const {name} = {{")
+        lines.append(f"export const {name} = {{")
         lines += [f"  {number}: {json.dumps(text)}," for number, _, text in part]
         lines.append("};")
     return "\n".join(lines) + "\n"
