@@ -36,6 +36,8 @@ NAMES = """(async () => {
   }
   globalThis.hasNames = all.length > 0;
 })()"""
+# A frame has been drawn since this began.
+FRAME = "new Promise((done) => requestAnimationFrame(() => requestAnimationFrame(() => done(true))))"
 # What a script has that asks whether the names are there.
 ASKS = "typeof desk"
 
@@ -237,6 +239,11 @@ class Browser:
                 fail(f"after {seconds} s this isn't true: {script}")
             time.sleep(0.02)
         return time.monotonic() - begun
+
+    def draws(self, width):
+        """Waits until the page is drawn in a window of this width."""
+        self.wait(f"innerWidth === {width} && document.documentElement.clientWidth <= {width}", 30)
+        self.run(FRAME)
 
     def shows(self, width, height, dark=False):
         """Sets the size of the window, and its colours."""

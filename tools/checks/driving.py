@@ -413,7 +413,7 @@ def look_at_sizes(browser):
     """The page, wide and narrow, light and dark: it fits the window, and its text stands out."""
     for width, dark in (1280, False), (1280, True), (400, False), (400, True):
         browser.shows(width, 900, dark)
-        time.sleep(0.3)
+        browser.draws(width)
         if browser.run("document.documentElement.scrollWidth > window.innerWidth"):
             fail(f"at {width} pixels the page is wider than the window")
         text, ground = (browser.run(f"getComputedStyle(document.body).{what}") for what in ("color", "backgroundColor"))

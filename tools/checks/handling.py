@@ -224,6 +224,7 @@ def is_for_everyone(browser):
     rules = RULES.read_text()
     for width, dark in (1280, False), (1280, True), (400, False), (400, True):
         browser.shows(width, 900, dark)
+        browser.draws(width)
         faults = browser.run(rules)
         check(not faults, f"at {width} pixels, dark: {dark}, the page has these faults: {faults}")
     browser.shows(1280, 900)

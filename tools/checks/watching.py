@@ -174,8 +174,7 @@ def is_laid_out(browser):
     browser.wait("names['member 1001'] !== undefined")
     for width, height, dark in SIZES:
         browser.shows(width, height, dark)
-        browser.wait(f"innerWidth === {width} && document.documentElement.clientWidth <= {width}")
-        browser.run("new Promise((done) => requestAnimationFrame(() => requestAnimationFrame(() => done(true))))")
+        browser.draws(width)
         for opened, within in ("null", "header,#bar,#columns,#board,footer"), ("1002", "#detail"):
             browser.run(f"opened = {opened}, render(null, true, true), true")
             faults = judged(browser, within)

@@ -1,7 +1,10 @@
 // Whether the page can be read and pressed as it is laid out. `within` is what is looked at. The value is a list of
-// faults.
-((within) => {
-  const faults = [], CONTROLS = "button,input,select";
+// faults. The page is judged once a frame has been drawn since the last change, and a control once its room is drawn,
+// after so many frames at most.
+(async (within) => {
+  const faults = [], CONTROLS = "button,input,select", MOST_FRAMES = 300;
+  const frame = () => new Promise((done) => { requestAnimationFrame(() => requestAnimationFrame(done)); });
+  await frame();
   const all = (selector, from = document) => [...from.querySelectorAll(selector)];
   const isSeen = (node) => node.checkVisibility({ visibilityProperty: true }) && node.getClientRects().length > 0;
   const named = (node) => `${node.tagName} ${node.dataset?.key ?? node.className ?? ""}`.trim();
@@ -16,6 +19,12 @@
   const cuts = (node) => /hidden|clip/.test(getComputedStyle(node).overflowX);
   for (const node of nodes.filter((one) => one.matches(CONTROLS))) {
     node.scrollIntoView({ block: "center" });
+    let frames = 0;
+    while (!node.checkVisibility({ contentVisibilityAuto: true }) && frames < MOST_FRAMES) {
+      await frame();
+      frames += 1;
+    }
+    if (frames === MOST_FRAMES) faults.push(`${named(node)} isn't drawn after ${frames} frames`);
     const box = node.getBoundingClientRect();
     const found = document.elementFromPoint(box.x + box.width / 2, box.y + box.height / 2);
     const isOwn = found && (node.contains(found) || [...(node.labels ?? [])].some((label) => label.contains(found)));
