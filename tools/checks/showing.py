@@ -1,7 +1,6 @@
 """Pictures of the page for documents: a room of 16 members with names, and a history of several operators."""
 
 import json
-import time
 
 from checks import standin
 from checks.counted import Counts
@@ -10,6 +9,8 @@ from checks.driving import opened, settles
 PEOPLE = "Alice Bob Chen Dunja Emeka Fatima Grace Hiro Ines Jamal Kofi Lena Mateo Nadia Omar Priya".split()
 NAMES = {"room 1": "Weekly call", "room 2": "Lobby", "room 3": "Concert", "member 40": "Piano"}
 WITH_VIDEO = 6
+# So many counts are drawn in the plots of the member whose details are open.
+PLOTTED = 30
 # The levels of those who speak, one of them while muted.
 SPEAKS = {212: -21.0, 215: -33.0, 225: -28.0, 240: -18.0}
 # Who they are, and what is done once all are there: an operator, and a line.
@@ -48,15 +49,16 @@ def take_pictures(command, folder, into):
     try:
         settles(browser, one.log.version)
         browser.wait("stats !== null && stats.span !== null && infoOf(1).tally.speaking > 0", 30)
-        for name, width, dark in [
-            ("desk", 1280, False), ("desk_dark", 1280, True), ("desk_narrow", 400, False),
-            ("desk_narrow_dark", 400, True),
+        browser.wait(f"traces.get(11)?.length >= {PLOTTED}", 2 * PLOTTED + 30)
+        for name, width, height, dark in [
+            ("desk", 1280, 1160, False), ("desk_dark", 1280, 1160, True), ("desk_narrow", 400, 900, False),
+            ("desk_narrow_dark", 400, 900, True),
         ]:  # fmt: skip
             is_open = width == 1280
             browser.run(f"opened = {11 if is_open else 'null'}; picked.clear(); render(); true")
             browser.run("if (opened) { picked.add(14).add(16); render(); } scrollTo(0, 0), true")
-            browser.shows(width, 900, dark)
-            time.sleep(0.5)
+            browser.shows(width, height, dark)
+            browser.draws(width)
             browser.picture(into / f"{name}.png")
     finally:
         browser.close()
