@@ -18,7 +18,7 @@ NEEDS = "nothing"
 
 TOKEN = re.compile(r'<meta name="desk-token" content="([0-9a-f]{32})">')
 # The fields that a request and a response keep.
-KEPT = "x-desk-token", "x-desk-person", "content-type"
+KEPT = "x-desk-token", "x-desk-person", "x-desk-seen", "content-type"
 
 
 def address(text):
