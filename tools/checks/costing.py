@@ -15,14 +15,21 @@ LIVE = "typeof desk !== 'undefined' && desk !== null && document.getElementById(
 EMPTY = """<!doctype html><title>Empty</title><p id="number">0</p><script>
 let count = 0; setInterval(() => { document.getElementById("number").textContent = String(count += 1); }, EVERY);
 </script>"""
-# The bounds of what is printed: the first draw and a change by the tab's processor time in milliseconds, and the share
-# of a processor beside that of the empty page.
-MOST = {"first draw": 1000, "change": 50}
+# The bounds of what is printed: the first draw and a change by the tab's processor time in milliseconds, and the shares
+# of a processor in percent. On a busy machine all shares are larger: then it is so many times that of the empty page.
+MOST = {"first draw": 1000, "change": 50, "idle": 1, "speaking": 3}
+TIMES = 4
 
 
 def check(holds, text):
     if not holds:
         fail(text)
+
+
+def is_within(what, got, beside=0):
+    """Ends where a figure is over its bound. `beside` is the share of the empty page."""
+    most = max(MOST[what], TIMES * beside)
+    check(got <= most, f"the page's figure for `{what}` is {got:.2f}, and the most is {most:.2f}")
 
 
 def share(browser, one=None):
@@ -86,6 +93,16 @@ def change(browser, one):
     return statistics.median(times[2:])
 
 
+def speaks(browser, one):
+    """The share of a processor and the octets a second while some members speak."""
+    sound = [source["ssrc"] for source in one.log.desk.sources if source["media"] == "audio"]
+    it = Counts(one, levels={ssrc: -30.0 for ssrc in sound[:: len(sound) // SPEAKERS][:SPEAKERS]})
+    one.counted = it.told
+    browser.wait("stats?.span && document.querySelectorAll('#sum [data-of=\"speaking\"]').length === 1", 30)
+    time.sleep(2)
+    return share(browser, one)
+
+
 def costs_little(browser):
     """The figures, each printed beside that of the empty page."""
     one = standin.Standin()
@@ -97,12 +114,7 @@ def costs_little(browser):
     changed = change(browser, one)
     time.sleep(6)
     idle, octets = share(browser, one)
-    sound = [source["ssrc"] for source in one.log.desk.sources if source["media"] == "audio"]
-    it = Counts(one, levels={ssrc: -30.0 for ssrc in sound[:: len(sound) // SPEAKERS][:SPEAKERS]})
-    one.counted = it.told
-    browser.wait("stats?.span && document.querySelectorAll('#sum [data-of=\"speaking\"]').length === 1", 30)
-    time.sleep(2)
-    speaking, told = share(browser, one)
+    speaking, told = speaks(browser, one)
     second, every = empty(browser, 1000), empty(browser, 250)
     print(
         f"64 rooms of 16: first draw {clock:.0f} ms by the clock and {drawn:.0f} ms of the tab, and an empty page "
@@ -113,6 +125,8 @@ def costs_little(browser):
         f"and {told / 1000:.0f} kB/s, and an empty page that writes each quarter of a second {every:.2f} percent: "
         f"{speaking / max(every, 0.01):.1f} times"
     )
-    check(drawn <= MOST["first draw"], f"the first draw takes {drawn:.0f} ms of the tab")
-    check(changed <= MOST["change"], f"a change takes {changed:.0f} ms of the tab")
+    is_within("first draw", drawn)
+    is_within("change", changed)
+    is_within("idle", idle, second)
+    is_within("speaking", speaking, every)
     check(octets <= 1000, f"an idle page is sent {octets:.0f} octets a second")
