@@ -149,7 +149,7 @@ step : (start : Desk) (publisher : Book) (asked : List (DeskAsk × List ℕ)) (t
     → old.told ≡ Some told → told ≤ length old.seat.seen → GoesOn start publisher asked new
     → Goes told old new (news_of ask text ++ news_among asked)
 step start publisher asked told moment old mid new (calls line call) text a done is few goes =
-    let stays = called start publisher moment old mid line call text _ a.1 in
+    let stays = called start publisher moment old mid line call text _ a.2 in
     let begins = stays.begins in
     let longer = prefix_few old.seat.seen mid.seat.seen begins in
     let more = goes told mid done (stays.told ∙ is) (omega (arith, few, longer)) in

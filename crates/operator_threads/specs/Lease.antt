@@ -1,5 +1,5 @@
 -- The lease of a desk (own).
-use Rattle.std.specs.Prelude.{ℕ, ◌+◌, ◌-◌, ◌/◌, min, max, Bool, true, not, ◌&&◌, ◌||◌, nat_le, List, [], ◌∷◌, codes}
+use Rattle.std.specs.Prelude.{◌≡◌, ◌≤◌, ℕ, ◌+◌, ◌-◌, ◌/◌, min, max, Bool, true, not, ◌&&◌, ◌||◌, nat_le, List, [], ◌∷◌, codes}
 use Rattle.std.specs.Prelude.{Option, Some, None}
 use Rattle.std.specs.Str.{bytes_eq}
 use Rattle.desk_edit.specs.Told.{Told}
@@ -44,6 +44,11 @@ is_holder lease name = not (bytes_eq name (codes "-")) && bytes_eq name lease.ho
 abbrev pub takes_calls : Option LeaseOf → (moment : ℕ) → (name : List ℕ) → Bool
 takes_calls None moment name = true
 takes_calls (Some lease) moment name = not (has_ended lease moment) || is_holder lease name
+
+-- whether the desk takes a call of this moment, by some lease and as of this moment or a later one
+abbrev pub IsJudged : (moment : ℕ) → (name : List ℕ) → (takes : Bool) → Type 0
+IsJudged moment name takes =
+    (at : ℕ) × (lease : Option LeaseOf) × (takes ≡ takes_calls lease at name) × (moment ≤ at)
 
 -- the lease after a connection of this name has asked so
 abbrev pub lease_after : LeaseAsk → (moment : ℕ) → (name : List ℕ) → Option LeaseOf → Option LeaseOf

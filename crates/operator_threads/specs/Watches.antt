@@ -18,7 +18,7 @@ use Rattle.operator_desk.specs.declared.answer.Answer.{Answer}
 use Rattle.operator_desk.specs.Answers.{IsAnswered, HasCaughtUp}
 use Rattle.operator_desk.specs.PastCalls.{stamped_of}
 use Rattle.operator_desk.specs.Seats.{SeatOf}
-use Rattle.operator_threads.specs.Lease.{LeaseOf, takes_calls, lease_after, lease_line, closed_line}
+use Rattle.operator_threads.specs.Lease.{LeaseOf, IsJudged, lease_after, lease_line, closed_line}
 use Rattle.operator_threads.specs.Told.{answer_text, IsKnown, stamp_at, shown_name, name_line, trouble_after}
 
 -- an operator at the desk: the seat; the latest notice that is known; of a watch how many calls of the log it has told,
@@ -53,14 +53,12 @@ pub record IsClosed (old new : SittingOf) (line said : List ℕ) : Type 0 where
   pub text : said ≡ closed_line version
   pub noted : new ≡ record old { trouble = Some (record { line = line; wrong = Closed }) }
 
--- the desk has some lease, which says whether it takes the call at this moment or a later one: then that is answered,
--- and else refused
+-- the desk's lease says whether it takes the call: then that is answered, and else refused
 abbrev pub SeatCalls :
     Desk → Book → (moment : ℕ) → (old new : SittingOf) → (line : List ℕ) → CallOf → (said : List ℕ) → Type 0
 SeatCalls start publisher moment old new line call said =
-    (at : ℕ) × (moment ≤ at) × (lease : Option LeaseOf)
-    × MatchBool (takes_calls lease at (shown_name old.name))
-    (AnswersCall start publisher moment old new line call said) (IsClosed old new line said)
+    (takes : Bool) × IsJudged moment (shown_name old.name) takes
+    × MatchBool takes (AnswersCall start publisher moment old new line call said) (IsClosed old new line said)
 
 -- the desk's lease changes as it is asked, and what is left of it is told, as of this moment or a later one
 abbrev pub TellsLease : (moment : ℕ) → (name : List ℕ) → LeaseAsk → (said : List ℕ) → Type 0

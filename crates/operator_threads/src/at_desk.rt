@@ -182,8 +182,7 @@ impl<'b, 'a, H: DeskBrand, R: Wait, F: Wake> LineDesk for AtDesk<'b, 'a, H, R, F
         let (operators, rt) = (self.operators, self.rt);
         // It is locked until the call is answered, so that none is accepted behind the answer that it has ended.
         let mut lease = operators.lease.lock(rt);
-        lease.look(moment);
-        let answer = if lease.takes_calls(self.shown_name()) {
+        let answer = if lease.takes_calls(moment, self.shown_name()) {
             self.give_call(alloc, moment, line, call, out)
         } else {
             self.refuse_call(alloc, line, out)

@@ -2,6 +2,7 @@
 
 ghost use Rattle.std.specs.Prelude.{◌≡◌, ◌++◌, None, OnOk, OnErr, IfOk};
 ghost use Rattle.operator_threads.specs.Lease.{
+  IsJudged,
   has_ended,
   is_holder,
   lease_after,
@@ -96,14 +97,24 @@ impl Lease {
         self.latest = moment.max(self.latest);
     }
 
-    /// Whether the desk takes the calls of a connection that is told by this name.
-    pub fn takes_calls(&self, name: &[u8]) -> bool
+    /// Whether the desk takes the calls of a connection that is told by this name, as of the latest look.
+    fn is_open_to(&self, name: &[u8]) -> bool
         ensures { result ≡ takes_calls self.now.held self.now.latest name.now }
     {
         match &self.held {
             None => true,
             Some(held) => !held.has_ended(self.latest) || held.is_holder(name),
         }
+    }
+
+    /// Whether the desk takes a call of this moment, in nanoseconds, of a connection that is told by this name.
+    pub fn takes_calls(&mut self, moment: u64, name: &[u8]) -> bool
+        ensures looked { self.new ≡ looked_at moment self.old }
+        ensures takes { result ≡ takes_calls self.new.held self.new.latest name.now }
+        ensures judged { IsJudged moment name.now result }
+    {
+        self.look(moment);
+        self.is_open_to(name)
     }
 
     /// What a connection that is told by this name asks. An `Err` changes nothing.
