@@ -38,12 +38,15 @@ async function gathered(peer) {
   return peer.localDescription.sdp;
 }
 
-// Restarts ICE (RFC 8445 section 9) by an offer of the page. Whether there is a way then.
+// Restarts ICE (RFC 8445 section 9) by an offer of the page. Whether there is a way then. The gateway has the offer before
+// the browser begins: what that sends then is answered by the new names alone. Else an answer to an old one makes a way
+// that ends at once, and the browser tries no other. The gateway learns candidates from what comes from there.
 async function restarted({ peer, base, id, ice }) {
   peer.setConfiguration({ iceServers: ice });
-  peer.restartIce();
+  const offer = await peer.createOffer({ iceRestart: true });
+  const { sdp } = await ask(base, "restart", { id, sdp: offer.sdp });
   try {
-    const { sdp } = await ask(base, "restart", { id, sdp: await gathered(peer) });
+    await peer.setLocalDescription(offer);
     await peer.setRemoteDescription({ type: "answer", sdp });
   } catch (why) {
     if (peer.signalingState === "have-local-offer") await peer.setLocalDescription({ type: "rollback" });

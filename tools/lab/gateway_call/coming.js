@@ -77,11 +77,15 @@ class Peer {
   }
 
   setConfiguration({ iceServers }) { this.servers = iceServers; }
-  restartIce() { this.restarts++; }
+
+  async createOffer({ iceRestart }) {
+    this.restarts += Number(iceRestart);
+    return { type: "offer", sdp: `offer ${this.restarts}` };
+  }
 
   async setLocalDescription(wanted = {}) {
     this.signalingState = wanted.type === "rollback" || this.isAsked ? "stable" : "have-local-offer";
-    this.localDescription = { sdp: this.isAsked ? "answer" : `offer ${this.restarts}` };
+    this.localDescription = { sdp: this.isAsked ? "answer" : wanted.sdp };
     if (this.isAsked) setTimeout(() => this.is("connected"), 10);
     this.isAsked = false;
     if (this.isWhole) this.onicecandidate({ candidate: null });
@@ -252,19 +256,24 @@ async function tryNetwork() {
   await until(() => page.current().hadWay);
   const { peer } = page.current(), isSame = () => page.current().peer === peer && isAt("7") && shows(MUTED);
   const isMended = count => isSame() && !page.current().isMending && peer.restarts === count;
-  const answers = (url, { sdp }) => url === "restart" ? [200, { sdp: `answer to ${sdp}` }] : takes("", 7)(url, {});
+  let isEarly = false;
+  const answers = (url, { sdp }) => {
+    if (url !== "restart") return takes("", 7)(url, {});
+    isEarly ||= peer.signalingState !== "stable";
+    return [200, { sdp: `answer to ${sdp}` }];
+  };
   said = answers;
   peer.is("disconnected");
   await check("its network changes: it restarts ICE, and goes on in its call", () => isMended(1));
   await check("by the TURN servers that it was told last", () => String(peer.servers) === "a new name");
+  await check("and by an offer that the gateway has before its browser begins", () => !isEarly);
   let tries = 0;
   said = (url, body) => url === "restart" && ++tries < 4 ? null : answers(url, body);
   peer.is("failed");
   await check("nobody answers at first: it tries until somebody does", () => isMended(5) && tries === 4);
   peer.isWhole = false;
   page.online();
-  await check("its browser is online again: it restarts ICE at once, with the candidates that there are",
-    () => isMended(6));
+  await check("its browser is online again: it restarts ICE at once, without candidates", () => isMended(6));
   said = (url, body) => url === "restart" ? [200, { sdp: "" }] : takes("", 7)(url, body);
   peer.is("disconnected");
   await check("no way is found: it says so, and tries on", () => peer.restarts > 7 && shows("broken. Coming back"));

@@ -80,8 +80,11 @@ class Network:
                 c.setns(here.fileno(), CLONE_NEWNET)
 
     def close(self):
-        for name in self.names["NAT"], self.names["OWN"]:
-            subprocess.run(["ip", "netns", "del", name], stderr=subprocess.DEVNULL, check=False)
+        """Ends it at once. A connection that a browser has left keeps a namespace for minutes, and with it a second way
+        to these addresses."""
+        ends = ["link", self.names["LINK"]], *(["netns", self.names[name]] for name in ("NAT", "OWN"))
+        for kind, name in ends:
+            subprocess.run(["ip", kind, "del", name], stderr=subprocess.DEVNULL, check=False)
 
 
 class Nat(Network):
