@@ -32,8 +32,8 @@ class Call:
         self.member = self.voice = self.camera = self.screen = self.refused = None
         # Whether it shows its screen, under the SSRC that is always there for one.
         self.shares = False
-        # Of a page with an invitation: whether that is a host's or a guest's.
-        self.role = None
+        # Of a page with an invitation: whether that is a host's or a guest's. And the name that ICE has for a page's way.
+        self.role = self.ufrag = None
         # The member that it is to be again, and the mix of that one: a page comes again by itself.
         self.again = None
         # Whether rtpengine has the call, and why it has ended. By what its table has it, and where the bridge sends.

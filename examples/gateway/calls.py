@@ -152,6 +152,7 @@ class Calls(PhoneCalls, Meeting, Mutes):
             found = sdp.demand(text, from_browser=True)
             call.voice, call.camera = [*(one.ssrc for one in found), None][:2]
             call.screen = found[-1].ssrc if len(found) == call.sections() else None
+            call.ufrag = found[0].ufrag()
             own = sdp.plain(NOWHERE, "UDP/TLS/RTP/SAVPF", found[0].transport())
             tags, label = {"from_tag": "bridge", "to_tag": "browser"}, json.dumps({"screen": call.screen})
             said = self.engine.ask("answer", call_id=call.id, **tags, sdp=own, flags=KNOWN, label=label)
@@ -160,8 +161,8 @@ class Calls(PhoneCalls, Meeting, Mutes):
         return own | self.way_back(call)
 
     def restart(self, call, text):
-        """Takes a browser's offer by which it restarts ICE (RFC 8445 section 9): its network has changed. It is the
-        member that it was, and at the desk nothing changes."""
+        """Takes a browser's further offer: by new names of ICE it restarts that (RFC 8445 section 9), since its network has
+        changed. Else it takes small pictures, or none. It is the member that it was, and at the desk nothing changes."""
         found = sdp.demand(text, from_browser=True)
         if call.member is None or len(found) != call.sections():
             raise Refused("You have another call than that. Press Join.", 409)
@@ -177,7 +178,9 @@ class Calls(PhoneCalls, Meeting, Mutes):
             said = self.engine.ask("answer", **tags, sdp=own, ICE="force", flags=KNOWN)
         except UnknownCall as why:
             raise Refused(str(why), 410, True) from None
-        log(f"browser {call.name!r} has another network")
+        if found[0].ufrag() != call.ufrag:
+            log(f"browser {call.name!r} has another network")
+        call.ufrag = found[0].ufrag()
         return {"sdp": sdp.bundled(said["sdp"], [call.mix, *call.slots], found)}
 
     def way_back(self, call):

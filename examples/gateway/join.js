@@ -57,7 +57,7 @@ async function join() {
     at("camera").disabled = !mine.own.getVideoTracks().length;
     label();
     measure(mine);
-    mine.timers = [setInterval(look, 1000), setInterval(draw, 200)];
+    mine.timers = [setInterval(look, 1000), setInterval(draw, 200), setInterval(() => lookAtLosses(mine), LOSES)];
     look();
   } catch (why) {
     if (call === mine) leave(why.message, true);
@@ -127,7 +127,8 @@ async function look() {
   const mine = call;
   if (mine.isComing || mine.isLooking) return;
   mine.isLooking = true;
-  const state = await ask(mine.base, "state", { id: mine.id }).catch(why => why);
+  const { loses } = mine, words = loses ? { id: mine.id, loses } : { id: mine.id };
+  const state = await ask(mine.base, "state", words).catch(why => why);
   mine.isLooking = false;
   if (call !== mine || mine.isComing) return;
   if (state instanceof Error) {
@@ -140,6 +141,8 @@ async function look() {
   const { names, pages, people, speech, view, ice } = state;
   Object.assign(mine, { names, silent: 0, pages, room: state.room ?? mine.room, people, speech, view, ice });
   mine.told.again = state.again;
+  if (loses) mine.loses = false;
+  if (view && !mine.loses) takeSmall(mine, view.small);
   if (state.cut && mine.pages.length && Date.now() > (mine.next || 0)) {
     mine.next = Date.now() + CUT;
     comeAgain(mine, new Error(state.trouble), 0);

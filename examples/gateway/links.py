@@ -38,14 +38,17 @@ class Link(typing.NamedTuple):
         one = self if is_bad == self.is_bad else self._replace(is_bad=is_bad, since=now)
         left, time = most if one.left is None else min(one.left, most), now - one.since
         if is_bad and time >= BAD and left > NONE:
-            was_too_much = one.tried is not None and now - one.tried < 2 * GOOD
-            wait = min(2 * one.wait, LONGEST) if was_too_much else one.wait
             fewer = 0 if share > MUCH else left // 2
-            return Link(fewer if left else NONE, True, now, wait)
+            return one.less(fewer if left else NONE, now)
         if not is_bad and one.left is not None and time >= one.wait:
             left = max(2 * left, left + 1)
             return Link(None if left >= most else left, False, now, one.wait, now)
         return one._replace(wait=GOOD) if not is_bad and time >= LONGEST else one
+
+    def less(self, left, now):
+        """The same with so many small pictures left, since more were too much."""
+        was_too_much = self.tried is not None and now - self.tried < 2 * GOOD
+        return Link(left, True, now, min(2 * self.wait, LONGEST) if was_too_much else self.wait)
 
 
 class Report(typing.NamedTuple):
@@ -74,7 +77,18 @@ class Links:
             before = self.links.get(member, Link(None, False, now))
             found[member] = before.after(shares.get(member, 0), most, now)
         self.links = found
-        return {member: link.left for member, link in found.items() if link.left is not None}
+        return self.left()
+
+    def left(self):
+        return {member: link.left for member, link in self.links.items() if link.left is not None}
+
+    def spare(self, member, rows, now):
+        """Ends all small pictures of a member at once. What was reported before counts no more."""
+        link = self.links.get(member)
+        if link is not None and link.left not in (0, NONE):
+            self.links[member] = link.less(0, now)
+            self.reports = {slot: kept for slot, kept in self.reports.items() if rows.slots.get(slot, ())[:1] != (member,)}
+        return self.left()
 
     def shares(self, lines, rows, now):
         """The share that members lose of their sound or of their pictures, whichever is more."""

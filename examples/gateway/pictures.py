@@ -91,7 +91,7 @@ class Pictures(threading.Thread):
         """Makes the next change of each room. Whether there was one."""
         stage, members = self.stage, self.stage.rows.members
         viewers = {call.member for call in self.calls if call.slots and call.member in members}
-        self.views = {one: (stage.pages.get(one, 0), stage.count(one), one in stage.left) for one in viewers}
+        self.views = {one: (stage.pages.get(one, 0), stage.count(one)) for one in viewers}
         if now < self.rest or self.is_over(stage.rows.version):
             return False
         rooms = {members[one] for one in viewers}
@@ -121,10 +121,17 @@ class Pictures(threading.Thread):
             self.wanted[call.member] = page
         return {}
 
+    def spare(self, call):
+        """Ends the small pictures of a page that says that it loses most of what comes of pictures."""
+        with self.calls.lock:
+            if self.stage.rows is not None:
+                self.stage.left = self.links.spare(call.member, self.stage.rows, time.monotonic())
+
     def told(self, call):
-        """What a page is told: which of its pages it has, of how many, and whether its way is weak. None where pictures
-        stay as they are."""
+        """What a page is told: which of its pages it has, of how many, whether its way is weak, and whether it gets small
+        pictures. None where pictures stay as they are."""
         if self.speaks is None or call.member not in self.views:
             return None
-        page, count, is_weak = self.views[call.member]
-        return {"page": min(self.wanted.get(call.member, page), count), "of": count, "weak": is_weak}
+        (page, count), left = self.views[call.member], self.stage.left.get(call.member)
+        page = min(self.wanted.get(call.member, page), count)
+        return {"page": page, "of": count, "weak": left is not None, "small": left is None or left > 0}

@@ -29,6 +29,10 @@ class Section:
         named = {type_: name.partition("/")[0].lower() for type_, name in maps}
         return [named.get(one, STATIC.get(one, "")) for one in self.types]
 
+    def ufrag(self):
+        """The name that ICE has for its way."""
+        return next((one for one in self.attributes if one.startswith("ice-ufrag:")), None)
+
     def transport(self):
         """What it says of ICE and DTLS, each line once."""
         return list(dict.fromkeys(one for one in self.attributes if one.startswith(TRANSPORT)))

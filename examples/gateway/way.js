@@ -10,9 +10,9 @@ function connected(mine) {
   const peer = new RTCPeerConnection({ iceServers: mine.ice });
   peer.ontrack = ({ track, streams: [stream], transceiver }) => {
     if (track.kind === "audio") { at("mix").srcObject = stream; return; }
-    const slot = transceiver.mid - 1;
-    const figure = slot ? at("own").cloneNode(true) : at("stage");
-    if (slot) { figure.id = "slot" + slot; at("pictures").append(figure); }
+    const id = transceiver.mid === "1" ? "stage" : "slot" + (transceiver.mid - 1);
+    const figure = at(id) || at("own").cloneNode(true);
+    if (!at(id)) { figure.id = id; at("pictures").append(figure); }
     figure.hidden = true;
     figure.querySelector("video").srcObject = stream;
   };
@@ -38,12 +38,11 @@ async function gathered(peer) {
   return peer.localDescription.sdp;
 }
 
-// Restarts ICE (RFC 8445 section 9) by an offer of the page. Whether there is a way then. The gateway has the offer before
-// the browser begins: what that sends then is answered by the new names alone. Else an answer to an old one makes a way
-// that ends at once, and the browser tries no other. The gateway learns candidates from what comes from there.
-async function restarted({ peer, base, id, ice }) {
-  peer.setConfiguration({ iceServers: ice });
-  const offer = await peer.createOffer({ iceRestart: true });
+// Agrees with the gateway on an offer of the page. The gateway has it before the browser begins: what that sends then is
+// answered by the new names of ICE alone. Else an answer to an old one makes a way that ends at once, and the browser
+// tries no other. The gateway learns candidates from what comes from there.
+async function agreed({ peer, base, id }, ways) {
+  const offer = await peer.createOffer(ways);
   const { sdp } = await ask(base, "restart", { id, sdp: offer.sdp });
   try {
     await peer.setLocalDescription(offer);
@@ -52,6 +51,13 @@ async function restarted({ peer, base, id, ice }) {
     if (peer.signalingState === "have-local-offer") await peer.setLocalDescription({ type: "rollback" });
     throw why;
   }
+}
+
+// Restarts ICE (RFC 8445 section 9). Whether there is a way then.
+async function restarted(mine) {
+  const { peer, ice } = mine;
+  peer.setConfiguration({ iceServers: ice });
+  await agreed(mine, { iceRestart: true });
   const end = Date.now() + COMES, isThere = () => peer.connectionState === "connected";
   while (!isThere() && Date.now() < end) await pause(100);
   return isThere();

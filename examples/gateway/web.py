@@ -16,7 +16,8 @@ from refused import FAILED, Refused
 
 FOLDER = pathlib.Path(__file__).parent
 FILES = {"/": ("join.html", "text/html")}
-FILES |= {f"/{name}": (name, "text/javascript") for name in ("devices.js", "join.js", "room.js", "screen.js", "way.js")}
+SCRIPTS = "devices.js", "join.js", "losses.js", "room.js", "screen.js", "way.js"
+FILES |= {f"/{name}": (name, "text/javascript") for name in SCRIPTS}
 # The page takes nothing from elsewhere, and no other page shows it in a frame. In a fleet it asks the other gateways.
 POLICY = "default-src 'self'; connect-src 'self' {}; style-src 'self' 'unsafe-inline'; frame-ancestors 'none'"
 
@@ -108,7 +109,7 @@ class ForBrowsers(Handler):
     REQUESTS = {
         "offer": [{"room": ROOM, "name": NAME}, {"again": AGAIN, "invitation": INVITATION}],
         "answer": [{"id": ID, "sdp": SDP}],
-        "state": [{"id": ID}],
+        "state": [{"id": ID}, {"loses": FLAG}],
         "restart": [{"id": ID, "sdp": SDP}],
         "mute": [{"id": ID, "muted": FLAG}],
         "screen": [{"id": ID, "shown": FLAG}],
@@ -144,7 +145,11 @@ class ForBrowsers(Handler):
             return self.calls.shares_screen(call, words["shown"])
         if path == "turn":
             return self.calls.pictures.turn(call, words["page"])
-        return self.watch.state(call) if path == "state" else self.calls.end(call, "It pressed Leave.")
+        if path == "state":
+            if words.get("loses"):
+                self.calls.pictures.spare(call)
+            return self.watch.state(call)
+        return self.calls.end(call, "It pressed Leave.")
 
     def offered(self, words):
         """The offer for a page. Where there is a key, who isn't a member already shows an invitation."""

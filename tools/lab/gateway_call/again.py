@@ -9,7 +9,7 @@ import time
 import urllib.error
 import urllib.request
 
-from lab.gateway_call.parts import AWAY, Parts, until
+from lab.gateway_call.parts import AWAY, LATE, Parts, until
 from lab.gateway_call.refusals import RawPhone, answer_of, offer_of
 from lab.gateway_call.trial import Trial, lacking
 from operators.shared import ROOT
@@ -21,12 +21,11 @@ ROOM, FIRST, PHONE = 7, 7000, 7900
 # A page's camera has an SSRC so much above its voice's.
 CAMERA = 500
 # The page's script beside gateways that it makes up, and how many checks that has.
-COMING, COMINGS = pathlib.Path(__file__).with_name("coming.js"), 40
+COMING, COMINGS = pathlib.Path(__file__).with_name("coming.js"), 44
 # The page's scripts, in the order in which it loads them.
-SCRIPTS = "devices.js", "room.js", "way.js", "screen.js", "join.js"
-# How often a page tries to come again, and how many seconds later than `away` a member may go.
+SCRIPTS = "devices.js", "room.js", "way.js", "losses.js", "screen.js", "join.js"
+# How often a page tries to come again.
 TRIES = 5
-LATE = 20
 # The SSRC of a page's screen, so much above its voice's.
 SCREEN = 50_000
 # How many small slots a page has, and what its offers say of ICE and DTLS beside a user fragment.

@@ -5,7 +5,6 @@ import socket
 import statistics
 import time
 
-from lab.gateway_call.again import LATE
 from lab.gateway_call.callers import RATE, PhoneCaller
 from lab.gateway_call.four import Four
 from lab.gateway_call.fronted import Fronted
@@ -15,7 +14,7 @@ from lab.gateway_call.lossy import Lossy
 from lab.gateway_call.moving import Moving
 from lab.gateway_call.naming import Naming
 from lab.gateway_call.others import Others
-from lab.gateway_call.parts import ACCOUNTS, AWAY, Parts, until
+from lab.gateway_call.parts import ACCOUNTS, AWAY, LATE, Parts, until
 from lab.gateway_call.reading import Reading
 from lab.gateway_call.recipes import Recipes
 from lab.gateway_call.refusals import Refusals

@@ -1,6 +1,7 @@
 // The gateway's page as node runs it: a browser and gateways that say what this file has them say. It shows who speaks
 // and who is muted, and asks for mutes and other pictures. A page whose call has lost its bridge, gateway or rtpengine
-// comes again by itself, and one whose network has changed restarts ICE. Time passes twenty times as fast.
+// comes again by itself, and one whose network has changed restarts ICE. One that loses most of its pictures does without
+// small ones. Time passes twenty times as fast.
 //
 //     node coming.js SCRIPT ..
 "use strict";
@@ -66,7 +67,9 @@ class Peer {
       setParameters: async ({ encodings: [one] }) => { this.encoding = one; },
     };
     const receiver = { getContributingSources: () => [] };
-    this.places = ["0", "1", "2"].map(mid => ({ mid, sender, receiver, direction: "recvonly" }));
+    this.places = ["0", "1", "2", "3"].map(mid => ({ mid, sender, receiver, direction: "recvonly" }));
+    // How many packets of pictures have come, and how many are lost.
+    Object.assign(this, { got: 0, lost: 0, comes: () => [10, 0] });
     this.isAnew = 0;
   }
 
@@ -79,7 +82,7 @@ class Peer {
   setConfiguration({ iceServers }) { this.servers = iceServers; }
 
   async createOffer({ iceRestart }) {
-    this.restarts += Number(iceRestart);
+    this.restarts += Number(Boolean(iceRestart));
     return { type: "offer", sdp: `offer ${this.restarts}` };
   }
 
@@ -100,6 +103,15 @@ class Peer {
 
   addTrack(track) {
     this.voice = { track, replaceTrack: async track => { this.voice.track = track; } };
+  }
+
+  // Each look finds more.
+  async getStats() {
+    const [got, lost] = this.comes(this.places[2].direction);
+    Object.assign(this, { got: this.got + got, lost: this.lost + lost });
+    const sound = { type: "inbound-rtp", kind: "audio", packetsReceived: 0, packetsLost: this.lost * 9 };
+    const picture = { type: "inbound-rtp", kind: "video", packetsReceived: this.got, packetsLost: this.lost };
+    return new Map([["sound", sound], ["picture", picture]]);
   }
 
   getSenders() { return [this.voice]; }
@@ -237,7 +249,7 @@ async function tryScreen() {
     shown && peer.screen === screens[0] && shows("You show your screen: at most 1920 x 1080 pixels, 5 frames"));
   const { scaleResolutionDownBy: scale, maxBitrate, maxFramerate } = peer.encoding;
   await check("it has a quarter of its pixels, and few bits and frames", () =>
-    scale === 2 && maxBitrate === 2e6 && maxFramerate === 5 && peer.places[2].direction === "sendonly");
+    scale === 2 && maxBitrate === 2e6 && maxFramerate === 5 && peer.places.at(-1).direction === "sendonly");
   peer.isAnew = 1;
   await check("its pictures are asked for anew all the time: it has half of that", () =>
     peer.encoding.maxBitrate === 1e6 && shows("at most 1358 x 764 pixels"));
@@ -249,6 +261,32 @@ async function tryScreen() {
   await check("it is shown once more", () => shown && screens.length === 2 && shows("You show your screen"));
   at("screen").onclick();
   await check("Stop sharing ends it", () => !shown && screens[1].isOver && !shows("your screen"));
+}
+
+// A page that loses most of its pictures does without the small ones, until the gateway gives some back.
+async function tryLosses() {
+  const { peer } = page.current(), small = () => peer.places[2].direction, restarts = peer.restarts;
+  let isSmall = true, told = 0, isEarly = false;
+  said = (url, body) => {
+    if (url === "restart") {
+      isEarly ||= peer.signalingState !== "stable";
+      return [200, { sdp: `answer to ${body.sdp}` }];
+    }
+    if (url === "state" && body.loses) { told++; isSmall = false; }
+    return takes("", 7, { view: { page: 0, of: 1, small: isSmall } })(url, body);
+  };
+  let looks = 0;
+  peer.comes = () => [1, ++looks === 2 ? 90 : 0];
+  await check("one short break takes no pictures", () => looks > 8 && !told && small() === "recvonly");
+  peer.comes = way => way === "inactive" ? [0, 0] : [5, 6];
+  await check("it loses most of its pictures: it tells so, once, and takes no small ones",
+    () => told === 1 && small() === "inactive" && peer.places[1].direction === "recvonly");
+  peer.comes = () => [20, 10];
+  await check("by an offer that the gateway has first, under the same names of ICE",
+    () => !isEarly && peer.restarts === restarts && peer.signalingState === "stable");
+  isSmall = true;
+  await check("the gateway gives some back: it takes them", () => small() === "recvonly" && told === 1);
+  said = takes("", 7);
 }
 
 // A page whose network changes: its call is the same one.
@@ -306,6 +344,7 @@ async function tryTooLate() {
   await tryScreen();
   said = takes("", 7);
   await check("and all is as before", () => isAt("7") && shows(MUTED));
+  await tryLosses();
   await tryNetwork();
   let tries = 0;
   const again = takes("", 8);

@@ -16,7 +16,7 @@ ROOM, ROUNDS, SECONDS, SETTLES = 4, 2, 15, 6
 LOSSES = (0.0, 0.8, 1000), (0.01, 0.7, 1500), (0.03, 0.5, 3000)
 # What a narrow way takes, in bits a second: sound, and no picture beside it. How soon the sound is whole there, in
 # seconds; for how many of them it is looked at then, and how much of it may be missing in these.
-NARROW, WHOLE, HEARS, MISSING = 150_000, 20, 6, 0.02
+NARROW, WHOLE, HEARS, MISSING = 150_000, 5, 6, 0.02
 
 
 class Four(Following):

@@ -115,6 +115,27 @@ def try_pictures(check):
         check(said == wanted, f"a way that loses pictures: {text}", said)
 
 
+def try_spared(check):
+    """The same where a page says at once that it loses most of its pictures."""
+    way = Way()
+    way.left(5)
+    spared = way.links.spare(7, way.rows, way.at)
+    check(spared == {7: 0}, "who says that it loses most pictures has no small ones any more", spared)
+    way.links.spare(7, way.rows, way.at)
+    for text, seconds, wanted in (
+        ("good then: one comes back after ten seconds", 12, [0] * 10 + [1] * 2),
+        ("good on", 6, [1] * 6),
+    ):
+        said = way.left(seconds)
+        check(said == wanted, f"a page that says so: {text}", said)
+    said = way.links.spare(7, way.rows, way.at)
+    check(said == {7: 0}, "it says so again soon: it has none again", said)
+    said = way.left(22)
+    check(said == [0] * 20 + [1] * 2, "that was too much: one comes back after twice as long", said)
+    way.links.spare(8, way.rows, way.at)
+    check(8 not in way.links.left(), "who is no member has no pictures to end")
+
+
 # A lane at `stats`.
 LANE = "lane {} items 5012 dropped {} packets 4010 octets 520112 waited 0 not-ready 0 denied 0 refused 7"
 

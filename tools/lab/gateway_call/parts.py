@@ -28,6 +28,8 @@ MOST = 300
 SILENCE = 10
 # For how many seconds a member stays whose call may come again: a machine that is busy may take its time for that.
 AWAY = 90
+# How many seconds later it may go.
+LATE = 20
 # A web server before the page, whose word on who asks counts, and a proxy before Kamailio.
 PROXY = "127.0.0.9"
 # Where media may go: a test's callers are on this machine, or behind a NAT of it.

@@ -7,7 +7,7 @@ import signal
 import time
 
 from lab.gateway_call.bodies import are_refused
-from lab.gateway_call.parts import Parts, until
+from lab.gateway_call.parts import AWAY, LATE, Parts, until
 from lab.gateway_call.trial import Trial
 from operators.packets import rtp
 from operators.serving import Answering, udp_socket
@@ -257,4 +257,4 @@ class Refusals(Trial):
         self.check(self.parts.calls() == 0, "and rtpengine has no call")
         self.restart_bridge()
         self.check(until(lambda: self.joins()[0] == 200, 60) is not None, "once it is back, one joins")
-        self.check(until(lambda: not self.rows(), 15) is not None, "and is no member once nothing comes", self.rows())
+        self.comes(lambda: not self.rows(), "and is no member once nothing comes", self.rows, AWAY + LATE)

@@ -47,12 +47,11 @@ class Sharing(Trial):
     def frames_are_small(self, a, b, ssrc):
         """Whether frames of a screen that is hard to code pass, at few pixels."""
         a.run("noisy = true")
-        slot = lambda: b.shows_now().index("F") if "F" in b.shows_now() else None
-        self.comes(lambda: slot() is not None, "a screen of noise comes", b.says, 20)
+        self.comes(lambda: "F" in b.shows_now(), "a screen of noise comes", b.says, 20)
         time.sleep(5)
         counted = lambda: next(line.split() for line in self.operator.shown("stats") if f" {ssrc} packets" in line)
         value = lambda line, word: int(line[line.index(word) + 1])
-        mid = str((slot() or 0) + 1)
+        mid = self.section_of(b, ssrc)
         before, seen = counted(), b.counts("inbound-rtp", mid).get("framesDecoded", 0)
         time.sleep(SECONDS)
         after, picture = counted(), b.counts("inbound-rtp", mid)
@@ -62,10 +61,19 @@ class Sharing(Trial):
         each = packets / max(1, frames)
         text = f"{frames} frames of {each:.0f} packets each pass in {SECONDS} s, {given_up} given up, {decoded} decoded"
         self.check(frames and decoded > frames / 2 and each < PACKETS, text, (before, after))
+        told = ", ".join(f"{rise(word)} {word}" for word in ("late", "duplicate", "jump"))
+        print(f"      of {packets} packets {told}")
         pixels = picture.get("frameWidth", 0) * picture.get("frameHeight", 0)
         self.check(0 < pixels <= MOST, f"it has {pixels} pixels", picture)
         print(f"      {a.says()}")
         a.run("noisy = false")
+
+    def section_of(self, one, ssrc):
+        """The m-section by which a browser gets a picture, by the desk's rows."""
+        rows, member = [row.split() for row in self.rows()], str(one.joined["member"])
+        slots = [row[1] for row in rows if row[0] == "sub" and row[2] == str(ssrc)]
+        own = [row for row in rows if row[0] == "slot" and row[1] in slots and row[2] == member]
+        return str(int(own[0][3]) + 1) if own else None
 
     def step_devices(self):
         """A takes another camera and another microphone in its call, which goes on."""

@@ -129,6 +129,7 @@ class Staging(Trial):
         """The rules by themselves."""
         hearing.try_speech(self.check)
         hearing.try_links(self.check)
+        hearing.try_spared(self.check)
         hearing.try_overload(self.check)
         rule.try_all(self.check)
 
