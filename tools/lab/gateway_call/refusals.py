@@ -7,11 +7,14 @@ import signal
 import time
 
 from lab.gateway_call.bodies import are_refused
-from lab.gateway_call.parts import AWAY, LATE, Parts, until
+from lab.gateway_call.parts import Parts, until
 from lab.gateway_call.trial import Trial
 from operators.packets import rtp
 from operators.serving import Answering, udp_socket
 from operators.shared import fail
+
+# After how many seconds without a packet a browser has gone, at an agent of a test.
+SOON = 6
 
 
 def offer_of(media):
@@ -248,13 +251,18 @@ class Refusals(Trial):
         self.parts.start("rtpengine")
 
     def try_without_bridge(self):
+        """By an agent of its own, at which members stay for some seconds without a packet."""
+        parts = Parts(self.folder, self.udp, self.tcp, self.parts.control, first_member=520_000, away=SOON)
+        self.others.append(parts)
+        parts.start("agent")
         self.bridge.kill()
         self.bridge.wait()
-        status, words = self.joins()
+        status, words = self.joins(parts)
         print(f"      {status}: {words}")
         good = status == 503 and "The bridge doesn't answer" in words
         self.check(good, "a bridge that is gone is told in words", words)
         self.check(self.parts.calls() == 0, "and rtpengine has no call")
         self.restart_bridge()
-        self.check(until(lambda: self.joins()[0] == 200, 60) is not None, "once it is back, one joins")
-        self.comes(lambda: not self.rows(), "and is no member once nothing comes", self.rows, AWAY + LATE)
+        self.check(until(lambda: self.joins(parts)[0] == 200, 60) is not None, "once it is back, one joins")
+        self.comes(lambda: not self.rows(), "and is no member once nothing comes", self.rows, 3 * SOON)
+        parts.stop("agent")

@@ -243,7 +243,7 @@ class Staging(Trial):
         for page, text in (1, "the first part"), (2, "the second"), (3, "the last"):
             self.check(parts.ask("turn", id=one.id, page=page)[0] == 200, f"a page turns to {text}")
             view = lambda: one.state()[1]["view"]
-            wanted = {"page": page, "of": 3, "weak": False}
+            wanted = {"page": page, "of": 3, "weak": False, "small": True}
             self.comes(lambda: view() == wanted, "and is told so", view, 5)
             time.sleep(1.5)
             front.speaking = {pages[page].ssrc}
