@@ -21,7 +21,7 @@ ROOM, FIRST, PHONE = 7, 7000, 7900
 # A page's camera has an SSRC so much above its voice's.
 CAMERA = 500
 # The page's script beside gateways that it makes up, and how many checks that has.
-COMING, COMINGS = pathlib.Path(__file__).with_name("coming.js"), 44
+COMING, COMINGS = pathlib.Path(__file__).with_name("coming.js"), 45
 # The page's scripts, in the order in which it loads them.
 SCRIPTS = "devices.js", "room.js", "way.js", "losses.js", "screen.js", "join.js"
 # How often a page tries to come again.

@@ -1,7 +1,7 @@
 // The gateway's page as node runs it: a browser and gateways that say what this file has them say. It shows who speaks
 // and who is muted, and asks for mutes and other pictures. A page whose call has lost its bridge, gateway or rtpengine
-// comes again by itself, and one whose network has changed restarts ICE. One that loses most of its pictures does without
-// small ones. Time passes twenty times as fast.
+// comes again by itself, and one whose network has changed restarts ICE. One that loses most of its pictures does
+// without small ones. Time passes twenty times as fast.
 //
 //     node coming.js SCRIPT ..
 "use strict";
@@ -68,8 +68,8 @@ class Peer {
     };
     const receiver = { getContributingSources: () => [] };
     this.places = ["0", "1", "2", "3"].map(mid => ({ mid, sender, receiver, direction: "recvonly" }));
-    // How many packets of pictures have come, and how many are lost.
-    Object.assign(this, { got: 0, lost: 0, comes: () => [10, 0] });
+    // How many packets of pictures have come, how many are lost, and how many of sound.
+    Object.assign(this, { got: 0, lost: 0, deaf: 0, comes: () => [10, 0, 0] });
     this.isAnew = 0;
   }
 
@@ -107,9 +107,9 @@ class Peer {
 
   // Each look finds more.
   async getStats() {
-    const [got, lost] = this.comes(this.places[2].direction);
-    Object.assign(this, { got: this.got + got, lost: this.lost + lost });
-    const sound = { type: "inbound-rtp", kind: "audio", packetsReceived: 0, packetsLost: this.lost * 9 };
+    const [got, lost, deaf] = this.comes(this.places[2].direction);
+    Object.assign(this, { got: this.got + got, lost: this.lost + lost, deaf: this.deaf + deaf });
+    const sound = { type: "inbound-rtp", kind: "audio", packetsReceived: 0, packetsLost: this.deaf };
     const picture = { type: "inbound-rtp", kind: "video", packetsReceived: this.got, packetsLost: this.lost };
     return new Map([["sound", sound], ["picture", picture]]);
   }
@@ -276,12 +276,15 @@ async function tryLosses() {
     return takes("", 7, { view: { page: 0, of: 1, small: isSmall } })(url, body);
   };
   let looks = 0;
-  peer.comes = () => [1, ++looks === 2 ? 90 : 0];
+  peer.comes = () => [1, ++looks === 2 ? 90 : 0, 9];
   await check("one short break takes no pictures", () => looks > 8 && !told && small() === "recvonly");
-  peer.comes = way => way === "inactive" ? [0, 0] : [5, 6];
-  await check("it loses most of its pictures: it tells so, once, and takes no small ones",
+  looks = 0;
+  peer.comes = () => [5, 6, ++looks < 0];
+  await check("nor do losses of pictures alone", () => looks > 8 && !told && small() === "recvonly");
+  peer.comes = way => way === "inactive" ? [0, 0, 0] : [5, 6, 1];
+  await check("it loses most of its pictures and some sound: it tells so, once, and takes no small ones",
     () => told === 1 && small() === "inactive" && peer.places[1].direction === "recvonly");
-  peer.comes = () => [20, 10];
+  peer.comes = () => [20, 10, 1];
   await check("by an offer that the gateway has first, under the same names of ICE",
     () => !isEarly && peer.restarts === restarts && peer.signalingState === "stable");
   isSmall = true;

@@ -73,11 +73,13 @@ class Four(Following):
         print(f"      before: {self.lost(before, self.mix_of(one)):.1%} of the sound is missing")
         lossy.narrow[self.port_of(one)] = Narrow(NARROW)
         before, begun, sent = self.mix_of(one), time.monotonic(), lambda: self.small([one])
+        resent = self.resent(one)
         took = self.comes(lambda: not sent(), f"{NARROW // 1000} kbit/s: no picture is sent", sent, 30)
         self.comes(lambda: "loses packets" in one.says(), "and the page says why", one.says)
-        self.comes(lambda: self.is_whole(one), "its sound is whole again", lambda: self.mix_of(one), WHOLE)
+        self.comes(lambda: self.sounds_whole(one), "its sound is whole again", lambda: self.mix_of(one), WHOLE)
         passed, first = time.monotonic() - begun, self.lost(before, self.mix_of(one))
         print(f"      after {took or 0:.1f} s; of the sound of {passed:.0f} s {first:.1%} is missing")
+        print(f"      {self.resent(one) - resent} packets of pictures were sent again")
         before = self.mix_of(one)
         time.sleep(HEARS)
         lost = self.lost(before, self.mix_of(one))
@@ -90,7 +92,7 @@ class Four(Following):
         print(f"      after {back or 0:.1f} s")
         self.close_fourth(parts)
 
-    def is_whole(self, one):
+    def sounds_whole(self, one):
         """Whether all of its sound comes for two seconds. What was lost of pictures is still asked for after these."""
         before = self.mix_of(one)
         time.sleep(2)
@@ -101,6 +103,13 @@ class Four(Following):
         member = str(one.joined["member"])
         address = next(row.split()[4] for row in self.rows() if row.startswith("member ") and row.split()[2] == member)
         return int(address.rpartition(":")[2])
+
+    def resent(self, one):
+        """How many packets of pictures the bridge has sent to a browser again."""
+        slots = [row.split() for row in self.rows() if row.startswith("slot ")]
+        own = {row[1] for row in slots if row[2] == str(one.joined["member"])}
+        lines = [line.split() for line in self.operator.shown("stats") if line.startswith("stream ")]
+        return sum(int(words[words.index("resent") + 1]) for words in lines if words[1] in own)
 
     def mix_of(self, one):
         """What a browser has got of its mix, and lost."""
