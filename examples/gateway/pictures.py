@@ -126,6 +126,7 @@ class Pictures(threading.Thread):
         with self.calls.lock:
             if self.stage.rows is not None:
                 self.stage.left = self.links.spare(call.member, self.stage.rows, time.monotonic())
+                log(f"browser {call.name!r} loses most of its pictures: it gets no small ones for a while")
 
     def told(self, call):
         """What a page is told: which of its pages it has, of how many, whether its way is weak, and whether it gets small

@@ -29,6 +29,8 @@ class Watch:
 
     def run(self):
         """Looks at all calls each second, and more often at phones whose sound hasn't come yet."""
+        # Its first look is said in any case.
+        said = None
         for turn in itertools.count():
             time.sleep(0.2)
             try:
@@ -41,9 +43,9 @@ class Watch:
                 trouble = words_of(why)
                 if trouble == FAILED != self.trouble:
                     traceback.print_exc()
-            if trouble != self.trouble:
+            if trouble != said:
                 log(trouble or "All is well again.")
-            self.trouble = trouble
+            self.trouble = said = trouble
 
     def look_at_phones(self):
         """Sees whence phones send, and learns the SSRCs that they don't say. Where rtpengine doesn't answer, the next
