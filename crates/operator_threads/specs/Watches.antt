@@ -53,7 +53,7 @@ pub record IsClosed (old new : SittingOf) (line said : List ℕ) : Type 0 where
   pub text : said ≡ closed_line version
   pub noted : new ≡ record old { trouble = Some (record { line = line; wrong = Closed }) }
 
--- the desk's lease says whether it takes the call: then that is answered, and else refused
+-- some lease says whether the desk takes the call: then that is answered, and else refused
 abbrev pub SeatCalls :
     Desk → Book → (moment : ℕ) → (old new : SittingOf) → (line : List ℕ) → CallOf → (said : List ℕ) → Type 0
 SeatCalls start publisher moment old new line call said =
