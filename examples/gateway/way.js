@@ -20,6 +20,7 @@ function connected(mine) {
     if (mine !== call || mine.peer !== peer || mine.isComing) return;
     const { connectionState: state } = peer;
     if (state === "connected") mine.hadWay = true;
+    sends(mine);
     if (mine.hadWay && (state === "disconnected" || state === "failed")) mend(mine);
     else if (state === "failed") closes();
   };
@@ -27,6 +28,24 @@ function connected(mine) {
   const closes = () => leave("The way to the media server is closed. Is a firewall between?", true);
   pause(OPENS).then(() => { if (mine === call && mine.peer === peer && !mine.hadWay) closes(); });
   return peer;
+}
+
+// Has the browser send while there is a way, and nothing else. It would keep all sound that it makes meanwhile, and send
+// that at once when the way is back: of a port that gets more than rtpengine reads in time, that never reads again.
+async function sends(mine) {
+  if (mine.isSwitching) return;
+  mine.isSwitching = true;
+  const { peer } = mine, isDue = ({ active }) => active !== (peer.connectionState === "connected");
+  const due = () => peer.getSenders().filter(one => one.getParameters().encodings.some(isDue));
+  while (mine.peer === peer && peer.signalingState !== "closed" && due().length) {
+    for (const one of due()) {
+      const words = one.getParameters();
+      for (const encoding of words.encodings) encoding.active = peer.connectionState === "connected";
+      // Something else may have set them meanwhile.
+      await one.setParameters(words).catch(() => pause(100));
+    }
+  }
+  mine.isSwitching = false;
 }
 
 // The own description, once its candidates are gathered. Those that are late aren't in it: rtpengine learns them from

@@ -2,6 +2,7 @@
 
 import socket
 import subprocess
+import time
 
 from lab.gateway_call.parts import Parts
 from lab.gateway_call.trial import Trial, lacking
@@ -9,6 +10,8 @@ from operators.serving import free_port
 
 # The secret of the agent and of the server, and one that the server doesn't have.
 SECRET, WRONG = "a secret of a test", "a secret of nobody"
+# For how many seconds the server is down in mid-call: then a browser has made more sound than rtpengine reads at once.
+DOWN = 6
 CURVE = "-newkey", "ec", "-pkeyopt", "ec_paramgen_curve:prime256v1"
 # A page that may use relays alone.
 RELAYED = """RTCPeerConnection = class extends RTCPeerConnection {
@@ -21,6 +24,11 @@ PAIR = """call.peer.getStats().then(all => {
   const pair = transport && all.get(transport.selectedCandidatePairId), own = pair && all.get(pair.localCandidateId);
   return own ? [own.candidateType, own.relayProtocol] : null;
 })"""
+
+
+# For how many seconds packets have waited in the page, all together, until it sent them.
+WAITED = """call.peer.getStats().then(all => [...all.values()].filter(one => one.type === "outbound-rtp")
+  .reduce((sum, one) => sum + one.totalPacketSendDelay, 0))"""
 
 
 class Turning(Trial):
@@ -74,6 +82,7 @@ class Turning(Trial):
         server.kill()
         server.wait()
         self.comes(lambda: "Coming back" in one.says(), "coturn is killed: the page says so", one.says, 30)
+        time.sleep(DOWN)
         self.coturn(port)
         came = parts.engine.received(one.run("call.id"), "browser").packets
         more = lambda: parts.engine.received(one.run("call.id"), "browser").packets > came + 20
@@ -81,6 +90,8 @@ class Turning(Trial):
         print(f"      after {took or 0:.1f} s")
         good = one.run("call.id") == id and one.run(PAIR) == ["relay", "tls"]
         self.check(good, "in the same call", (id, one.run(PAIR), one.says()))
+        waited = one.run(WAITED)
+        self.check(waited < 1, "and nothing that it made meanwhile, of which much would come at once", waited)
 
     def relayed(self, first_member, secret):
         """A gateway with this secret, and a page of it that may use relays alone."""
