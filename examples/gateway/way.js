@@ -35,15 +35,13 @@ function connected(mine) {
 async function sends(mine) {
   if (mine.isSwitching) return;
   mine.isSwitching = true;
-  const { peer } = mine, isDue = ({ active }) => active !== (peer.connectionState === "connected");
-  const due = () => peer.getSenders().filter(one => one.getParameters().encodings.some(isDue));
-  while (mine.peer === peer && peer.signalingState !== "closed" && due().length) {
-    for (const one of due()) {
-      const words = one.getParameters();
-      for (const encoding of words.encodings) encoding.active = peer.connectionState === "connected";
-      // Something else may have set them meanwhile.
-      await one.setParameters(words).catch(() => pause(100));
-    }
+  const isDue = ({ active }) => active !== (mine.peer.connectionState === "connected");
+  const due = () => mine.peer.getSenders().find(one => one.getParameters().encodings.some(isDue));
+  for (let one = due(); one && mine === call; one = due()) {
+    const words = one.getParameters();
+    for (const encoding of words.encodings) encoding.active = mine.peer.connectionState === "connected";
+    // Something else may set them at the same time.
+    await one.setParameters(words).catch(() => pause(100));
   }
   mine.isSwitching = false;
 }

@@ -11,7 +11,7 @@ import urllib.request
 
 from lab.gateway_call.parts import AWAY, LATE, Parts, until
 from lab.gateway_call.refusals import RawPhone, answer_of, offer_of
-from lab.gateway_call.trial import Trial, lacking
+from lab.gateway_call.trial import Trial
 from operators.shared import ROOT
 
 import sdp
@@ -21,7 +21,7 @@ ROOM, FIRST, PHONE = 7, 7000, 7900
 # A page's camera has an SSRC so much above its voice's.
 CAMERA = 500
 # The page's script beside gateways that it makes up, and how many checks that has.
-COMING, COMINGS = pathlib.Path(__file__).with_name("coming.js"), 45
+COMING, COMINGS = pathlib.Path(__file__).with_name("coming.js"), 47
 # The page's scripts, in the order in which it loads them.
 SCRIPTS = "devices.js", "room.js", "way.js", "losses.js", "screen.js", "join.js"
 # How often a page tries to come again.
@@ -145,9 +145,6 @@ class Again(Trial):
 
     def try_page_script(self):
         """The page by itself, beside gateways that aren't there."""
-        if lacking("node"):
-            print(f"skipped: the page's script ({lacking('node')})")
-            return
         words = ["node", COMING, *(ROOT / "examples/gateway" / one for one in SCRIPTS)]
         said = subprocess.run(words, capture_output=True, text=True, timeout=170, check=False)
         for line in said.stdout.splitlines():

@@ -1,12 +1,12 @@
 // The gateway's page as node runs it: a browser and gateways that say what this file has them say. It shows who speaks
 // and who is muted, and asks for mutes and other pictures. A page whose call has lost its bridge, gateway or rtpengine
 // comes again by itself, and one whose network has changed restarts ICE. One that loses most of its pictures does
-// without small ones. Time passes twenty times as fast.
+// without small ones. Time passes six times as fast.
 //
 //     node coming.js SCRIPT ..
 "use strict";
 const fs = require("fs"), vm = require("vm");
-const FASTER = 20, SCREEN = 77, elements = {}, asked = [];
+const FASTER = 6, SCREEN = 77, elements = {}, asked = [];
 let said = () => null, peers = 0;
 
 const classes = () => {
@@ -59,8 +59,8 @@ async function getDisplayMedia() {
 class Peer {
   constructor({ iceServers }) {
     Object.assign(this, { servers: iceServers, number: ++peers, signalingState: "stable", restarts: 0, isWhole: true });
-    Object.assign(this, { encoding: {}, asksAnew: 0 });
-    const sender = {
+    Object.assign(this, { encoding: { active: true }, asksAnew: 0, refusals: 0 });
+    const sender = this.sender = {
       replaceTrack: async track => { this.screen = track; },
       getStats: async () => new Map([["own", { type: "outbound-rtp", pliCount: this.asksAnew++ * this.isAnew }]]),
       getParameters: () => ({ encodings: [{ ...this.encoding }] }),
@@ -101,8 +101,16 @@ class Peer {
     if (sdp === `answer to offer ${this.restarts}`) this.is("connected");
   }
 
+  // Some settings of the voice are refused.
   addTrack(track) {
-    this.voice = { track, replaceTrack: async track => { this.voice.track = track; } };
+    const voice = this.voice = {
+      track, active: true, replaceTrack: async track => { voice.track = track; },
+      getParameters: () => ({ encodings: [{ active: voice.active }] }),
+      setParameters: async ({ encodings: [{ active }] }) => {
+        if (this.refusals-- > 0) throw new Error("InvalidModificationError");
+        voice.active = active;
+      },
+    };
   }
 
   // Each look finds more.
@@ -114,7 +122,7 @@ class Peer {
     return new Map([["sound", sound], ["picture", picture]]);
   }
 
-  getSenders() { return [this.voice]; }
+  getSenders() { return [this.voice, this.sender]; }
   getTransceivers() { return this.places; }
   close() { asked.push(`close ${this.number}`); }
 }
@@ -308,9 +316,13 @@ async function tryNetwork() {
   await check("its network changes: it restarts ICE, and goes on in its call", () => isMended(1));
   await check("by the TURN servers that it was told last", () => String(peer.servers) === "a new name");
   await check("and by an offer that the gateway has before its browser begins", () => !isEarly);
+  const sends = () => [peer.voice.active, peer.encoding.active].filter(Boolean).length;
+  await check("it sends then", () => sends() === 2);
   let tries = 0;
   said = (url, body) => url === "restart" && ++tries < 4 ? null : answers(url, body);
+  peer.refusals = 2;
   peer.is("failed");
+  await check("while its way is closed it sends nothing", () => sends() === 0);
   await check("nobody answers at first: it tries until somebody does", () => isMended(5) && tries === 4);
   peer.isWhole = false;
   page.online();

@@ -1,6 +1,7 @@
 """Four browsers whose pictures have numbers: who sees whom, how soon a new picture comes, and what is seen where
 packets are lost, or where one's way is narrow."""
 
+import contextlib
 import statistics
 import time
 
@@ -26,10 +27,11 @@ class Four(Following):
         """Each of the four sees one other at a time, and each speaks: all others see it."""
         self.step_speakers(ROUNDS)
 
-    def step_numbers(self):
-        """All four see each other, over a network that loses packets."""
+    @contextlib.contextmanager
+    def over_network(self, first_member):
+        """All four are in a room over another network, and then in the one of all."""
         lossy = Lossy(self.udp, self.tcp, 0.0)
-        parts = Parts(self.folder, lossy.udp, lossy.tcp, self.parts.control, first_member=600_000)
+        parts = Parts(self.folder, lossy.udp, lossy.tcp, self.parts.control, first_member=first_member)
         self.others.append(parts)
         parts.start("agent")
         for one in self.browsers():
@@ -38,13 +40,18 @@ class Four(Following):
             one.join()
         for one in self.browsers():
             self.sees(one, "over another network")
-        for share, least, most in LOSSES:
-            lossy.share = share
-            time.sleep(SETTLES)
-            self.flows(f"{share:.0%} lost both ways", least, most)
-        lossy.share = 0.0
-        print(f"      {lossy.count}")
-        self.over_lossy = lossy, parts
+        yield lossy
+        self.come_home(self.browsers(), parts)
+
+    def step_numbers(self):
+        """All four see each other, over a network that loses packets."""
+        with self.over_network(600_000) as lossy:
+            for share, least, most in LOSSES:
+                lossy.share = share
+                time.sleep(SETTLES)
+                self.flows(f"{share:.0%} lost both ways", least, most)
+            lossy.share = 0.0
+            print(f"      {lossy.count}")
 
     def flows(self, text, least, most):
         """What comes to each of each other in some seconds."""
@@ -65,9 +72,13 @@ class Four(Following):
         print(f"      {text}; none for {statistics.median(longest):.0f} ms at the median")
 
     def step_narrow(self):
-        """One whose way is narrow loses pictures, and keeps its sound."""
-        lossy, parts = self.over_lossy
-        one = self.browsers()[0]
+        """One whose way is narrow loses pictures, and keeps its sound. Then the fourth one goes."""
+        with self.over_network(650_000) as lossy:
+            self.narrows(lossy, self.browsers()[0])
+        self.callers.pop("F").close()
+
+    def narrows(self, lossy, one):
+        """The way to one gets narrow, and wide again."""
         before = self.mix_of(one)
         time.sleep(HEARS)
         print(f"      before: {self.lost(before, self.mix_of(one)):.1%} of the sound is missing")
@@ -90,7 +101,6 @@ class Four(Following):
         back = until(lambda: len(one.shows_now().strip("-")) == 3, 100)
         self.check(back is not None, "the way is wide again: all pictures come back", (one.shows_now(), self.rows()))
         print(f"      after {back or 0:.1f} s")
-        self.close_fourth(parts)
 
     def sounds_whole(self, one):
         """Whether all of its sound comes for two seconds. What was lost of pictures is still asked for after these."""
@@ -120,8 +130,3 @@ class Four(Following):
         """The share of its sound that is missing."""
         got, lost = (new - old for new, old in zip(after, before))
         return max(0, lost) / max(1, got + lost)
-
-    def close_fourth(self, parts):
-        """The fourth one goes, and the others join the room of all again."""
-        self.callers.pop("F").close()
-        self.come_home(self.browsers(), parts)

@@ -15,9 +15,6 @@ class Moving(Again):
 
     def step_network_joins(self):
         """B is in a network of its own, and A isn't."""
-        if natted.lacks("ip"):
-            print(f"skipped: a browser whose network changes ({natted.lacks('ip')})")
-            return
         self.close_callers()
         self.comes(lambda: not self.rows(), "the call before is over", self.rows, 120)
         link = natted.Link()
@@ -34,8 +31,6 @@ class Moving(Again):
 
     def step_network(self):
         """What operators made of B stays with it."""
-        if not hasattr(self, "moved"):
-            return
         parts, link, a, b = self.moved
         voice, camera, member = (b.joined[one] for one in ("voice", "camera", "member"))
         more = f"give-floor 1 {member} / set-gain {a.joined['member']} {voice} 128 / mute {camera}"

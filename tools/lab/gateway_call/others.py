@@ -13,10 +13,6 @@ class Others(Holding):
 
     def step_firefox(self):
         """Firefox joins, is heard and seen by all, and leaves."""
-        missing = lacking("firefox-esr", "pulseaudio")
-        if missing:
-            print(f"skipped: Firefox ({missing})")
-            return
         a = self.callers["A"]
         f = self.callers["F"] = FirefoxCaller("F", "firefox-esr", self.folder)
         f.at_page(self.parts.page)
@@ -40,10 +36,6 @@ class Others(Holding):
 
     def step_linphone(self):
         """Linphone joins, is heard by all and hears them, and hangs up."""
-        missing = lacking("linphonec") or (kamailio_lacks() and "there is no Kamailio")
-        if missing:
-            print(f"skipped: Linphone ({missing})")
-            return
         before = self.members()
         self.rings("L", LinphoneCaller)
         self.everyone_hears("Linphone joins", show=True)
@@ -57,9 +49,6 @@ class Others(Holding):
 
     def step_nat(self):
         """Who is behind a NAT joins, and hears and is seen by who isn't. What they did before is over."""
-        if natted.lacks("ip", "iptables"):
-            print(f"skipped: callers behind a NAT ({natted.lacks('ip', 'iptables')})")
-            return
         for name in [*self.callers]:
             if name != "A":
                 self.callers.pop(name).close()

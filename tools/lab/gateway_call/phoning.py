@@ -7,7 +7,7 @@ from lab.gateway_call.parts import NAME, NAMED, REMOVED, SILENCE, Parts, until
 from lab.gateway_call.refusals import answer_of, port_in
 from lab.gateway_call.sipps import Sipp, sdp
 from lab.gateway_call.sounds import Sound
-from lab.gateway_call.trial import Trial, lacking
+from lab.gateway_call.trial import Trial
 from operators.models.desk import MOST_PARTS
 from operators.shared import fail
 
@@ -211,9 +211,6 @@ class Phoning(Trial):
 
     def try_codecs(self):
         """Phones without PCMU: rtpengine makes that of what they send, and the other way."""
-        if lacking("ffmpeg"):
-            print(f"skipped: phones without PCMU ({lacking('ffmpeg')})")
-            return
         other = self.sound(4040, hertz=700)
         two = self.ringing(self.sipp(other, user="other").waits(100), other)
         self.is_in(4040)

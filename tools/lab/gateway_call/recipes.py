@@ -11,7 +11,7 @@ import wave
 from checks.sound import LEVEL, amplitude, write_tone
 from lab.gateway_call.parts import until
 from lab.gateway_call.sounds import RATE
-from lab.gateway_call.trial import Trial, lacking
+from lab.gateway_call.trial import Trial
 from lab.waits import ended
 from operators.shared import ROOT
 
@@ -56,9 +56,6 @@ def levels_in(samples, rate):
 class Recipes(Trial):
     def try_recording(self):
         """What two phones say is in the file, and a pause is as long as it was."""
-        if lacking("ffmpeg"):
-            print(f"skipped: a recording ({lacking('ffmpeg')})")
-            return
         one, two = self.sound(4200), self.sound(4201, hertz=700)
         users = (one, "test"), (two, "other")
         phones = [self.ringing(self.sipp(each, user=user).waits(60), each) for each, user in users]
@@ -89,9 +86,6 @@ class Recipes(Trial):
 
     def try_picture(self):
         """GStreamer's rtpbin shows a picture and speaks, and both are recorded."""
-        if lacking("ffmpeg", "ffprobe", "gst-launch-1.0"):
-            print(f"skipped: a picture is recorded ({lacking('ffmpeg', 'ffprobe', 'gst-launch-1.0')})")
-            return
         phone, file = self.sound(4230), self.folder / "room.webm"
         one = self.ringing(self.sipp(phone).waits(90), phone)
         self.is_in(4230)
@@ -134,9 +128,6 @@ class Recipes(Trial):
 
     def try_music_alone(self):
         """Who is alone in a room hears music, until a second one joins."""
-        if lacking("ffmpeg"):
-            print(f"skipped: music ({lacking('ffmpeg')})")
-            return
         file = self.folder / "music.wav"
         write_tone(file, MUSIC, RATE, 3)
         one, two = self.sound(4210), self.sound(4211, hertz=700)

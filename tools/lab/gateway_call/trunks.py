@@ -9,7 +9,7 @@ from lab.gateway_call.dialogs import Answer, Dialog
 from lab.gateway_call.parts import ACCOUNTS, SHORTEST, Parts
 from lab.gateway_call.refusals import offer_of, port_in
 from lab.gateway_call.sipps import Sipp, sdp
-from lab.gateway_call.trial import Trial, lacking
+from lab.gateway_call.trial import Trial
 from operators.serving import free_port
 
 # A session's seconds in these scenarios, and what an exchange says of sessions.
@@ -143,9 +143,6 @@ class Trunks(Trial):
 
     def try_ways(self):
         """TCP and TLS, where the settings have them. A BYE comes by the connection of the call."""
-        if lacking("openssl"):
-            print(f"skipped: TCP and TLS ({lacking('openssl')})")
-            return
         key, certificate = (self.folder / f"gateway.{one}" for one in ("key", "pem"))
         words = ["openssl", "req", "-x509", "-newkey", "rsa:2048", "-nodes", "-days", "2", "-subj", "/CN=localhost"]
         more = ["-addext", "subjectAltName=DNS:localhost", "-keyout", key, "-out", certificate]

@@ -5,7 +5,7 @@ import subprocess
 import time
 
 from lab.gateway_call.parts import Parts
-from lab.gateway_call.trial import Trial, lacking
+from lab.gateway_call.trial import Trial
 from operators.serving import free_port
 
 # The secret of the agent and of the server, and one that the server doesn't have.
@@ -26,9 +26,10 @@ PAIR = """call.peer.getStats().then(all => {
 })"""
 
 
-# For how many seconds packets have waited in the page, all together, until it sent them.
-WAITED = """call.peer.getStats().then(all => [...all.values()].filter(one => one.type === "outbound-rtp")
-  .reduce((sum, one) => sum + one.totalPacketSendDelay, 0))"""
+# How many packets of sound the page has sent, and how many it makes a second.
+SENT = """call.peer.getStats().then(all =>
+  [...all.values()].find(one => one.type === "outbound-rtp" && one.kind === "audio").packetsSent)"""
+A_SECOND = 50
 
 
 class Turning(Trial):
@@ -36,9 +37,6 @@ class Turning(Trial):
 
     def coturn(self, port):
         """Starts a server that speaks TLS, with a certificate that nobody has signed."""
-        missing = lacking("turnserver", "openssl")
-        if missing:
-            return missing
         names = ["-keyout", self.folder / "turn.key", "-out", self.folder / "turn.pem", "-subj", "/CN=127.0.0.1"]
         made = ["openssl", "req", "-x509", *CURVE, "-nodes", "-days", "2", *names]
         subprocess.run(made, check=True, capture_output=True, timeout=60)
@@ -53,49 +51,51 @@ class Turning(Trial):
         self.others.append(server)
         listens = lambda: socket.socket().connect_ex(("127.0.0.1", port)) == 0
         self.comes(listens, "coturn takes TLS", lambda: (self.folder / "turn.log").read_text()[-500:], 60)
-        return ""
+        return server
 
     def step_turn(self):
         """A page joins by TURN over TLS, and is heard by one that needs none."""
         port = free_port(socket.SOCK_STREAM)
-        missing = self.coturn(port)
-        if missing:
-            print(f"skipped: TURN over TLS ({missing})")
-            return
-        self.turn = f"turns:127.0.0.1:{port}?transport=tcp"
-        parts, one = self.relayed(530_000, SECRET)
+        server = self.coturn(port)
+        parts, one = self.relayed(port, 530_000, SECRET)
         way = lambda: one.run(PAIR)
         self.comes(lambda: way() == ["relay", "tls"], "a page joins by TURN over TLS", lambda: (way(), one.says()), 30)
         came = parts.engine.received(one.run("call.id"), "browser").packets
         more = lambda: parts.engine.received(one.run("call.id"), "browser").packets > came + 20
         self.comes(more, "its media come by that", one.says)
-        self.coturn_ends(port, parts, one)
+        server = self.coturn_ends(server, port, parts, one)
         if not self.args.model:
             self.browser("B", parts.page).join()
             self.everyone_hears("A joins by TURN")
+        self.ends(server, parts)
+
+    def ends(self, server, parts):
         self.close_callers()
         parts.stop("agent")
+        server.kill()
+        server.wait()
 
-    def coturn_ends(self, port, parts, one):
-        """The TURN server is killed in mid-call, and started anew: the page restarts ICE by it."""
-        id, server = one.run("call.id"), self.others[-2]
+    def coturn_ends(self, server, port, parts, one):
+        """The TURN server is killed in mid-call, and started anew: the page restarts ICE by it. The new server."""
+        id, before, begun = one.run("call.id"), one.run(SENT), time.monotonic()
         server.kill()
         server.wait()
         self.comes(lambda: "Coming back" in one.says(), "coturn is killed: the page says so", one.says, 30)
         time.sleep(DOWN)
-        self.coturn(port)
+        server = self.coturn(port)
         came = parts.engine.received(one.run("call.id"), "browser").packets
         more = lambda: parts.engine.received(one.run("call.id"), "browser").packets > came + 20
         took = self.comes(more, "it is started anew: the page's media come by it again", one.says, 40)
         print(f"      after {took or 0:.1f} s")
         good = one.run("call.id") == id and one.run(PAIR) == ["relay", "tls"]
         self.check(good, "in the same call", (id, one.run(PAIR), one.says()))
-        waited = one.run(WAITED)
-        self.check(waited < 1, "and nothing that it made meanwhile, of which much would come at once", waited)
+        sent, most = one.run(SENT) - before, A_SECOND * (time.monotonic() - begun - DOWN)
+        self.check(sent <= most, "and not what it has heard meanwhile, which would come at once", (sent, most))
+        return server
 
-    def relayed(self, first_member, secret):
+    def relayed(self, port, first_member, secret):
         """A gateway with this secret, and a page of it that may use relays alone."""
-        turn = {"urls": [self.turn], "secret": secret}
+        turn = {"urls": [f"turns:127.0.0.1:{port}?transport=tcp"], "secret": secret}
         parts = Parts(self.folder, self.udp, self.tcp, self.parts.control, first_member, turn=turn)
         self.others.append(parts)
         parts.start("agent")
@@ -105,10 +105,9 @@ class Turning(Trial):
 
     def step_wrong_secret(self):
         """By another secret than the server's it doesn't join."""
-        if not hasattr(self, "turn"):
-            return
-        parts, one = self.relayed(540_000, WRONG)
+        port = free_port(socket.SOCK_STREAM)
+        server = self.coturn(port)
+        parts, one = self.relayed(port, 540_000, WRONG)
         closed = lambda: "The way to the media server is closed" in one.says()
         self.comes(closed, "by another secret it has no way, and its page says so", one.says, 60)
-        self.close_callers()
-        parts.stop("agent")
+        self.ends(server, parts)
