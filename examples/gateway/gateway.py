@@ -37,6 +37,7 @@ MOST_PICTURES = 15
 # The settings that a file may leave out.
 DEFAULTS = {
     "bridge": {"page": ""},
+    "rtpengine": {"threads": 0},
     "page": {"proxies": []},
     "phones": {"accounts": {}, "targets": [], "proxies": [], "tcp": "", "tls": "", "certificate": "", "key": ""},
     "calls": {"away": 30, "hold": 600, "removed": 5, "unanswered": 8, "rooms": 8},
@@ -98,6 +99,8 @@ def rtpengine(settings, _):
     command += ["--listen-ng={}:{}".format(*own["control"]), *map("--port-{}={}".format, ("min", "max"), own["ports"])]
     # Each key that a phone presses is told to the agent.
     command.append("--dtmf-log-dest={}:{}".format(*own["keys"]))
+    if own["threads"]:
+        command.append(f"--num-threads={own['threads']}")
     # In userspace. With the package rtpengine-kernel-dkms, --table=0 forwards in the kernel.
     command.append("--table=-1")
     # A call that the agent forgot goes after a minute without a packet. Media are marked as networks know them from

@@ -22,6 +22,9 @@ sys.path.insert(0, str(ROOT / "examples/gateway"))
 from rtpengine import Rtpengine  # noqa: E402
 
 GATEWAY = ROOT / "examples/gateway/gateway.py"
+# The first ports that an rtpengine may have, how many each has, and how many of its threads carry media: on a busy
+# machine it gives a port up that a thread doesn't read in time.
+PORTS, EACH, THREADS = range(30000, 32500, 100), 100, 8
 # How many seconds a part may take to answer, once it is started.
 MOST = 300
 # After how many seconds without a packet a phone has gone, where it doesn't hold the call.
@@ -53,6 +56,14 @@ def until(condition, seconds=10):
     return time.monotonic() - begun
 
 
+def own_ports():
+    """Ports that no other check's rtpengine has, and what holds them: a socket of TCP at the first of them."""
+    for low in PORTS:
+        with contextlib.suppress(OSError):
+            return low, socket.create_server(("127.0.0.1", low))
+    fail(f"other checks have all ports from {PORTS.start} to {PORTS.stop - 1}")
+
+
 class Parts:
     """rtpengine, Kamailio and an agent, on ports of their own."""
 
@@ -81,7 +92,7 @@ class Parts:
         self.page, self.path = f"http://127.0.0.1:{self.page_port}", folder / f"gateway{first_member}.toml"
         # The page and SIP as callers see them who aren't on this machine.
         self.far_page, self.sip = f"http://{outside}:{self.page_port}", f"{outside}:{self.sip_port}"
-        low = self.low = 30000 + self.control % 25 * 100
+        self.low, self.holds = own_ports() if control is None else (PORTS.start, None)
         tables = {
             "bridge": {"udp": f"{bridge_ip}:{udp}", "tcp": f"127.0.0.1:{tcp}", "page": ""},
             "rtpengine": {
@@ -89,7 +100,8 @@ class Parts:
                 "keys": f"127.0.0.1:{self.keys}",
                 "bridge": "127.0.0.1",
                 "outside": outside,
-                "ports": [low, low + 99],
+                "ports": [self.low, self.low + EACH - 1],
+                "threads": THREADS,
             },
             "page": {
                 "listen": f"0.0.0.0:{self.page_port}",
@@ -158,6 +170,8 @@ class Parts:
     def close(self):
         for part in list(self.running):
             self.stop(part, signal.SIGKILL if part == "rtpengine" else signal.SIGTERM)
+        if self.holds:
+            self.holds.close()
 
     def serves(self):
         """Whether the agent's two ports take connections."""

@@ -4,7 +4,7 @@ import socket
 import subprocess
 import time
 
-from lab.gateway_call.parts import Parts
+from lab.gateway_call.parts import EACH, Parts, own_ports
 from lab.gateway_call.trial import Trial
 from operators.serving import free_port
 
@@ -42,7 +42,8 @@ class Turning(Trial):
         subprocess.run(made, check=True, capture_output=True, timeout=60)
         words = ["turnserver", "-n", f"--tls-listening-port={port}", "--no-udp", "--no-tcp", "--no-dtls", "--no-cli"]
         words += ["--use-auth-secret", f"--static-auth-secret={SECRET}", "--realm=test", "--allow-loopback-peers"]
-        words += ["--listening-ip=127.0.0.1", "--relay-ip=127.0.0.1", "--min-port=41000", "--max-port=41099"]
+        words += ["--listening-ip=127.0.0.1", "--relay-ip=127.0.0.1"]
+        words += [f"--min-port={self.relays}", f"--max-port={self.relays + EACH - 1}"]
         words += [f"--cert={self.folder / 'turn.pem'}", f"--pkey={self.folder / 'turn.key'}", "--log-file=stdout"]
         words += [f"--pidfile={self.folder / 'turn.pid'}", f"--userdb={self.folder / 'turn.db'}"]
         with (self.folder / "turn.log").open("w") as log:
@@ -55,7 +56,7 @@ class Turning(Trial):
 
     def step_turn(self):
         """A page joins by TURN over TLS, and is heard by one that needs none."""
-        port = free_port(socket.SOCK_STREAM)
+        port, (self.relays, holds) = free_port(socket.SOCK_STREAM), own_ports()
         server = self.coturn(port)
         parts, one = self.relayed(port, 530_000, SECRET)
         way = lambda: one.run(PAIR)
@@ -68,6 +69,7 @@ class Turning(Trial):
             self.browser("B", parts.page).join()
             self.everyone_hears("A joins by TURN")
         self.ends(server, parts)
+        holds.close()
 
     def ends(self, server, parts):
         self.close_callers()
@@ -105,9 +107,10 @@ class Turning(Trial):
 
     def step_wrong_secret(self):
         """By another secret than the server's it doesn't join."""
-        port = free_port(socket.SOCK_STREAM)
+        port, (self.relays, holds) = free_port(socket.SOCK_STREAM), own_ports()
         server = self.coturn(port)
         parts, one = self.relayed(port, 540_000, WRONG)
         closed = lambda: "The way to the media server is closed" in one.says()
         self.comes(closed, "by another secret it has no way, and its page says so", one.says, 60)
         self.ends(server, parts)
+        holds.close()
