@@ -5,7 +5,8 @@
     gateway.py rtpengine [FILE]   becomes rtpengine, with the settings of FILE
     gateway.py kamailio [FILE]    becomes Kamailio, with the settings of FILE
 
-FILE is gateway.toml beside this program if it isn't given. The agent sees no media. The way of one join:
+FILE is gateway.toml beside this program if it isn't given, or /etc/confbridge-gateway.toml where a package has this. The
+agent sees no media. The way of one join:
 
     browser         agent                                  rtpengine         desk of the bridge
       /offer   ->     offer of one plain stream      ->      ICE, DTLS, a port
@@ -26,10 +27,10 @@ from calls import Calls
 from invitations import LEAST
 from keys import Keys
 from names import Names
+from places import FOLDER, SETTINGS
 from watch import Watch
 from web import ForBrowsers, ForKamailio, served
 
-FOLDER = pathlib.Path(__file__).resolve().parent
 ADDRESSES = [("bridge", "udp"), ("bridge", "tcp"), ("rtpengine", "control"), ("page", "listen"), ("phones", "agent")]
 ADDRESSES += [("rtpengine", "keys")]
 # The desk gives a member 16 slots, of which one is its stage.
@@ -132,7 +133,7 @@ def main():
     parts = {"agent": agent, "rtpengine": rtpengine, "kamailio": kamailio}
     if part not in parts or len(given) > 1:
         sys.exit(__doc__)
-    path = pathlib.Path(given[0] if given else FOLDER / "gateway.toml").resolve()
+    path = pathlib.Path(given[0] if given else SETTINGS).resolve()
     try:
         command = parts[part](read(path), path)
         if command:

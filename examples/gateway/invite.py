@@ -11,8 +11,7 @@ import time
 import tomllib
 
 from invitations import GUEST, HOST, link
-
-FOLDER = pathlib.Path(__file__).resolve().parent
+from places import SETTINGS
 
 
 def main():
@@ -21,7 +20,7 @@ def main():
     parser.add_argument("--name", default="", help="what the others see. If not given, the guest says it")
     parser.add_argument("--host", action="store_true", help="who joins by it may open the room")
     parser.add_argument("--hours", type=float, default=24, help="for how long it is good (%(default)s)")
-    parser.add_argument("--settings", type=pathlib.Path, default=FOLDER / "gateway.toml", help="(%(default)s)")
+    parser.add_argument("--settings", type=pathlib.Path, default=SETTINGS, help="(%(default)s)")
     args = parser.parse_args()
     settings = tomllib.loads(args.settings.read_text())
     key = settings.get("invitations", {}).get("key", "")

@@ -11,11 +11,11 @@ import tomllib
 
 from call import numbers
 from desk import Desk, in_words
+from places import SETTINGS
 from sdp import PCMU, VP8
 
 # Such members have these numbers, which no gateway's have.
 FIRST, COUNT = 500_000_000, 400_000_000
-FOLDER = pathlib.Path(__file__).resolve().parent
 # The payload types of RTCP where it comes to the port of RTP (RFC 5761 section 4), with the marker.
 RTCP = range(192, 224)
 # By which a program of this folder ends. Its main thread takes them, and no other one. A program that it starts has to
@@ -30,7 +30,7 @@ class RoomMember:
     and the slot that it gets, and of the voice and the camera that it sends. A program opens the port later."""
 
     def __init__(self, name, room, settings=None):
-        bridge = tomllib.loads(pathlib.Path(settings or FOLDER / "gateway.toml").read_text())["bridge"]
+        bridge = tomllib.loads(pathlib.Path(settings or SETTINGS).read_text())["bridge"]
         self.bridge, (host, _, port) = bridge["udp"], bridge["tcp"].rpartition(":")
         self.desk, self.room, self.member = Desk((host, int(port)), name), room, FIRST + secrets.randbelow(COUNT)
         self.port = free_port()

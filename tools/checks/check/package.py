@@ -7,8 +7,8 @@ shell and Python of this machine alone, and isn't removed.
 
 There the bridge starts as its unit starts it, with the settings of the package, as a user without rights. Two members
 talk through `confbridge-tools member`, `stats` counts them, and SIGTERM stops the bridge with its last lines. What
-keeps the desk restores it to the next bridge. `confbridge-tools explain` explains a capture. At last the package is
-removed, and nothing of it stays. Each has a line; so has what is skipped, and why.
+keeps the desk restores it to the next bridge. The gateway's agent serves its page. `confbridge-tools explain` explains
+a capture. At last the package is removed, and nothing of it stays. Each has a line; so has what is skipped, and why.
 """
 
 import argparse
@@ -47,6 +47,8 @@ NEW_MOUNTS, NEW_NETWORK, PRIVATE, DETACH = 0x00020000, 0x40000000, (1 << 18) | 1
 SIOCSIFFLAGS, IFF_UP = 0x8914, 1
 NO_NEW_PRIVILEGES, USER = 38, 10001
 UDP, TCP, PAGE = ("127.0.0.1", 5004), ("127.0.0.1", 7000), "http://127.0.0.1:7080/"
+# The page of the gateway.
+JOIN = "http://127.0.0.1:8090/"
 # Of each member its number, its source, its port, the ports of its programs, its stream, and its tone: 988 and -988 in
 # mu-law (ITU-T G.711).
 MEMBERS = [(10, 201, 6000, 6100, 6200, 9001, 0xCE), (11, 202, 6002, 6102, 6202, 9002, 0x4E)]
@@ -183,7 +185,8 @@ def gathered(folder):
     for program in programs:
         shutil.copy(program, folder / f"usr/bin/{program.name}")
     modules = (folder / f"usr/lib/{version}/lib-dynload").glob("*.so")
-    for path in libraries_of([*programs, *modules]):
+    # Python opens the last one by itself, where a thread ends.
+    for path in {*libraries_of([*programs, *modules]), *map(str, pathlib.Path("/").glob("lib/*/libgcc_s.so.1"))}:
         target = folder / path.removeprefix("/")
         target.parent.mkdir(parents=True, exist_ok=True)
         shutil.copy(path, target)
@@ -204,7 +207,8 @@ def libraries_of(files):
 class Root:
     """A root of its own, with a network of its own."""
 
-    def __init__(self, base, folder):
+    def __init__(self, base, folder, is_proved):
+        self.is_proved = is_proved
         libc = ctypes.CDLL(None, use_errno=True)
         mount = lambda source, at, kind, flags=0, data=b"": libc.mount(
             source, bytes(at), kind, ctypes.c_ulong(flags), data
@@ -227,7 +231,11 @@ class Root:
         self.libc, self.started = libc, []
 
     def unit(self, name):
-        return directives(self.path / f"usr/lib/systemd/system/{name}.service")
+        unit = directives(self.path / f"usr/lib/systemd/system/{name}.service")
+        if not self.is_proved:
+            # Its sanitizer reserves more than any machine has.
+            unit.pop("LimitAS", None)
+        return unit
 
     def run(self, *words):
         """Runs a command there, as root. What it says."""
@@ -387,6 +395,7 @@ def check_bridge(root):
     check(kinds(desk.shown()[:-1]) == kinds(rows), "the restored desk is another one")
     told("desk", f"the next bridge has its {len(rows)} rows again")
     check_page(root)
+    check_gateway(root)
     for one, name in (keeper, "what keeps the desk"), (bridge, "the bridge"):
         stopped(one, name)
 
@@ -401,6 +410,17 @@ def check_page(root):
     page.terminate()
     page.wait()
     told("page", f"is at {PAGE}")
+
+
+def check_gateway(root):
+    """The gateway's agent, beside a bridge: it serves its page. This Debian has neither rtpengine nor Kamailio."""
+    agent = root.start_unit("confbridge-agent")
+    until(lambda: "the page is" in said_by(agent), f"the agent doesn't begin: {said_by(agent)}", PATIENCE)
+    with urllib.request.urlopen(JOIN, timeout=PATIENCE) as answer:
+        check(b"<title>" in answer.read(), "the gateway's page isn't there")
+    agent.terminate()
+    check(agent.wait(PATIENCE) == 0, f"the agent ends with status {agent.returncode}: {said_by(agent)}")
+    told("gateway", f"its agent serves {JOIN}")
 
 
 def check_tools(root):
@@ -444,7 +464,10 @@ def check_root(deb, is_gathered):
         if not base:
             skipped("install", f"{why}, and this machine has no Python in /usr/bin")
             return
-        root = Root(base, folder)
+        is_proved = ".unproved" not in deb.name
+        if not is_proved:
+            skipped("memory", "a program that wasn't proved has a sanitizer, which no limit of memory lets start")
+        root = Root(base, folder, is_proved)
         try:
             if is_debian:
                 use_installed(root, deb)

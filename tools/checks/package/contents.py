@@ -11,10 +11,13 @@ from operators.shared import ROOT
 # The tools that operators use, where some of what they import stands, and what they read beside their folder.
 TOOLS = ["calls", "demo", "explain", "keep", "keeper", "member", "restore", "watch"]
 FLEET, READ = ROOT / "examples/fleet", ROOT / "examples/serve.toml"
+GATEWAY = ROOT / "examples/gateway"
 UNITS = ["confbridge", "confbridge-calls", "confbridge-desk", "confbridge-page"]
 SHARE, DOC, MAN = "usr/share/confbridge", "usr/share/doc/confbridge", "usr/share/man/man1"
 IN_CLONE = re.compile(r"^# --- in a clone alone\n.*?^# --- anywhere\n", re.M | re.S)
 COMMAND = manual.COMMAND
+# Where the gateway's files stand, and its settings from there. Its command is run by a link.
+GATEWAY_SHARE, GATEWAY_SETTINGS = f"{SHARE}/examples/gateway", "etc/confbridge-gateway.toml"
 
 
 @dataclasses.dataclass(frozen=True)
@@ -95,6 +98,27 @@ def programs(program, page):
         yield f"usr/lib/systemd/system/{name}.service", text(unit(name))
 
 
+# The gateway
+
+
+def gateway_file(path):
+    """A file of the gateway with the package's places and commands."""
+    whole = path.read_text().replace("/usr/local/lib/confbridge-gateway/", f"/{GATEWAY_SHARE}/")
+    return text(whole.replace("#!/usr/bin/env python3", "#!/usr/bin/python3 -B"), bool(path.stat().st_mode & 0o100))
+
+
+def gateway():
+    """The gateway's programs, pages, settings and units."""
+    kept = [path for path in GATEWAY.iterdir() if path.suffix in (".py", ".js", ".html", ".cfg", ".md")]
+    for path in sorted([*kept, GATEWAY / "bridge.toml"]):
+        yield f"{GATEWAY_SHARE}/{path.name}", gateway_file(path)
+    yield GATEWAY_SETTINGS, gateway_file(GATEWAY / "gateway.toml")
+    yield "usr/bin/confbridge-gateway", File(link="../share/confbridge/examples/gateway/gateway.py")
+    yield f"{DOC}/examples/gateway", File(link="../../../confbridge/examples/gateway")
+    for path in sorted((GATEWAY / "systemd").iterdir()):
+        yield f"usr/lib/systemd/system/{path.name}", gateway_file(path)
+
+
 # Documents
 
 
@@ -107,6 +131,7 @@ def licence():
     return f"Format: {form}\nUpstream-Name: confbridge\n\nFiles: *\nCopyright: {owner}\nLicense: Expat\n{body}\n"
 
 
+OVERRIDES_PAGE = "confbridge: unstripped-binary-or-object [usr/lib/confbridge/desk_page]\n"
 OVERRIDES = """# Each program is, octet by octet, the one that was proved, built and run: nothing is stripped of it.
 confbridge: unstripped-binary-or-object [usr/lib/confbridge/confbridge]
 confbridge: unstripped-binary-or-object [usr/lib/confbridge/desk_page]
@@ -120,7 +145,8 @@ confbridge: maintainer-script-calls-systemctl [prerm:*]
 
 
 def documents(commit, modules, has_page):
-    yield "usr/share/lintian/overrides/confbridge", text(OVERRIDES)
+    overrides = OVERRIDES if has_page else OVERRIDES.replace(OVERRIDES_PAGE, "")
+    yield "usr/share/lintian/overrides/confbridge", text(overrides)
     yield f"{DOC}/copyright", text(licence())
     yield f"{DOC}/changelog.Debian.gz", packed(changelog(commit))
     yield f"{DOC}/README.md", File((ROOT / "README.md").read_bytes())
@@ -128,7 +154,7 @@ def documents(commit, modules, has_page):
         yield f"{DOC}/{path.relative_to(ROOT)}", File(path.read_bytes())
     for path in sorted((ROOT / "examples").glob("*.txt")):
         yield f"{DOC}/examples/{path.name}", File(path.read_bytes())
-    for name in ["confbridge", "confbridge-page"] if has_page else ["confbridge"]:
+    for name in ["confbridge", "confbridge-gateway", *(["confbridge-page"] if has_page else [])]:
         yield f"{MAN}/{name}.1.gz", packed(manual.of_file(name, commit))
     yield f"{MAN}/{COMMAND}.1.gz", packed(manual.of_tools(modules, commit))
     for name, module in modules:
@@ -137,5 +163,5 @@ def documents(commit, modules, has_page):
 
 def files_of(program, page, commit, modules):
     """All files of a package by their places, from programs, a commit, and the modules of its tools."""
-    parts = programs(program, page), tools(), documents(commit, modules, bool(page))
+    parts = programs(program, page), tools(), gateway(), documents(commit, modules, bool(page))
     return {name: one for part in parts for name, one in part}

@@ -7,6 +7,8 @@ from operators.shared import fail
 
 # The packages of Debian that have the libraries of programs.
 LIBRARIES = {"libc.so.6": "libc6", "libm.so.6": "libc6", "libgcc_s.so.1": "libgcc-s1"}
+# What operators and the gateway can use.
+SUGGESTED = ["kamailio", "kamailio-python3-modules", "rtpengine-daemon", "tcpdump"]
 NEEDED = re.compile(r"^\s*(lib\S+) =>", re.M)
 UNPROVED = """ .
  THIS PACKAGE HAS A PROGRAM THAT WASN'T PROVED. It is for trying alone.
@@ -22,9 +24,11 @@ DESCRIPTION = """Description: conference bridge for RTP, whose changes can be un
 PRERM = """#!/bin/sh
 set -e
 if [ "$1" = remove ] && [ -d /run/systemd/system ]; then
-    for name in confbridge-page confbridge-calls confbridge-desk confbridge; do
-        systemctl disable --now "$name.service" || true
+    systemctl disable --now confbridge-gateway.target || true
+    for name in agent kamailio rtpengine page calls desk; do
+        systemctl disable --now "confbridge-$name.service" || true
     done
+    systemctl disable --now confbridge.service || true
 fi
 """
 POSTINST = """#!/bin/sh
@@ -67,8 +71,8 @@ def control(commit, programs, octets, is_proved):
     """The description of a package (deb-control(5)). It has so many octets."""
     lines = [
         "Package: confbridge", f"Version: {commit.version}", "Architecture: amd64", f"Maintainer: {commit.maintainer}",
-        f"Installed-Size: {-(-octets // 1024)}", f"Depends: {depends(programs)}", "Suggests: tcpdump", "Section: net",
-        "Priority: optional",
+        f"Installed-Size: {-(-octets // 1024)}", f"Depends: {depends(programs)}",
+        f"Suggests: {', '.join(SUGGESTED)}", "Section: net", "Priority: optional",
     ]  # fmt: skip
     return "\n".join(lines) + "\n" + DESCRIPTION + ("" if is_proved else UNPROVED)
 
@@ -77,6 +81,6 @@ def members(commit, programs, octets, is_proved):
     """The files of a package's DEBIAN folder by their names, and whether they are run."""
     return {
         "control": (control(commit, programs, octets, is_proved), False),
-        "conffiles": ("/etc/confbridge.toml\n", False),
+        "conffiles": ("/etc/confbridge.toml\n/etc/confbridge-gateway.toml\n", False),
         "prerm": (PRERM, True), "postinst": (POSTINST, True), "postrm": (POSTRM, True),
     }  # fmt: skip

@@ -14,7 +14,8 @@ It starts a bridge, rtpengine, Kamailio and the agent. Then come its steps, in p
     recipes    a room is recorded, also with a picture, which GStreamer's rtpbin shows; music plays to who is alone
     phones     two baresips in the room: one is muted, and one hangs up
     gone       a bridge and rtpengine that are gone; then, in a call, they are started anew, and a browser is killed
-    readme     what README of examples/gateway has one type, and then four Chromiums and a baresip
+    readme     what README of examples/gateway has one type, with a package and in a clone; then come four Chromiums and
+               a baresip
     pages      the kills of `again` with Chromium, whose page comes again without a click
     turn       a Chromium joins by TURN over TLS, which is coturn's
     network    a Chromium whose address changes, and whose link is down for a while, stays the member that it is
