@@ -20,7 +20,7 @@ RESERVED = (
 )  # fmt: skip
 KINDS = {"js": "text/javascript", "css": "text/css"}
 MOST_CALLS, MOST_PAST = 256, 512
-LONGEST_NAME, LONGEST_CHANGE = 800, 262_144
+LONGEST_NAME = 800
 # About how many octets the head of a response has.
 HEAD = 500
 

@@ -106,10 +106,22 @@ class Made:
             self.put(packet)
         self.sends(self.bridge.answer(f"rx {self.moment} {address} {octets.hex()}"))
 
+    def begin(self, tick):
+        """The moment of a tick, before which its datagrams come."""
+        moment = BEGIN + GAP * (tick + 1)
+        self.moment, self.tick = moment - 10_000_000, tick
+        return moment
+
+    def end(self, moment, reports=False):
+        """What a tick brings, and a wait and perhaps reports behind it."""
+        lines = (0, "tick {}"), (100_000, f"wait {{}} {self.one} 101"), (150_000, "report {}")
+        for after, line in lines[: 2 + reports]:
+            self.moment = moment + after
+            self.sends(self.bridge.answer(line.format(self.moment)))
+
     def turn(self, tick, shows):
         """20 ms of the call: what comes, then the tick, and what it brings."""
-        begin = BEGIN + GAP * (tick + 1)
-        self.moment, self.tick = begin - 10_000_000, tick
+        moment = self.begin(tick)
         if tick in CALLS:
             self.call(CALLS[tick])
         if shows == tick:
@@ -129,10 +141,4 @@ class Made:
         if tick % 8 == 0:
             self.comes(STRANGER, rtp(tick, tick * 160, 77, b"\xd5" * 160, pt=8))
             self.comes(self.other, rtp(tick + 5000, tick * 160, 202, b"\xd5" * 160, pt=8))
-        self.moment = begin
-        self.sends(self.bridge.answer(f"tick {begin}"))
-        self.moment = begin + 100_000
-        self.sends(self.bridge.answer(f"wait {self.moment} {self.one} 101"))
-        if tick == 70:
-            self.moment = begin + 150_000
-            self.sends(self.bridge.answer(f"report {self.moment}"))
+        self.end(moment, tick == 70)

@@ -1,6 +1,6 @@
 """Calls that nobody held, each with a fault that is planted, and what has to be told of it."""
 
-from checks.explain.made import BEGIN, GAP, ONE, OTHER, STRANGER, Made
+from checks.explain.made import ONE, OTHER, STRANGER, Made
 from operators.demo import picture, tone
 from operators.packets import rtp
 
@@ -26,8 +26,7 @@ class Call(Made):
 
     def turn(self, tick, _shows):
         """20 ms of the call: what comes, then the tick, and what it brings."""
-        begin = BEGIN + GAP * (tick + 1)
-        self.moment, self.tick = begin - 10_000_000, tick
+        moment = self.begin(tick)
         for line in self.says.get(tick, ()):
             self.call(line)
         first = self.moment
@@ -38,13 +37,7 @@ class Call(Made):
         for after, address, octets in (self.fault or whole)(tick):
             self.moment = first + 1_000_000 + after
             self.comes(address, octets)
-        self.moment = begin
-        self.sends(self.bridge.answer(f"tick {begin}"))
-        self.moment = begin + 100_000
-        self.sends(self.bridge.answer(f"wait {self.moment} {self.one} 101"))
-        if tick % 250 == 249:
-            self.moment = begin + 150_000
-            self.sends(self.bridge.answer(f"report {self.moment}"))
+        self.end(moment, tick % 250 == 249)
 
     def comes(self, address, octets):
         """A datagram. In some ticks the bridge gets none of them, as where its receive buffer is full."""

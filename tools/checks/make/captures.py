@@ -90,8 +90,7 @@ class Shown(Made):
 
     def turn(self, tick, shows):
         """20 ms of the call: what comes, then the tick, and what it brings."""
-        begin = BEGIN + GAP * (tick + 1)
-        self.moment, self.tick = begin - 10_000_000, tick
+        moment = self.begin(tick)
         if self.wrong == "muted" and tick == MUTED:
             self.call("mute 202")
         self.comes(ONE, rtp(tick, tick * 160, 201, tone(440, tick), pt=0))
@@ -100,13 +99,7 @@ class Shown(Made):
         elif tick >= LATE + LATER:
             self.from_bob(tick - LATER)
         self.frame(tick)
-        self.moment = begin
-        self.sends(self.bridge.answer(f"tick {begin}"))
-        self.moment = begin + 100_000
-        self.sends(self.bridge.answer(f"wait {self.moment} {ONE} 101"))
-        if tick % 250 == 249:
-            self.moment = begin + 150_000
-            self.sends(self.bridge.answer(f"report {self.moment}"))
+        self.end(moment, tick % 250 == 249)
 
 
 class Busy(Call):
