@@ -358,7 +358,11 @@ def counted():
     """The parts of the page of ten promises that say how much one has to read."""
     each = {number: read_for(number) for number in ten()}
     said = {number: f"To believe it you read {amount(found)}.{given_said(number)}" for number, found in each.items()}
-    said["all"] = f"To believe all ten you read {amount(reading.together(each.values()))}."
+    *first, _ = each.values()
+    said["all"] = (
+        f"To believe the first nine you read {amount(reading.together(first))}. To believe all ten you read"
+        f" {amount(reading.together(each.values()))}."
+    )
     return {f"reading-{number}": f"\n{made_parts.wrapped(text)}\n\n" for number, text in said.items()}
 
 
