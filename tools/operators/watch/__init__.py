@@ -6,8 +6,9 @@ It captures by a packet socket, which takes root or CAP_NET_RAW, or reads a capt
     tcpdump -i any -U -w - 'udp port 5004 or tcp port 7000' | tools/bridge watch -
 
 The desk is known from the lines that pass, or from `show`, for which --ask connects for a moment every five seconds; it
-needs a free seat. With --listen it answers GET /metrics in the text format of Prometheus. Levels are of PCMU and L16, in
-dBFS, and of the time since the table before. Of senders that are no source it keeps 64, and counts the others together.
+needs a free seat. With --listen it answers GET /metrics in the text format of Prometheus. Levels are of PCMU and L16,
+in dBFS, and of the time since the table before. Of senders that are no source it keeps 64, and counts the others
+together.
 """
 
 import contextlib
