@@ -5,3 +5,4 @@ pub mod Changed
 pub mod Waits
 pub mod Spaced
 pub mod Freed
+pub mod Apart

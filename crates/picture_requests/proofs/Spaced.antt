@@ -125,7 +125,7 @@ due_parts s now r h = by (is_among (asked_lately now r.sent) s) refl
 -- ---- steps
 
 -- time goes on
-keeps_on : (now next : ℕ) (s : VideoSource) (last : Option ℕ) (sent : List SentRequest) → now ≤ next
+pub keeps_on : (now next : ℕ) (s : VideoSource) (last : Option ℕ) (sent : List SentRequest) → now ≤ next
     → Keeps now s last sent → Keeps next s last sent
 keeps_on now next s None sent le k = tt
 keeps_on now next s (Some m) sent le k = (
@@ -137,7 +137,7 @@ keeps_on now next s (Some m) sent le k = (
 )
 
 -- old requests are dropped
-keeps_recent : (now : ℕ) (s : VideoSource) (last : Option ℕ) (sent : List SentRequest) → Keeps now s last sent
+pub keeps_recent : (now : ℕ) (s : VideoSource) (last : Option ℕ) (sent : List SentRequest) → Keeps now s last sent
     → Keeps now s last (filter (is_recent now) sent)
 keeps_recent now s None sent k = tt
 keeps_recent now s (Some m) sent k = (
@@ -152,7 +152,7 @@ or_true : (a b : Bool) → a ≡ true → (a || b) ≡ true
 or_true a b h = ap (λ c. c || b) h
 
 -- a request is added
-keeps_more : (now : ℕ) (s : VideoSource) (last : Option ℕ) (sent : List SentRequest) (r : SentRequest)
+pub keeps_more : (now : ℕ) (s : VideoSource) (last : Option ℕ) (sent : List SentRequest) (r : SentRequest)
     → Keeps now s last sent → Keeps now s last (sent ++ r ∷ [])
 keeps_more now s None sent r k = tt
 keeps_more now s (Some m) sent r k = (
@@ -165,7 +165,7 @@ keeps_more now s (Some m) sent r k = (
 )
 
 -- the one that is added is kept
-kept_new : (s : VideoSource) (m : ℕ) (sent : List SentRequest)
+pub kept_new : (s : VideoSource) (m : ℕ) (sent : List SentRequest)
     → is_kept s m (sent ++ (record { source = s; moment = m }) ∷ []) ≡ true
 kept_new s m sent =
     list_any-append (is_that s m) sent ((record { source = s; moment = m }) ∷ [])
@@ -182,7 +182,7 @@ spaced None m ms h rest = rest
 spaced (Some l) m ms h rest = (h l refl, rest)
 
 -- a source that is due was asked half a second ago, if at all
-is_old : (now : ℕ) (s : VideoSource) (last : Option ℕ) (sent : List SentRequest) → Keeps now s last sent
+pub is_old : (now : ℕ) (s : VideoSource) (last : Option ℕ) (sent : List SentRequest) → Keeps now s last sent
     → is_among (asked_lately now sent) s ≡ false → (l : ℕ) → last ≡ Some l → l + request_gap ≤ now
 is_old now s None sent k free l e = absurd (cc)
 is_old now s (Some m) sent k free l e = let same : m ≡ l = cc in subst (λ n. n + request_gap ≤ now) same (elim k.1 [
@@ -191,7 +191,7 @@ is_old now s (Some m) sent k free l e = let same : m ≡ l = cc in subst (λ n. 
 ])
 
 -- after a source was wanted
-keeps_wanted : (now : ℕ) (s : VideoSource) (last : Option ℕ) (t : VideoSource) (r : RequestsOf)
+pub keeps_wanted : (now : ℕ) (s : VideoSource) (last : Option ℕ) (t : VideoSource) (r : RequestsOf)
     → Keeps now s last r.sent → Keeps now s last (after_step (want t now) r).sent
 keeps_wanted now s last t r k =
     subst (Keeps now s last) (sym (sent_of (is_among r.waiting t) r (wanted t now r))) (by (is_among r.waiting t))
@@ -201,7 +201,7 @@ keeps_wanted now s last t r k =
     by false = keeps_recent now s last r.sent k
 
 -- after a source that waited was asked
-sent_asked : (now : ℕ) (t : VideoSource) (r : RequestsOf) → is_among r.waiting t ≡ true
+pub sent_asked : (now : ℕ) (t : VideoSource) (r : RequestsOf) → is_among r.waiting t ≡ true
     → (after_step (ask t now) r).sent ≡ r.sent ++ (record { source = t; moment = now }) ∷ []
 sent_asked now t r h =
     sent_of (is_among r.waiting t) (asked t now r) r

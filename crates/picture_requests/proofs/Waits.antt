@@ -40,7 +40,7 @@ asked t moment r =
       sent = r.sent ++ (record { source = t; moment = moment }) ∷ [];
     }
 
-waiting_of : (b : Bool) (r q : RequestsOf) → (cond b r q).waiting ≡ cond b r.waiting q.waiting
+pub waiting_of : (b : Bool) (r q : RequestsOf) → (cond b r q).waiting ≡ cond b r.waiting q.waiting
 waiting_of true r q = refl
 waiting_of false r q = refl
 
@@ -52,7 +52,7 @@ same_choices : (b : Bool) (r q : RequestsOf) → r.choices ≡ q.choices → (co
 same_choices true r q h = refl
 same_choices false r q h = sym h
 
-waits_step : (s : VideoSource) (step : RequestStep) (r : RequestsOf)
+pub waits_step : (s : VideoSource) (step : RequestStep) (r : RequestsOf)
     → is_among (after_step step r).waiting s ≡ waits_after s step r.choices (is_among r.waiting s)
 waits_step s (see desk moment) r =
     let after = choices_of desk in

@@ -1,5 +1,7 @@
 -- What happens to requests, step by step: what waits, and when a source is asked (own).
-use Rattle.std.specs.Prelude.{◌≡◌, ℕ, ◌+◌, ◌≤◌, Bool, true, not, ◌&&◌, ◌||◌, if◌then◌else◌, List, [], ◌∷◌}
+use Rattle.std.specs.Prelude.{◌≡◌, ◌⊎◌, ℕ, ◌+◌, ◌≤◌, Bool, true, false, not, ◌&&◌, ◌||◌, if◌then◌else◌, List, [], ◌∷◌}
+use Rattle.std.specs.Prelude.{Option, None, Some, IfSome}
+use Rattle.std.specs.Bool.{MatchBool}
 use Rattle.desk_rows.specs.Desk.{Desk}
 use Rattle.picture_requests.specs.declared.source.VideoSource.{VideoSource}
 use Rattle.picture_requests.specs.declared.choosing.SlotChoice.{SlotChoice}
@@ -64,6 +66,17 @@ AreDue r (want source moment ∷ ss) = AreDue (after_step (want source moment) r
 AreDue r (ask source moment ∷ ss) =
     (is_among (due moment r) source ≡ true) × AreDue (after_step (ask source moment) r) ss
 
+-- A source is asked only when it is due, or at once where it was wanted.
+abbrev pub IsAskedInTime : VideoSource → RequestsOf → (wanted : Bool) → List RequestStep → Type 0
+IsAskedInTime source r wanted [] = Unit {0}
+IsAskedInTime source r wanted (see desk moment ∷ ss) =
+    IsAskedInTime source (after_step (see desk moment) r) false ss
+IsAskedInTime source r wanted (want other moment ∷ ss) =
+    IsAskedInTime source (after_step (want other moment) r) (same_source source other) ss
+IsAskedInTime source r wanted (ask asked moment ∷ ss) =
+    (same_source source asked ≡ true → (wanted ≡ true) ⊎ (is_among (due moment r) source ≡ true))
+    × IsAskedInTime source (after_step (ask asked moment) r) false ss
+
 -- No moment is before this one, or before one that came earlier.
 abbrev pub AreInOrder : ℕ → List RequestStep → Type 0
 AreInOrder moment [] = Unit {0}
@@ -78,3 +91,14 @@ abbrev pub AreSpaced : List ℕ → Type 0
 AreSpaced [] = Unit {0}
 AreSpaced (m ∷ []) = Unit {0}
 AreSpaced (m ∷ n ∷ ms) = (m + request_gap ≤ n) × AreSpaced (n ∷ ms)
+
+-- Each request to a source comes at least half a second after the one before it, which was at this moment, or there was
+-- none. Where the source is wanted again, this begins anew.
+abbrev pub AreApart : VideoSource → (last : Option ℕ) → List RequestStep → Type 0
+AreApart source last [] = Unit {0}
+AreApart source last (see desk moment ∷ ss) = AreApart source last ss
+AreApart source last (want other moment ∷ ss) = AreApart source (if same_source source other then None else last) ss
+AreApart source last (ask asked moment ∷ ss) =
+    MatchBool (same_source source asked)
+    (IfSome last (λ l. l + request_gap ≤ moment) × AreApart source (Some moment) ss)
+    (AreApart source last ss)

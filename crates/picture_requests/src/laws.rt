@@ -1,6 +1,7 @@
 //! Laws of the definitions: functions that do nothing when they run.
 
-ghost use Rattle.std.specs.Prelude.{◌≡◌, ◌≤◌, ◌+◌, ◌&&◌, ℕ, true, false, nat_le, nat_lt, count_by, List, [], Some};
+ghost use Rattle.std.specs.Prelude.{◌≡◌, ◌≤◌, ◌+◌, ◌&&◌, ℕ, true, false, nat_le, nat_lt, count_by, List, [], None};
+ghost use Rattle.std.specs.Prelude.{Some};
 ghost use Rattle.std.specs.List.{list_all};
 ghost use Rattle.desk_rows.specs.Desk.{Desk};
 ghost use Rattle.picture_requests.specs.declared.source.VideoSource.{VideoSource};
@@ -9,7 +10,7 @@ ghost use Rattle.picture_requests.specs.Sources.{same_source, is_among};
 ghost use Rattle.picture_requests.specs.Choices.{chosen_source, choices_of, newly_chosen};
 ghost use Rattle.picture_requests.specs.Requests.{no_requests, request_gap, due};
 ghost use Rattle.picture_requests.specs.Steps.{RequestStep, after_steps, waits_at_end, asks_of, AreDue, AreInOrder};
-ghost use Rattle.picture_requests.specs.Steps.{AreSpaced};
+ghost use Rattle.picture_requests.specs.Steps.{AreSpaced, IsAskedInTime, AreApart};
 
 /// A law: from one desk to a later one, a source is newly chosen exactly if a slot chose it on the later desk, and did
 /// not choose it on the earlier one. Each source stands there once.
@@ -54,4 +55,11 @@ pub fn requests_are_spaced()
     ensures two { (source : VideoSource) (steps : List RequestStep) (moment : ℕ) → AreInOrder 0 steps
         → AreDue no_requests steps
         → count_by (λ m. nat_le moment m && nat_lt m (moment + 1000000000)) (asks_of source steps) ≤ 2 }
+{}
+
+/// A law over all steps whose moments never go back, where a source is asked when it is due, or at once where it was
+/// wanted: two requests to it are at least half a second apart, unless it was wanted between them.
+pub fn requests_between_wants_are_spaced()
+    ensures { (source : VideoSource) (steps : List RequestStep) → AreInOrder 0 steps
+        → IsAskedInTime source no_requests false steps → AreApart source None steps }
 {}

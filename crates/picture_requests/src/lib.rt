@@ -33,7 +33,8 @@ mod sending;
 mod source;
 
 pub use self::laws::{
-    changed_slots_are_all, nothing_is_asked_unasked, requests_are_spaced, what_waits_becomes_due,
+    changed_slots_are_all, nothing_is_asked_unasked, requests_are_spaced,
+    requests_between_wants_are_spaced, what_waits_becomes_due,
 };
 pub use self::requests::PictureRequests;
 pub use self::source::VideoSource;
