@@ -28,9 +28,9 @@ PLANTS = {
         ".step(alloc, entered.version() / 2, entered.rows(), item);",
     ),
     "loop_asks_again_and_again": (
-        "event_loop/src/switching.rt",
+        "event_loop/src/kept.rt",
         "self.pictures.asked(source, now);",
-        "let _ = now;",
+        "let _ = (source, now);",
     ),
     "loop_asks_for_no_first_picture": (
         "event_loop/src/reading.rt",

@@ -103,6 +103,7 @@ fn parts_of<H: DeskBrand + Setup, R: Wait + Clock + Drop>(
         media,
         ticked: _,
         stats: _,
+        kept: _,
     } = rounds.into_state();
     let left = FrontLeft {
         read: inlet.into_log(),

@@ -27,7 +27,7 @@ use crate::waking::FrontWaker;
 use crate::watching::SystemWatch;
 use bridge_core::{Ingress, Settings};
 use bridge_monitor::Teller;
-use event_loop::{FrontState, FrontTrace, Rounds};
+use event_loop::{FrontKept, FrontState, FrontTrace, Rounds};
 use lane_wire::WireSink;
 use media_front::{LaneFeed, MediaFront, pli_octets};
 use operator_desk::{DeskBrand, DeskNames, Log, MAX_OPERATORS, Seat, SharedDesk};
@@ -144,6 +144,7 @@ where
     let reports = ReportTimer::begin(parts.settings.report_ms, start);
     let mut media = media_of(rt, alloc, readers, bridge, sinks, reports, teller)?;
     media.renew();
+    let kept = FrontKept::begin(alloc, start);
     let state = FrontState {
         inlet: sockets.inlet,
         wire: sockets.wire,
@@ -151,6 +152,7 @@ where
         media,
         ticked: start,
         stats: records.stats,
+        kept,
     };
     let trace = FrontTrace::new(records.trace);
     let rounds = Rounds::new(alloc, state, own, parts.chunk, trace);

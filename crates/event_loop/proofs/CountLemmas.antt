@@ -8,7 +8,8 @@ use Rattle.bridge_stats.specs.Runs.{AreAllNoted}
 use Rattle.bridge_stats.proofs.WholeLemmas.{all_taken}
 use Rattle.media_front.specs.Fronts.{Arrival}
 use Rattle.event_loop.specs.Turns.{Turn, History, Does, HaveDone, owed, passed, took, lost, looked, gave_ticks}
-use Rattle.event_loop.specs.Turns.{let_wait, let_some_wait, asked_picture, made_report, signalled}
+use Rattle.event_loop.specs.Turns.{let_wait, let_some_wait, entered_desk, saw_desk, wanted_picture, chose_sources}
+use Rattle.event_loop.specs.Turns.{asked_picture, made_report, judged_wake, signalled}
 use Rattle.event_loop.specs.Totals.{taken_in, AreNotesOf, AreCounted}
 
 -- what turns noted, and that it was noted
@@ -48,9 +49,19 @@ noted_by_one {P} {S} (let_wait desk moment) old new d =
     nothing_noted old.stats new.stats (ap (λ (h : History P S). h.stats) d.same)
 noted_by_one {P} {S} (let_some_wait desk moment) old new d =
     nothing_noted old.stats new.stats (ap (λ (h : History P S). h.stats) d.same)
-noted_by_one {P} {S} (asked_picture o sent) old new d =
+noted_by_one {P} {S} (entered_desk desk) old new d =
+    nothing_noted old.stats new.stats (ap (λ (h : History P S). h.stats) d)
+noted_by_one {P} {S} (saw_desk later version desk moment) old new d =
+    nothing_noted old.stats new.stats (ap (λ (h : History P S). h.stats) d.same)
+noted_by_one {P} {S} (wanted_picture source moment) old new d =
+    nothing_noted old.stats new.stats (ap (λ (h : History P S). h.stats) d)
+noted_by_one {P} {S} (chose_sources moment sources) old new d =
+    nothing_noted old.stats new.stats (ap (λ (h : History P S). h.stats) d.same)
+noted_by_one {P} {S} (asked_picture o moment sent) old new d =
     nothing_noted old.stats new.stats (ap (λ (h : History P S). h.stats) d.same)
 noted_by_one {P} {S} (made_report due desk moment) old new d =
+    nothing_noted old.stats new.stats (ap (λ (h : History P S). h.stats) d.same)
+noted_by_one {P} {S} (judged_wake moment raised) old new d =
     nothing_noted old.stats new.stats (ap (λ (h : History P S). h.stats) d.same)
 noted_by_one {P} {S} signalled old new d = nothing_noted old.stats new.stats (ap (λ (h : History P S). h.stats) d)
 

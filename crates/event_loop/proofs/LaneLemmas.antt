@@ -13,7 +13,8 @@ use Rattle.media_front.specs.Waits.{OnWire, HaveWaited, HaveWaitedInPart, video_
 use Rattle.media_front.specs.FedLanes.{FedLane, is_due, lanes_in, owing_notice, after_signal, IsFed, AreGiven}
 use Rattle.media_front.specs.FedLanes.{AllAreGiven}
 use Rattle.event_loop.specs.Turns.{Turn, History, Does, HaveDone, HasCaughtUp, owed, passed, took, lost, looked}
-use Rattle.event_loop.specs.Turns.{gave_ticks, let_wait, let_some_wait, asked_picture, made_report, signalled}
+use Rattle.event_loop.specs.Turns.{gave_ticks, let_wait, let_some_wait, entered_desk, saw_desk, wanted_picture}
+use Rattle.event_loop.specs.Turns.{chose_sources, asked_picture, made_report, judged_wake, signalled}
 
 owed_lanes : {P S : Type 0} (notice : NoticeOf) (xs : List (FedLane P S))
     → lanes_in (map (owing_notice notice) xs) ≡ lanes_in xs
@@ -100,9 +101,19 @@ lanes_by_one (let_wait desk moment) old new d =
     have_waited desk moment (video_origins desk) old.front new.front old.tried new.tried d.waited
 lanes_by_one (let_some_wait desk moment) old new d =
     have_waited_in_part desk moment (video_origins desk) old.front new.front old.tried new.tried d.waited
-lanes_by_one {P} {S} (asked_picture o sent) old new d = ap (λ (f : FrontOf P S). lanes_in f.feed) d.asked.same
+lanes_by_one {P} {S} (entered_desk desk) old new d =
+    ap (λ (h : History P S). lanes_in h.front.feed) d
+lanes_by_one {P} {S} (saw_desk later version desk moment) old new d =
+    ap (λ (h : History P S). lanes_in h.front.feed) d.same
+lanes_by_one {P} {S} (wanted_picture source moment) old new d =
+    ap (λ (h : History P S). lanes_in h.front.feed) d
+lanes_by_one {P} {S} (chose_sources moment sources) old new d =
+    ap (λ (h : History P S). lanes_in h.front.feed) d.same
+lanes_by_one {P} {S} (asked_picture o moment sent) old new d = ap (λ (f : FrontOf P S). lanes_in f.feed) d.asked.same
 lanes_by_one (made_report due desk moment) old new d =
     reported_lanes due desk moment old.tried new.tried old.front new.front d.made
+lanes_by_one {P} {S} (judged_wake moment raised) old new d =
+    ap (λ (h : History P S). lanes_in h.front.feed) d.same
 lanes_by_one {P} {S} signalled old new d =
     ap (λ (h : History P S). lanes_in h.front.feed) d ∙ signal_lanes old.front.feed
 
@@ -129,8 +140,18 @@ asker_by_one {P} {S} (looked moment) old new d = ap (λ (h : History P S). h.fro
 asker_by_one {P} {S} (gave_ticks due moment) old new d = ap (λ (f : FrontOf P S). f.ingress.asker) d.given.same
 asker_by_one (let_wait desk moment) old new d = d.asker
 asker_by_one (let_some_wait desk moment) old new d = d.asker
-asker_by_one {P} {S} (asked_picture o sent) old new d = ap (λ (f : FrontOf P S). f.ingress.asker) d.asked.same
+asker_by_one {P} {S} (entered_desk desk) old new d =
+    ap (λ (h : History P S). h.front.ingress.asker) d
+asker_by_one {P} {S} (saw_desk later version desk moment) old new d =
+    ap (λ (h : History P S). h.front.ingress.asker) d.same
+asker_by_one {P} {S} (wanted_picture source moment) old new d =
+    ap (λ (h : History P S). h.front.ingress.asker) d
+asker_by_one {P} {S} (chose_sources moment sources) old new d =
+    ap (λ (h : History P S). h.front.ingress.asker) d.same
+asker_by_one {P} {S} (asked_picture o moment sent) old new d = ap (λ (f : FrontOf P S). f.ingress.asker) d.asked.same
 asker_by_one (made_report due desk moment) old new d = d.asker
+asker_by_one {P} {S} (judged_wake moment raised) old new d =
+    ap (λ (h : History P S). h.front.ingress.asker) d.same
 asker_by_one {P} {S} signalled old new d = ap (λ (h : History P S). h.front.ingress.asker) d
 
 pub asker_by_all : {P S : Type 0} (turns : List Turn) (old new : History P S) → HaveDone turns old new

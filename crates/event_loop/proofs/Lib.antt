@@ -5,3 +5,6 @@ pub mod StepLemmas
 pub mod MomentLemmas
 pub mod TurnLemmas
 pub mod TraceLemmas
+pub mod AskingLemmas
+pub mod PictureLemmas
+pub mod SpacedLemmas

@@ -20,7 +20,8 @@ use Rattle.media_front.specs.Waits.{OnWire, HasWaitedOnce, HaveWaited, video_ori
 use Rattle.media_front.proofs.TryLemmas.{tried_none, tried_both}
 use Rattle.media_front.proofs.WaitLists.{folds_both}
 use Rattle.event_loop.specs.Turns.{Turn, History, Does, HaveDone, HasCaughtUp, owed, passed, took, lost, looked}
-use Rattle.event_loop.specs.Turns.{gave_ticks, let_wait, let_some_wait, asked_picture, made_report, signalled}
+use Rattle.event_loop.specs.Turns.{gave_ticks, let_wait, let_some_wait, entered_desk, saw_desk, wanted_picture}
+use Rattle.event_loop.specs.Turns.{chose_sources, asked_picture, made_report, judged_wake, signalled}
 use Rattle.event_loop.specs.Tries.{Try, Why, answers, asks_again, reports, asks_picture, HasDone, AsksAgain, IsMeant}
 use Rattle.event_loop.specs.Tries.{AreMeant, time_passes}
 use Rattle.event_loop.proofs.TurnLemmas.{all_both, done_both, done_one}
@@ -139,17 +140,17 @@ paid_alone : (d : Address × List ℕ) (buckets : List Bucket) (sent : Bool) →
     → paid_of (d ∷ []) buckets ≡ (if sent then d ∷ [] else []) ++ []
 paid_alone d buckets sent is = ap (λ (b : Bool). (if b then d ∷ [] else []) ++ []) (sym is)
 
-meant_picture : {P S : Type 0} (all : List Turn) (start : History P S) (who : Asker) (o : Origin) (sent : Bool)
-    (old new : History P S) (before after : Option (List Attempt))
-    → start.front.ingress.asker ≡ who → HasDone all start (asked_picture o sent) old new
+meant_picture : {P S : Type 0} (all : List Turn) (start : History P S) (who : Asker) (o : Origin) (moment : ℕ)
+    (sent : Bool) (old new : History P S) (before after : Option (List Attempt))
+    → start.front.ingress.asker ≡ who → HasDone all start (asked_picture o moment sent) old new
     → WereTried ((if sent then picture_request who o ∷ [] else []) ++ []) before after
     → Meant all start before after
-meant_picture all start who o true old new before after same here tried = (
-  record { what = picture_request who o; why = asks_picture o } ∷ [],
+meant_picture all start who o moment true old new before after same here tried = (
+  record { what = picture_request who o; why = asks_picture o moment } ∷ [],
   tried,
   ((old, new, here, ap (λ (w : Asker). picture_request w o) (sym same)), tt),
 )
-meant_picture all start who o false old new before after same here tried = ([], tried, tt)
+meant_picture all start who o moment false old new before after same here tried = ([], tried, tt)
 
 -- ---- turns
 
@@ -196,13 +197,23 @@ meant_by_one {P} {S} all start (let_wait desk moment) old new same here d =
 meant_by_one {P} {S} all start (let_some_wait desk moment) old new same here d =
     meant_waits all start false desk moment old new here [] (d.waited).first (d.waited.next ∷ d.waited.rest) old.front
     d.waited.behind old.tried new.tried d.waited.order refl d.waited.waited
-meant_by_one {P} {S} all start (asked_picture o sent) old new same here d =
+meant_by_one {P} {S} all start (entered_desk desk) old new same here d =
+    no_tries all start old.tried new.tried (ap (λ (s : History P S). s.tried) d)
+meant_by_one {P} {S} all start (saw_desk later version desk moment) old new same here d =
+    no_tries all start old.tried new.tried (ap (λ (s : History P S). s.tried) d.same)
+meant_by_one {P} {S} all start (wanted_picture source moment) old new same here d =
+    no_tries all start old.tried new.tried (ap (λ (s : History P S). s.tried) d)
+meant_by_one {P} {S} all start (chose_sources moment sources) old new same here d =
+    no_tries all start old.tried new.tried (ap (λ (s : History P S). s.tried) d.same)
+meant_by_one {P} {S} all start (asked_picture o moment sent) old new same here d =
     let who = old.front.ingress.asker in
-    meant_picture all start who o sent old new old.tried new.tried same here
+    meant_picture all start who o moment sent old new old.tried new.tried same here
     (subst (λ (l : List (Address × List ℕ)). WereTried l old.tried new.tried)
     (paid_alone (picture_request who o) old.front.limiter sent d.asked.answer) (d.asked.handled (blank 0) 0).up)
 meant_by_one all start (made_report due desk moment) old new same here d =
     meant_report all start due desk moment old new here d.made
+meant_by_one {P} {S} all start (judged_wake moment raised) old new same here d =
+    no_tries all start old.tried new.tried (ap (λ (s : History P S). s.tried) d.same)
 meant_by_one {P} {S} all start signalled old new same here d =
     no_tries all start old.tried new.tried (ap (λ (s : History P S). s.tried) d)
 

@@ -8,7 +8,8 @@ use Rattle.ingress.specs.declared.outcome.Outcome.{Outcome}
 use Rattle.media_front.specs.Fronts.{Arrival}
 use Rattle.event_loop.specs.Moments.{AreUpTo, latest, RiseFrom}
 use Rattle.event_loop.specs.Turns.{Turn, History, Does, HaveDone, owed, passed, took, lost, looked, gave_ticks}
-use Rattle.event_loop.specs.Turns.{let_wait, let_some_wait, asked_picture, made_report, signalled}
+use Rattle.event_loop.specs.Turns.{let_wait, let_some_wait, entered_desk, saw_desk, wanted_picture, chose_sources}
+use Rattle.event_loop.specs.Turns.{asked_picture, made_report, judged_wake, signalled}
 use Rattle.event_loop.specs.Totals.{taken_in}
 use Rattle.event_loop.specs.Tries.{moments_in}
 use Rattle.event_loop.proofs.TurnLemmas.{told_by_one, told_by_all}
@@ -86,8 +87,13 @@ rise_by_one (looked moment) before xs old new d is rise = one_more old.told befo
 rise_by_one (gave_ticks due moment) before xs old new d is rise = none_more xs rise
 rise_by_one (let_wait desk moment) before xs old new d is rise = none_more xs rise
 rise_by_one (let_some_wait desk moment) before xs old new d is rise = none_more xs rise
-rise_by_one (asked_picture o sent) before xs old new d is rise = none_more xs rise
+rise_by_one (entered_desk desk) before xs old new d is rise = none_more xs rise
+rise_by_one (saw_desk later version desk moment) before xs old new d is rise = none_more xs rise
+rise_by_one (wanted_picture source moment) before xs old new d is rise = none_more xs rise
+rise_by_one (chose_sources moment sources) before xs old new d is rise = none_more xs rise
+rise_by_one (asked_picture o moment sent) before xs old new d is rise = none_more xs rise
 rise_by_one (made_report due desk moment) before xs old new d is rise = none_more xs rise
+rise_by_one (judged_wake moment raised) before xs old new d is rise = none_more xs rise
 rise_by_one signalled before xs old new d is rise = none_more xs rise
 
 -- if these rise behind what was told before, they rise with those of the turns
@@ -127,8 +133,13 @@ taken_rise (passed came ∷ ts) m n low rise = taken_rise ts m n low rise
 taken_rise (gave_ticks due moment ∷ ts) m n low rise = taken_rise ts m n low rise
 taken_rise (let_wait desk moment ∷ ts) m n low rise = taken_rise ts m n low rise
 taken_rise (let_some_wait desk moment ∷ ts) m n low rise = taken_rise ts m n low rise
-taken_rise (asked_picture o sent ∷ ts) m n low rise = taken_rise ts m n low rise
+taken_rise (entered_desk desk ∷ ts) m n low rise = taken_rise ts m n low rise
+taken_rise (saw_desk later version desk moment ∷ ts) m n low rise = taken_rise ts m n low rise
+taken_rise (wanted_picture source moment ∷ ts) m n low rise = taken_rise ts m n low rise
+taken_rise (chose_sources moment sources ∷ ts) m n low rise = taken_rise ts m n low rise
+taken_rise (asked_picture o moment sent ∷ ts) m n low rise = taken_rise ts m n low rise
 taken_rise (made_report due desk moment ∷ ts) m n low rise = taken_rise ts m n low rise
+taken_rise (judged_wake moment raised ∷ ts) m n low rise = taken_rise ts m n low rise
 taken_rise (signalled ∷ ts) m n low rise = taken_rise ts m n low rise
 
 pub arrivals_rise : {P S : Type 0} (turns : List Turn) (old new : History P S) → HaveDone turns old new

@@ -1,27 +1,30 @@
 -- Single steps of a round.
-use Rattle.std.proofs.Common.{◌≡◌, ◌≤◌, ◌+◌, ℕ, Bool, true, false, List, [], ◌∷◌, ◌++◌, length, take, Option, Some}
+use Rattle.std.proofs.Common.{◌≡◌, ◌<◌, ◌≤◌, ◌+◌, ℕ, Bool, true, false, List, [], ◌∷◌, ◌++◌, length, take, Option, Some}
 use Rattle.std.proofs.Common.{Result, Ok, Err, OnOk, OnErr, IfOk, IsErr, refl, ap, sym, subst, ◌∙◌, arith}
-use Rattle.std.proofs.Common.{length-append, inr}
+use Rattle.std.proofs.Common.{length-append, inr, map, get_or}
 use Rattle.std.specs.List.{AllByRecursion, flat_map}
 use Rattle.std.specs.Result.{MatchResult}
-use Rattle.std.proofs.lemmas.List.{append-nil, flat_map_more}
+use Rattle.std.proofs.lemmas.List.{append-nil, flat_map_more, map-append, take_more}
 use Rattle.std.proofs.lemmas.Fn.{FoldsTo-push}
 use Rattle.desk_rows.specs.Desk.{Desk}
 use Rattle.published_desk.specs.Published.{NoticeOf, ReaderOf}
 use Rattle.udp_wire.specs.Attempts.{Attempt}
 use Rattle.udp_wire.specs.declared.ending.FrontFault.{FrontFault}
 use Rattle.bridge_stats.specs.Stats.{StatsOf}
+use Rattle.picture_requests.specs.declared.source.VideoSource.{VideoSource}
 use Rattle.media_front.specs.Fronts.{FrontOf}
 use Rattle.media_front.specs.Waits.{HaveWaited, HaveWaitedInPart, video_origins}
+use Rattle.event_loop.specs.declared.kept.FrontKept.{FrontKept}
 use Rattle.event_loop.specs.Came.{Came, datagram, other, nothing, came_by}
 use Rattle.event_loop.specs.declared.inlet.Read.{Read}
 use Rattle.event_loop.specs.declared.inlet.Read.TheVariants.{Datagram, Other, Nothing}
 use Rattle.event_loop.specs.inner.Reading.{IsReadOnce, is_something}
 use Rattle.event_loop.specs.Moments.{AreUpTo}
 use Rattle.event_loop.specs.Turns.{Turn, History, history, Does, HaveDone, HasActed, owed, passed, looked, gave_ticks}
-use Rattle.event_loop.specs.Turns.{let_wait, let_some_wait, made_report}
-use Rattle.event_loop.specs.Shapes.{IsPassed, AreAllRead, most_datagrams, IsPicture, waits, IsDue, IsPassing}
-use Rattle.event_loop.specs.Shapes.{IsTakenIn, IsRound, IsRoundAfterSleep, AreRounds, BeginAsRounds, signals}
+use Rattle.event_loop.specs.Turns.{let_wait, let_some_wait, asked_picture, made_report, judged_wake}
+use Rattle.event_loop.specs.Kept.{asked_origin}
+use Rattle.event_loop.specs.Shapes.{IsPassed, AreAllRead, most_datagrams, AsksDue, picture_at, waits, IsDue}
+use Rattle.event_loop.specs.Shapes.{IsPassing, IsTakenIn, IsRound, IsRoundAfterSleep, AreRounds, BeginAsRounds, signals}
 use Rattle.event_loop.proofs.TurnLemmas.{done_one, done_both, all_both}
 
 -- ---- results
@@ -67,27 +70,30 @@ on_ok {A} {B} {C} r a is k = subst (λ (q : Result A B). OnOk q C) is k
 -- ---- histories
 
 pub looked_same : {P S : Type 0} (front : FrontOf P S) (one came : List Came) (told later : List ℕ)
-    (tried : Option (List Attempt)) (last : ℕ) (stats : StatsOf) (moment : ℕ)
+    (tried : Option (List Attempt)) (last : ℕ) (stats : StatsOf) (kept : FrontKept) (moment : ℕ)
     → came ≡ one → AreUpTo moment told → later ≡ told ++ moment ∷ []
-    → HaveDone (looked moment ∷ []) (history front one told tried last stats)
-    (history front came later tried last stats)
-looked_same front one came told later tried last stats moment same rising is =
-    done_one (looked moment) (history front one told tried last stats) (history front came later tried last stats)
+    → HaveDone (looked moment ∷ []) (history front one told tried last stats kept)
+    (history front came later tried last stats kept)
+looked_same front one came told later tried last stats kept moment same rising is =
+    done_one (looked moment) (history front one told tried last stats kept)
+    (history front came later tried last stats kept)
     (record {
       rising = rising;
       same =
-          ap (λ (l : List Came). history front l later tried last stats) same
-          ∙ ap (λ (l : List ℕ). history front one l tried last stats) is;
+          ap (λ (l : List Came). history front l later tried last stats kept) same
+          ∙ ap (λ (l : List ℕ). history front one l tried last stats kept) is;
     })
 
 pub passed_at : {P S : Type 0} (front : FrontOf P S) (one more : List Came) (told later : List ℕ)
-    (tried : Option (List Attempt)) (last : ℕ) (stats : StatsOf) (came : Came)
+    (tried : Option (List Attempt)) (last : ℕ) (stats : StatsOf) (kept : FrontKept) (came : Came)
     → more ≡ one ++ came ∷ [] → later ≡ told
-    → HaveDone (passed came ∷ []) (history front one told tried last stats) (history front more later tried last stats)
-passed_at front one more told later tried last stats came is same =
-    done_one (passed came) (history front one told tried last stats) (history front more later tried last stats)
-    (ap (λ (c : List Came). history front c later tried last stats) is
-    ∙ ap (λ (t : List ℕ). history front (one ++ came ∷ []) t tried last stats) same)
+    → HaveDone (passed came ∷ []) (history front one told tried last stats kept)
+    (history front more later tried last stats kept)
+passed_at front one more told later tried last stats kept came is same =
+    done_one (passed came) (history front one told tried last stats kept)
+    (history front more later tried last stats kept)
+    (ap (λ (c : List Came). history front c later tried last stats kept) is
+    ∙ ap (λ (t : List ℕ). history front (one ++ came ∷ []) t tried last stats kept) same)
 
 -- ---- reads
 
@@ -172,10 +178,10 @@ waits_by (Err e) desk moment old new ok err kept asker same = (
   tt {0},
 )
 
-pub are_due : (desk : Desk) (moment : ℕ) (beats pictures reports : List Turn) (due report : Bool)
-    → beats ≡ gave_ticks due moment ∷ waits due desk moment → AllByRecursion IsPicture pictures
-    → reports ≡ made_report report desk moment ∷ [] → IsDue desk moment (beats ++ (pictures ++ reports))
-are_due desk moment beats pictures reports due report beat asked made = record {
+pub are_due : (version : ℕ) (desk : Desk) (moment : ℕ) (beats pictures reports : List Turn) (due report : Bool)
+    → beats ≡ gave_ticks due moment ∷ waits due desk moment → AsksDue version desk moment pictures
+    → reports ≡ made_report report desk moment ∷ [] → IsDue version desk moment (beats ++ (pictures ++ reports))
+are_due version desk moment beats pictures reports due report beat asked made = record {
   due = due;
   pictures = pictures;
   asked = asked;
@@ -184,6 +190,27 @@ are_due desk moment beats pictures reports due report beat asked made = record {
       ap (λ (l : List Turn). l ++ (pictures ++ reports)) beat
       ∙ ap (λ (l : List Turn). (gave_ticks due moment ∷ waits due desk moment) ++ (pictures ++ l)) made;
 }
+
+-- ---- pictures
+
+-- one picture more
+pub pictures_more : {P S : Type 0} (moment : ℕ) (sources : List VideoSource) (i : ℕ) (d : VideoSource)
+    (asked : List (VideoSource × Bool)) (sent : Bool) (last : List Turn) (a b c : History P S)
+    → i < length sources → map (λ (p : VideoSource × Bool). p.0) asked ≡ take i sources
+    → HaveDone (map (picture_at moment) asked) a b
+    → last ≡ asked_picture (asked_origin (get_or sources i d)) moment sent ∷ [] → HaveDone last b c
+    → (all : List (VideoSource × Bool)) × (map (λ (p : VideoSource × Bool). p.0) all ≡ take (i + 1) sources)
+    × HaveDone (map (picture_at moment) all) a c
+pictures_more moment sources i d asked sent last a b c low these far is next =
+    let source : VideoSource = get_or sources i d in
+    let one : VideoSource × Bool = (source, sent) in (
+      asked ++ one ∷ [],
+      map-append (λ (p : VideoSource × Bool). p.0) asked (one ∷ [])
+          ∙ (ap (λ (l : List VideoSource). l ++ source ∷ []) these ∙ sym (take_more sources i d low)),
+      subst (λ (l : List Turn). HaveDone l a c) (sym (map-append (picture_at moment) asked (one ∷ [])))
+          (done_both (map (picture_at moment) asked) (picture_at moment one ∷ []) a b c far
+          (subst (λ (l : List Turn). HaveDone l b c) is next)),
+    )
 
 -- ---- rounds
 
@@ -194,7 +221,7 @@ passing reads beats read moment due is =
     record { reads = reads; read = read; moment = moment; due = due; are = ap (λ (l : List Turn). reads ++ l) is }
 
 pub round_of : (notice : NoticeOf) (old new : Option ReaderOf) (entry woken : List Turn) → IsTakenIn old new entry
-    → (wake : ℕ) (raised : Bool) → woken ≡ looked wake ∷ signals raised
+    → (wake : ℕ) (raised : Bool) → woken ≡ looked wake ∷ judged_wake wake raised ∷ signals raised
     → IsRound notice old new (owed notice ∷ (entry ++ woken))
 round_of notice old new entry woken entered wake raised is = record {
   entry = entry;

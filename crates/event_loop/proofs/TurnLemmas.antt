@@ -4,7 +4,8 @@ use Rattle.std.specs.List.{flat_map, AllByRecursion}
 use Rattle.std.proofs.lemmas.List.{append-nil}
 use Rattle.event_loop.specs.Came.{Came}
 use Rattle.event_loop.specs.Turns.{Turn, History, Does, HaveDone, owed, passed, took, lost, looked, gave_ticks}
-use Rattle.event_loop.specs.Turns.{let_wait, let_some_wait, asked_picture, made_report, signalled}
+use Rattle.event_loop.specs.Turns.{let_wait, let_some_wait, entered_desk, saw_desk, wanted_picture, chose_sources}
+use Rattle.event_loop.specs.Turns.{asked_picture, made_report, judged_wake, signalled}
 use Rattle.event_loop.specs.Tries.{came_in, moments_in}
 
 pub done_both : {P S : Type 0} (xs ys : List Turn) (a b c : History P S) → HaveDone xs a b → HaveDone ys b c
@@ -34,8 +35,14 @@ came_by_one {P} {S} (looked moment) old new d = ap (λ (s : History P S). s.came
 came_by_one {P} {S} (gave_ticks due moment) old new d = ap (λ (s : History P S). s.came) d.same ∙ none old.came
 came_by_one {P} {S} (let_wait desk moment) old new d = ap (λ (s : History P S). s.came) d.same ∙ none old.came
 came_by_one {P} {S} (let_some_wait desk moment) old new d = ap (λ (s : History P S). s.came) d.same ∙ none old.came
-came_by_one {P} {S} (asked_picture o sent) old new d = ap (λ (s : History P S). s.came) d.same ∙ none old.came
+came_by_one {P} {S} (entered_desk desk) old new d = ap (λ (s : History P S). s.came) d ∙ none old.came
+came_by_one {P} {S} (saw_desk later version desk moment) old new d =
+    ap (λ (s : History P S). s.came) d.same ∙ none old.came
+came_by_one {P} {S} (wanted_picture source moment) old new d = ap (λ (s : History P S). s.came) d ∙ none old.came
+came_by_one {P} {S} (chose_sources moment sources) old new d = ap (λ (s : History P S). s.came) d.same ∙ none old.came
+came_by_one {P} {S} (asked_picture o moment sent) old new d = ap (λ (s : History P S). s.came) d.same ∙ none old.came
 came_by_one {P} {S} (made_report due desk moment) old new d = ap (λ (s : History P S). s.came) d.same ∙ none old.came
+came_by_one {P} {S} (judged_wake moment raised) old new d = ap (λ (s : History P S). s.came) d.same ∙ none old.came
 came_by_one {P} {S} signalled old new d = ap (λ (s : History P S). s.came) d ∙ none old.came
 
 pub came_by_all : {P S : Type 0} (turns : List Turn) (old new : History P S) → HaveDone turns old new
@@ -56,8 +63,14 @@ told_by_one {P} {S} (looked moment) old new d = ap (λ (s : History P S). s.told
 told_by_one {P} {S} (gave_ticks due moment) old new d = ap (λ (s : History P S). s.told) d.same ∙ none old.told
 told_by_one {P} {S} (let_wait desk moment) old new d = ap (λ (s : History P S). s.told) d.same ∙ none old.told
 told_by_one {P} {S} (let_some_wait desk moment) old new d = ap (λ (s : History P S). s.told) d.same ∙ none old.told
-told_by_one {P} {S} (asked_picture o sent) old new d = ap (λ (s : History P S). s.told) d.same ∙ none old.told
+told_by_one {P} {S} (entered_desk desk) old new d = ap (λ (s : History P S). s.told) d ∙ none old.told
+told_by_one {P} {S} (saw_desk later version desk moment) old new d =
+    ap (λ (s : History P S). s.told) d.same ∙ none old.told
+told_by_one {P} {S} (wanted_picture source moment) old new d = ap (λ (s : History P S). s.told) d ∙ none old.told
+told_by_one {P} {S} (chose_sources moment sources) old new d = ap (λ (s : History P S). s.told) d.same ∙ none old.told
+told_by_one {P} {S} (asked_picture o moment sent) old new d = ap (λ (s : History P S). s.told) d.same ∙ none old.told
 told_by_one {P} {S} (made_report due desk moment) old new d = ap (λ (s : History P S). s.told) d.same ∙ none old.told
+told_by_one {P} {S} (judged_wake moment raised) old new d = ap (λ (s : History P S). s.told) d.same ∙ none old.told
 told_by_one {P} {S} signalled old new d = ap (λ (s : History P S). s.told) d ∙ none old.told
 
 pub told_by_all : {P S : Type 0} (turns : List Turn) (old new : History P S) → HaveDone turns old new

@@ -3,10 +3,12 @@ pub mod Came
 pub mod Logs
 pub mod Moments
 pub mod Counted
+pub mod Kept
 pub mod Turns
 pub mod Shapes
 pub mod Runs
 pub mod Tries
+pub mod Asking
 pub mod Totals
 pub mod Sleeps
 pub mod Traced

@@ -1,25 +1,32 @@
 -- What the rounds of a front are (own).
-use Rattle.std.specs.Prelude.{◌≡◌, ◌⊎◌, ◌≤◌, ℕ, Bool, true, false, List, [], ◌∷◌, ◌++◌, length, Option, Some, None}
+use Rattle.std.specs.Prelude.{◌≡◌, ◌⊎◌, ◌≤◌, ℕ, Bool, true, false, List, [], ◌∷◌, ◌++◌, length, map, Option, Some, None}
 use Rattle.std.specs.List.{AllByRecursion, FoldsTo, flat_map}
 use mathlib.Core.List.{IsPrefix}
 use Rattle.rtp_codec.specs.declared.address.Address.{Address}
 use Rattle.desk_rows.specs.Desk.{Desk}
 use Rattle.published_desk.specs.Published.{NoticeOf, ReaderOf, after_lists}
 use Rattle.ingress.specs.declared.outcome.Outcome.{Outcome}
+use Rattle.picture_requests.specs.declared.source.VideoSource.{VideoSource}
+use Rattle.picture_requests.specs.Sources.{source_at}
 use Rattle.media_front.specs.Fronts.{Arrival}
 use Rattle.event_loop.specs.Came.{Came, datagram, other, nothing}
-use Rattle.event_loop.specs.Turns.{Turn, owed, passed, took, lost, looked, gave_ticks, let_wait, let_some_wait}
-use Rattle.event_loop.specs.Turns.{asked_picture, made_report, signalled}
+use Rattle.event_loop.specs.Kept.{asked_origin}
+use Rattle.event_loop.specs.Turns.{Turn, owed, passed, took, looked, gave_ticks, let_wait, entered_desk, saw_desk}
+use Rattle.event_loop.specs.Turns.{wanted_picture, chose_sources, asked_picture, made_report, judged_wake, signalled}
 
 -- how many datagrams a round takes in at most
 abbrev pub most_datagrams : ℕ
 most_datagrams = 64
 
--- The sender of the video source whose probation a datagram ended was asked for a picture, and nobody if it ended none.
-abbrev pub AsksFirst : Address → (ended : Option ℕ) → List Turn → Type 0
-AsksFirst from None turns = turns ≡ []
-AsksFirst from (Some ssrc) turns =
-    (sent : Bool) × (turns ≡ asked_picture (record { address = from; ssrc = ssrc }) sent ∷ [])
+-- The sender of the video source whose probation a datagram ended was asked for a picture at the datagram's moment, and
+-- nobody if it ended none.
+abbrev pub AsksFirst : Address → (moment : ℕ) → (ended : Option ℕ) → List Turn → Type 0
+AsksFirst from moment None turns = turns ≡ []
+AsksFirst from moment (Some ssrc) turns =
+    (sent : Bool)
+    × (turns
+    ≡ wanted_picture (source_at ssrc from) moment
+    ∷ asked_picture (record { address = from; ssrc = ssrc }) moment sent ∷ [])
 
 -- A datagram was read and taken in at these rows, and then a picture was asked for if it ended a probation.
 pub record IsTakenAt (desk : Desk) (turns : List Turn) : Type 0 where
@@ -29,7 +36,7 @@ pub record IsTakenAt (desk : Desk) (turns : List Turn) : Type 0 where
   pub ended : Option ℕ
   pub asked : List Turn
   pub rows : arrival.desk ≡ desk
-  pub first : AsksFirst arrival.from ended asked
+  pub first : AsksFirst arrival.from arrival.moment ended asked
   pub are : turns ≡ took late arrival outcome ended ∷ asked
 
 -- One read: a datagram was taken in at these rows, or something else was read.
@@ -46,19 +53,21 @@ IsSomething nothing = ⊥
 abbrev pub IsPassed : List Turn → Type 0
 IsPassed turns = (came : Came) × IsSomething came × (turns ≡ passed came ∷ [])
 
--- A source was asked for a picture.
-abbrev pub IsPicture : Turn → Type 0
-IsPicture (asked_picture o sent) = Unit {0}
-IsPicture (passed came) = ⊥
-IsPicture (took late arrival outcome ended) = ⊥
-IsPicture (owed notice) = ⊥
-IsPicture (lost late arrival) = ⊥
-IsPicture (looked moment) = ⊥
-IsPicture (gave_ticks due moment) = ⊥
-IsPicture (let_wait at moment) = ⊥
-IsPicture (let_some_wait at moment) = ⊥
-IsPicture (made_report due at moment) = ⊥
-IsPicture signalled = ⊥
+-- a source was asked for a picture at this moment, if its address had tokens
+abbrev pub picture_at : (moment : ℕ) → VideoSource × Bool → Turn
+picture_at moment asked = asked_picture (asked_origin asked.0) moment asked.1
+
+-- The sources that were due at this moment were asked for pictures, one after another, and no other source.
+pub record AreAsked (moment : ℕ) (turns : List Turn) : Type 0 where
+  pub asked : List (VideoSource × Bool)
+  pub are : turns ≡ chose_sources moment (map (λ a. a.0) asked) ∷ map (picture_at moment) asked
+
+-- A version of the desk was seen at this moment, and then the sources were asked for pictures that were due.
+pub record AsksDue (version : ℕ) (desk : Desk) (moment : ℕ) (turns : List Turn) : Type 0 where
+  pub later : Bool
+  pub rest : List Turn
+  pub asked : AreAsked moment rest
+  pub are : turns ≡ saw_desk later version desk moment ∷ rest
 
 -- the last read found nothing, or there was none
 abbrev pub found_nothing : Bool → List Turn
@@ -80,22 +89,22 @@ waits true desk moment = let_wait desk moment ∷ []
 waits false desk moment = []
 
 -- What is due at this moment: ticks, and where one was due a wait of each video source, then pictures and reports.
-pub record IsDue (desk : Desk) (moment : ℕ) (turns : List Turn) : Type 0 where
+pub record IsDue (version : ℕ) (desk : Desk) (moment : ℕ) (turns : List Turn) : Type 0 where
   pub due : Bool
   pub pictures : List Turn
-  pub asked : AllByRecursion IsPicture pictures
+  pub asked : AsksDue version desk moment pictures
   pub report : Bool
   pub are : turns
       ≡ (gave_ticks due moment ∷ waits due desk moment) ++ (pictures ++ made_report report desk moment ∷ [])
 
--- All that waited was taken in at these rows, and then came what was due at one moment.
-pub record IsTaking (desk : Desk) (turns : List Turn) : Type 0 where
+-- All that waited was taken in at the rows of this version, and then came what was due at one moment.
+pub record IsTaking (version : ℕ) (desk : Desk) (turns : List Turn) : Type 0 where
   pub reads : List Turn
   pub read : AreAllRead (IsTaken desk) reads
   pub moment : ℕ
   pub rest : List Turn
-  pub due : IsDue desk moment rest
-  pub are : turns ≡ reads ++ looked moment ∷ rest
+  pub due : IsDue version desk moment rest
+  pub are : turns ≡ entered_desk desk ∷ (reads ++ looked moment ∷ rest)
 
 -- Without rows, what waited was read and not taken in, and the ticks were given that were due.
 pub record IsPassing (turns : List Turn) : Type 0 where
@@ -112,7 +121,8 @@ IsEntryOf old new = (new.publisher ≡ old.publisher) × (new.start ≡ old.star
 -- By a reader, these turns took in what came: at the rows of one entry, or without rows, if the publisher has ended.
 abbrev pub IsEntered : ReaderOf → Option ReaderOf → List Turn → Type 0
 IsEntered old (Some new) turns =
-    (IsEntryOf old new × IsTaking (after_lists new.start new.lists) turns) ⊎ ((new ≡ old) × IsPassing turns)
+    (IsEntryOf old new × IsTaking (length new.lists) (after_lists new.start new.lists) turns)
+    ⊎ ((new ≡ old) × IsPassing turns)
 IsEntered old None turns = ⊥
 
 -- The same of a front that has a reader.
@@ -132,7 +142,7 @@ pub record IsRound (notice : NoticeOf) (old new : Option ReaderOf) (turns : List
   pub entered : IsTakenIn old new entry
   pub wake : ℕ
   pub raised : Bool
-  pub are : turns ≡ owed notice ∷ (entry ++ looked wake ∷ signals raised)
+  pub are : turns ≡ owed notice ∷ (entry ++ looked wake ∷ judged_wake wake raised ∷ signals raised)
 
 -- Before a round, the front looked at its watch and slept.
 pub record IsRoundAfterSleep (old : Option ReaderOf) (turns : List Turn) (new : Option ReaderOf) : Type 0 where

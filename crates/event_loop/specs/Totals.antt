@@ -8,7 +8,8 @@ use Rattle.bridge_stats.specs.Runs.{AreAllNoted}
 use Rattle.media_front.specs.Fronts.{Arrival}
 use Rattle.event_loop.specs.Counted.{IsNoteOf}
 use Rattle.event_loop.specs.Turns.{Turn, owed, passed, took, lost, looked, gave_ticks, let_wait, let_some_wait}
-use Rattle.event_loop.specs.Turns.{asked_picture, made_report, signalled}
+use Rattle.event_loop.specs.Turns.{entered_desk, saw_desk, wanted_picture, chose_sources, asked_picture, made_report}
+use Rattle.event_loop.specs.Turns.{judged_wake, signalled}
 
 -- the datagram that a turn took in, with its outcome, or none
 abbrev pub taken_in : Turn → List (Arrival × Outcome)
@@ -20,8 +21,13 @@ taken_in (looked moment) = []
 taken_in (gave_ticks due moment) = []
 taken_in (let_wait desk moment) = []
 taken_in (let_some_wait desk moment) = []
-taken_in (asked_picture o sent) = []
+taken_in (entered_desk desk) = []
+taken_in (saw_desk later version desk moment) = []
+taken_in (wanted_picture source moment) = []
+taken_in (chose_sources moment sources) = []
+taken_in (asked_picture o moment sent) = []
 taken_in (made_report due desk moment) = []
+taken_in (judged_wake moment raised) = []
 taken_in signalled = []
 
 -- The notes of datagrams with their outcomes: one for each of them, in their order.

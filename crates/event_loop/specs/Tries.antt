@@ -14,7 +14,8 @@ use Rattle.media_front.specs.Fronts.{FrontOf, Arrival, HasIngested}
 use Rattle.media_front.specs.Waits.{HaveWaited, video_origins}
 use Rattle.event_loop.specs.Came.{Came, datagram}
 use Rattle.event_loop.specs.Turns.{Turn, History, Does, HaveDone, owed, passed, took, lost, looked, gave_ticks}
-use Rattle.event_loop.specs.Turns.{let_wait, let_some_wait, asked_picture, made_report, signalled}
+use Rattle.event_loop.specs.Turns.{let_wait, let_some_wait, entered_desk, saw_desk, wanted_picture, chose_sources}
+use Rattle.event_loop.specs.Turns.{asked_picture, made_report, judged_wake, signalled}
 
 -- Why a datagram is tried: the receive side answers one that arrived, or asks again as time passes for a source; a
 -- report is due; or a source is asked for a picture.
@@ -22,7 +23,7 @@ pub data Why : Type 0 where
   answers : (late : Bool) → Arrival → Ingested → Why
   asks_again : Desk → (moment : ℕ) → Origin → Ingested → Why
   reports : Desk → (moment : ℕ) → Why
-  asks_picture : Origin → Why
+  asks_picture : Origin → (moment : ℕ) → Why
 
 -- a datagram that is tried, and why
 pub record Try : Type 0 where
@@ -69,8 +70,8 @@ IsMeant {P} {S} turns start what (reports desk moment) =
     (old : History P S) × (new : History P S) × HasDone turns start (made_report true desk moment) old new
     × ((told : List (Address × List ℕ)) × TellsSenders old.front.ingress new.front.ingress told desk moment
     × Contains told what)
-IsMeant {P} {S} turns start what (asks_picture o) =
-    (old : History P S) × (new : History P S) × HasDone turns start (asked_picture o true) old new
+IsMeant {P} {S} turns start what (asks_picture o moment) =
+    (old : History P S) × (new : History P S) × HasDone turns start (asked_picture o moment true) old new
     × (what ≡ picture_request start.front.ingress.asker o)
 
 -- Over these turns the front tried to send these datagrams alone, each once and in this order, each for its reason.
@@ -89,8 +90,13 @@ came_in (looked moment) = []
 came_in (gave_ticks due moment) = []
 came_in (let_wait desk moment) = []
 came_in (let_some_wait desk moment) = []
-came_in (asked_picture o sent) = []
+came_in (entered_desk desk) = []
+came_in (saw_desk later version desk moment) = []
+came_in (wanted_picture source moment) = []
+came_in (chose_sources moment sources) = []
+came_in (asked_picture o moment sent) = []
 came_in (made_report due desk moment) = []
+came_in (judged_wake moment raised) = []
 came_in signalled = []
 
 -- the moments that a turn was told
@@ -103,6 +109,11 @@ moments_in (owed notice) = []
 moments_in (gave_ticks due moment) = []
 moments_in (let_wait desk moment) = []
 moments_in (let_some_wait desk moment) = []
-moments_in (asked_picture o sent) = []
+moments_in (entered_desk desk) = []
+moments_in (saw_desk later version desk moment) = []
+moments_in (wanted_picture source moment) = []
+moments_in (chose_sources moment sources) = []
+moments_in (asked_picture o moment sent) = []
 moments_in (made_report due desk moment) = []
+moments_in (judged_wake moment raised) = []
 moments_in signalled = []

@@ -1,5 +1,6 @@
 -- What a front does, turn by turn (own).
-use Rattle.std.specs.Prelude.{◌≡◌, ◌-◌, nat_lt, if◌then◌else◌, ℕ, Bool, true, false, List, [], ◌∷◌, ◌++◌, map, Option}
+use Rattle.std.specs.Prelude.{◌≡◌, ◌-◌, nat_eq, nat_lt, not, if◌then◌else◌, ℕ, Bool, true, false, List, [], ◌∷◌, ◌++◌}
+use Rattle.std.specs.Prelude.{map, Option}
 use Rattle.std.specs.Bool.{MatchBool}
 use Rattle.std.specs.List.{FoldsTo}
 use Rattle.desk_rows.specs.Desk.{Desk}
@@ -8,6 +9,8 @@ use Rattle.media_items.specs.Inputs.{Input}
 use Rattle.ingress.specs.Sources.{Origin}
 use Rattle.ingress.specs.declared.outcome.Outcome.{Outcome}
 use Rattle.bridge_stats.specs.Stats.{StatsOf}
+use Rattle.picture_requests.specs.declared.source.VideoSource.{VideoSource}
+use Rattle.picture_requests.specs.Requests.{due as due_sources}
 use Rattle.udp_wire.specs.Attempts.{Attempt}
 use Rattle.udp_wire.specs.Pacing.{most_ticks, is_behind, report_due, after_report}
 use Rattle.media_front.specs.FedLanes.{owing_notice, after_signal, AllAreGiven}
@@ -18,10 +21,13 @@ use Rattle.media_front.specs.Probations.{EndsProbation}
 use Rattle.event_loop.specs.Came.{Came, datagram}
 use Rattle.event_loop.specs.Counted.{all_pass, IsCounted}
 use Rattle.event_loop.specs.Moments.{AreUpTo}
+use Rattle.event_loop.specs.declared.kept.FrontKept.{FrontKept}
+use Rattle.event_loop.specs.Kept.{after_desk, after_wanted, after_picture, after_entry, is_wake_due, after_judging}
 
 -- A front and its history, oldest first: what was read where its datagrams come in, the moments that its watch told,
--- and what was tried on its wire, if that is known. The moment at which the ticks that were due were given last. And
--- what it counts of the datagrams that it took in.
+-- and what was tried on its wire, if that is known. The moment at which the ticks that were due were given last. What
+-- it counts of the datagrams that it took in. And what it keeps for its next round: whom it is to ask for pictures, and
+-- when it wakes its lanes.
 pub record History (P S : Type 0) : Type 0 where
   pub front : FrontOf P S
   pub came : List Came
@@ -29,12 +35,13 @@ pub record History (P S : Type 0) : Type 0 where
   pub tried : Option (List Attempt)
   pub ticked : ℕ
   pub stats : StatsOf
+  pub kept : FrontKept
 
 -- the same of its parts
 abbrev pub history : {P S : Type 0} → FrontOf P S → List Came → List ℕ → Option (List Attempt) → ℕ → StatsOf
-    → History P S
-history front came told tried ticked stats =
-    record { front = front; came = came; told = told; tried = tried; ticked = ticked; stats = stats }
+    → FrontKept → History P S
+history front came told tried ticked stats kept =
+    record { front = front; came = came; told = told; tried = tried; ticked = ticked; stats = stats; kept = kept }
 
 -- from how many nanoseconds without a tick on a front stood still: 1 s
 abbrev pub stood_still : ℕ
@@ -63,10 +70,20 @@ pub data Turn : Type 0 where
   let_wait : Desk → (moment : ℕ) → Turn
   -- the same for the first of them, until memory ran out
   let_some_wait : Desk → (moment : ℕ) → Turn
-  -- the source of this origin was asked for a picture, if its address had tokens
-  asked_picture : Origin → (sent : Bool) → Turn
+  -- it was noted whether the desk of these rows has members
+  entered_desk : Desk → Turn
+  -- a version of the desk was seen, if it was another one than the last, for pictures that slots need
+  saw_desk : (later : Bool) → (version : ℕ) → Desk → (moment : ℕ) → Turn
+  -- a source is to be asked for a picture
+  wanted_picture : VideoSource → (moment : ℕ) → Turn
+  -- these sources were due to be asked for pictures at this moment
+  chose_sources : (moment : ℕ) → List VideoSource → Turn
+  -- the source of this origin was asked for a picture at this moment, if its address had tokens
+  asked_picture : Origin → (moment : ℕ) → (sent : Bool) → Turn
   -- the reports were made, if they were due
   made_report : (due : Bool) → Desk → (moment : ℕ) → Turn
+  -- it was judged at this moment whether the lanes are woken
+  judged_wake : (moment : ℕ) → (raised : Bool) → Turn
   -- the signals were raised
   signalled : Turn
 
@@ -116,6 +133,7 @@ pub record TakesArrival {P S : Type 0} (late : Bool) (arrival : Arrival) (outcom
       }
   pub asker : new.front.ingress.asker ≡ mid.ingress.asker
   pub counted : IsCounted (all_pass mid.limited new.front.limited) arrival outcome old.stats new.stats
+  pub kept : new.kept ≡ old.kept
 
 -- A datagram was read, and memory ran out: nothing was sent, given or counted, though the receive side may have taken
 -- it in.
@@ -128,6 +146,7 @@ pub record LosesArrival {P S : Type 0} (late : Bool) (arrival : Arrival) (old ne
   pub asker : new.front.ingress.asker ≡ mid.ingress.asker
   pub tried : new.tried ≡ old.tried
   pub stats : new.stats ≡ old.stats
+  pub kept : new.kept ≡ old.kept
 
 -- Nothing changed but the front and what was tried.
 abbrev pub HasActed : {P S : Type 0} → History P S → History P S → Type 0
@@ -154,10 +173,32 @@ pub record PassesTime {P S : Type 0} (whole : Bool) (desk : Desk) (moment : ℕ)
   pub asker : new.front.ingress.asker ≡ old.front.ingress.asker
   pub same : HasActed old new
 
--- A source was asked for a picture, or its address had too few tokens.
-pub record AsksPicture {P S : Type 0} (o : Origin) (sent : Bool) (old new : History P S) : Type 0 where
+-- Nothing changed but what is kept for the next round, to this.
+abbrev pub HasNoted : {P S : Type 0} → FrontKept → History P S → History P S → Type 0
+HasNoted kept old new = new ≡ record old { kept = kept }
+
+-- A version of the desk was seen, if it was another one than the last.
+pub record SeesDesk {P S : Type 0} (later : Bool) (version : ℕ) (desk : Desk) (moment : ℕ) (old new : History P S)
+    : Type 0 where
+  pub right : later ≡ not (nat_eq version old.kept.version)
+  pub same : HasNoted (after_desk later version desk moment old.kept) old new
+
+-- These are the sources that were due to be asked for pictures, and nothing was done.
+pub record ChoosesSources {P S : Type 0} (moment : ℕ) (sources : List VideoSource) (old new : History P S)
+    : Type 0 where
+  pub right : sources ≡ due_sources moment old.kept.pictures
+  pub same : new ≡ old
+
+-- A source was asked for a picture, which is noted with the moment, or its address had too few tokens.
+pub record AsksPicture {P S : Type 0} (o : Origin) (moment : ℕ) (sent : Bool) (old new : History P S) : Type 0 where
   pub asked : HasAsked o sent old.front new.front old.tried new.tried
-  pub same : HasActed old new
+  pub noted : new.kept ≡ after_picture o moment sent old.kept
+  pub same : new ≡ record old { front = new.front; tried = new.tried; kept = new.kept }
+
+-- It was judged whether the lanes are woken.
+pub record JudgesWake {P S : Type 0} (moment : ℕ) (raised : Bool) (old new : History P S) : Type 0 where
+  pub right : raised ≡ is_wake_due moment old.kept.has_members old.kept.wakes
+  pub same : HasNoted (after_judging moment old.kept) old new
 
 -- The reports were made, if they were due, and otherwise nothing was done.
 pub record MakesReports {P S : Type 0} (due : Bool) (desk : Desk) (moment : ℕ) (old new : History P S) : Type 0 where
@@ -180,8 +221,13 @@ Does old (looked moment) new = HasLooked moment old new
 Does old (gave_ticks due moment) new = GivesTicks due moment old new
 Does old (let_wait desk moment) new = PassesTime true desk moment old new
 Does old (let_some_wait desk moment) new = PassesTime false desk moment old new
-Does old (asked_picture o sent) new = AsksPicture o sent old new
+Does old (entered_desk desk) new = HasNoted (after_entry desk old.kept) old new
+Does old (saw_desk later version desk moment) new = SeesDesk later version desk moment old new
+Does old (wanted_picture source moment) new = HasNoted (after_wanted source moment old.kept) old new
+Does old (chose_sources moment sources) new = ChoosesSources moment sources old new
+Does old (asked_picture o moment sent) new = AsksPicture o moment sent old new
 Does old (made_report due desk moment) new = MakesReports due desk moment old new
+Does old (judged_wake moment raised) new = JudgesWake moment raised old new
 Does old signalled new = new ≡ record old { front = record old.front { feed = map after_signal old.front.feed } }
 
 -- The front did these, one after another, and nothing else.

@@ -1,12 +1,18 @@
 //! Laws of any number of rounds. The functions do nothing when they run.
 
-ghost use Rattle.std.specs.Prelude.{◌≡◌, ◌++◌, List, map};
+ghost use Rattle.std.specs.Prelude.{◌≡◌, ◌++◌, List, map, None};
 ghost use Rattle.std.specs.List.{flat_map};
 ghost use Rattle.media_front.specs.FedLanes.{lanes_in};
 ghost use Rattle.event_loop.specs.Moments.{RiseFrom};
 ghost use Rattle.event_loop.specs.Turns.{Turn, History, HaveDone};
 ghost use Rattle.event_loop.specs.Tries.{Try, AreMeant, came_in, moments_in};
 ghost use Rattle.event_loop.specs.Totals.{AreCounted, taken_in};
+ghost use Rattle.event_loop.specs.Asking.{steps_in};
+ghost use Rattle.event_loop.specs.Runs.{FrontAt};
+ghost use Rattle.event_loop.specs.Shapes.{AreRounds};
+ghost use Rattle.picture_requests.specs.declared.source.VideoSource.{VideoSource};
+ghost use Rattle.picture_requests.specs.Requests.{no_requests};
+ghost use Rattle.picture_requests.specs.Steps.{after_steps, AreApart};
 
 use media_workers::{Pace, Sink};
 
@@ -52,4 +58,19 @@ pub fn lanes_stay_the_same<P: Pace, S: Sink>()
         → lanes_in new.front.feed ≡ lanes_in old.front.feed }
     ensures asker { (turns : List Turn) (old new : History P S) → HaveDone turns old new
         → new.front.ingress.asker ≡ old.front.ingress.asker }
+{}
+
+/// Whatever a front does, whom it is to ask for pictures is what its turns say: the desks that it saw, the sources
+/// whose probation ended, and the requests that were sent, in order. So the laws of picture_requests hold of a front.
+pub fn requests_are_those_of_turns<P: Pace, S: Sink>()
+    ensures { (turns : List Turn) (old new : History P S) → HaveDone turns old new
+        → new.kept.pictures ≡ after_steps (flat_map steps_in turns) old.kept.pictures }
+{}
+
+/// Over whole rounds of a front that had none before, two requests for a picture of a source are at least half a second
+/// apart, unless the source's probation ended between them.
+pub fn pictures_are_half_a_second_apart<P: Pace, S: Sink>()
+    ensures { (source : VideoSource) (turns : List Turn) (old new : FrontAt P S)
+        → AreRounds old.reader new.reader turns → HaveDone turns old.history new.history
+        → old.history.kept.pictures ≡ no_requests → AreApart source None (flat_map steps_in turns) }
 {}

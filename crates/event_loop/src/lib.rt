@@ -6,7 +6,8 @@
 //! themselves.
 //!
 //! Contracts see all that a front does as a list of turns: what each changes in the front, in what was read, in the
-//! moments that its watch told, in what was tried on its wire, and in what is counted. They say it after a fault, too.
+//! moments that its watch told, in what was tried on its wire, in what is counted, and in what is kept for the next
+//! round. They say it after a fault, too.
 //! [`all_that_is_tried_is_meant`] says of any number of rounds why each datagram was tried,
 //! [`all_that_came_is_in_turns`] that each datagram that was read is in one turn, in order,
 //! [`all_that_is_taken_in_is_counted`] that each datagram that was taken in is counted once, and
@@ -22,8 +23,10 @@
 #![tactic(auto)]
 
 mod inlet;
+mod kept;
 mod laws;
 mod logs;
+mod noting;
 mod on_socket;
 mod reading;
 mod rounds;
@@ -35,9 +38,11 @@ mod wakes;
 mod watch;
 
 pub use self::inlet::{Inlet, Read};
+pub use self::kept::FrontKept;
 pub use self::laws::{
     all_that_came_is_in_turns, all_that_is_taken_in_is_counted, all_that_is_tried_is_meant,
-    lanes_stay_the_same, moments_never_go_back,
+    lanes_stay_the_same, moments_never_go_back, pictures_are_half_a_second_apart,
+    requests_are_those_of_turns,
 };
 pub use self::logs::{ReadLog, TryLog, WatchLog};
 pub use self::on_socket::read_datagram;

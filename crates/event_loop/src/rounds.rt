@@ -1,37 +1,27 @@
 //! The rounds of a front: what it does each time that it is woken.
 
 ghost use Rattle.std.specs.Prelude.{◌≡◌, ◌∷◌, [], ℕ, Bool, List, Some, OnOk};
-ghost use Rattle.event_loop.specs.Turns.{Turn, HaveDone, looked, gave_ticks, let_wait, made_report};
+ghost use Rattle.event_loop.specs.Turns.{Turn, HaveDone, looked, gave_ticks, let_wait, made_report, judged_wake};
 ghost use Rattle.event_loop.specs.Shapes.{IsDue, IsTaking, IsPassing, IsTakenIn, IsRound, waits, signals};
 
 use crate::inlet::Inlet;
 use crate::state::FrontState;
 use crate::trace::FrontTrace;
-use crate::wakes::Wakes;
 use crate::watch::Watch;
 use desk_rows::Rows;
 use media_workers::{Pace, PublisherName, Sink};
-use picture_requests::PictureRequests;
 use published_desk::{LaneReader, Notice};
 use std::alloc::Global;
 use std::sync::Wait;
 use udp_wire::{FrontFault, Wire};
 
-/// The rounds of a front: the front, its own reader of the published desk, and what it keeps from round to round.
+/// The rounds of a front: the front, and its own reader of the published desk.
 pub struct Rounds<N: PublisherName, P: Pace, S: Sink, I: Inlet, W: Wire, C: Watch> {
     pub(crate) alloc: Global,
     /// The front, with what it did.
     pub state: FrontState<N, P, S, I, W, C>,
     /// It is out while a round is under way, and after a fault.
     pub reader: Option<LaneReader>,
-    /// The version of the desk that `pictures` has seen.
-    pub(crate) version: u64,
-    /// The senders that are to be asked for a picture.
-    pub(crate) pictures: PictureRequests,
-    /// Whether the desk had members in the last round.
-    has_members: bool,
-    /// When the lanes are woken.
-    wakes: Wakes,
     /// What was read last.
     pub(crate) chunk: Vec<u8>,
     /// Where it tells what it does, if it is traced.
@@ -50,15 +40,10 @@ impl<N: PublisherName, P: Pace, S: Sink, I: Inlet, W: Wire, C: Watch> Rounds<N, 
         ensures state { result.state ≡ state }
         ensures reader { result.reader ≡ reader }
     {
-        let wakes = Wakes::begin(state.ticked);
         Self {
             alloc,
             state,
             reader,
-            version: 0,
-            pictures: PictureRequests::new(alloc),
-            has_members: false,
-            wakes,
             chunk,
             trace,
         }
@@ -72,10 +57,6 @@ impl<N: PublisherName, P: Pace, S: Sink, I: Inlet, W: Wire, C: Watch> Rounds<N, 
             alloc: _,
             state,
             reader: _,
-            version: _,
-            pictures: _,
-            has_members: _,
-            wakes: _,
             chunk: _,
             trace: _,
         } = self;
@@ -130,9 +111,9 @@ impl<N: PublisherName, P: Pace, S: Sink, I: Inlet, W: Wire, C: Watch> Rounds<N, 
     /// Takes in the datagrams that wait, and what is due.
     fn take_waiting(&mut self, version: u64, rows: &Rows) -> Result<(), FrontFault>
         ensures { (turns : List Turn) × HaveDone turns self.old.state self.new.state
-            × OnOk result (IsTaking rows.now turns) }
+            × OnOk result (IsTaking version rows.now turns) }
     {
-        self.has_members = !rows.members().is_empty();
+        self.state.enter(rows);
         self.trace.set_version(version);
         self.take_datagrams(rows)?;
         let now = self.state.look()?;
@@ -143,7 +124,7 @@ impl<N: PublisherName, P: Pace, S: Sink, I: Inlet, W: Wire, C: Watch> Rounds<N, 
     /// for the pictures that slots were given, and the reports are made that are due.
     fn take_due(&mut self, version: u64, rows: &Rows, now: u64) -> Result<(), FrontFault>
         ensures { (turns : List Turn) × HaveDone turns self.old.state self.new.state
-            × OnOk result (IsDue rows.now now turns) }
+            × OnOk result (IsDue version rows.now now turns) }
     {
         self.beat(rows, now)?;
         self.want_pictures(version, rows, now)?;
@@ -184,10 +165,11 @@ impl<N: PublisherName, P: Pace, S: Sink, I: Inlet, W: Wire, C: Watch> Rounds<N, 
     /// Wakes the lanes for what they were given, if they have to be woken in this round.
     fn wake<R: Wait>(&mut self, rt: &R) -> Result<(), FrontFault>
         ensures { (turns : List Turn) × HaveDone turns self.old.state self.new.state
-            × OnOk result ((moment : ℕ) × (raised : Bool) × (turns ≡ looked moment ∷ signals raised)) }
+            × OnOk result ((moment : ℕ) × (raised : Bool)
+            × (turns ≡ looked moment ∷ judged_wake moment raised ∷ signals raised)) }
     {
         let now = self.state.look()?;
-        if self.wakes.is_due(now, self.has_members) {
+        if self.state.judge(now) {
             self.state.signal(rt);
         }
         Ok(())

@@ -2,14 +2,15 @@
 
 ghost use Rattle.std.specs.Prelude.{◌≡◌, ◌∷◌, [], ◌≤◌, if◌then◌else◌, ℕ, List, length, IfOk, OnOk, OnErr};
 ghost use Rattle.udp_wire.specs.Pacing.{is_behind};
-ghost use Rattle.picture_requests.specs.Sources.{member_address};
 ghost use Rattle.event_loop.specs.Came.{came_by};
 ghost use Rattle.event_loop.specs.Counted.{all_pass};
+ghost use Rattle.event_loop.specs.Kept.{asked_origin};
 ghost use Rattle.event_loop.specs.Turns.{Turn, Does, HaveDone, HasTicked, HasCaughtUp, is_late, owed, passed, looked};
 ghost use Rattle.event_loop.specs.Turns.{gave_ticks, let_wait, asked_picture, made_report, signalled};
 ghost use Rattle.event_loop.specs.inner.Reading.{IsTakenBy, octets_taken};
 
 use crate::inlet::{Inlet, Read};
+use crate::kept::FrontKept;
 use crate::watch::Watch;
 use bridge_stats::{BridgeStats, Limited};
 use desk_rows::Rows;
@@ -26,8 +27,8 @@ use udp_wire::{FrontFault, Wire};
 /// From how many nanoseconds without a tick on the bridge stood still: 1 s, whose 50 ticks it makes up for.
 const STOOD_STILL: u64 = 1_000_000_000;
 
-/// A front: where datagrams come from and go out to, its watch, the receive side with the lanes, and what it counts.
-/// Each method does one thing, which is one turn.
+/// A front: where datagrams come from and go out to, its watch, the receive side with the lanes, what it counts, and
+/// what it keeps from round to round. Each method does one thing, which is one turn.
 ///
 /// Contracts see the front with its history: what was read, the moments that the watch told, and what was tried on the
 /// wire.
@@ -48,6 +49,8 @@ pub struct FrontState<N: PublisherName, P: Pace, S: Sink, I: Inlet, W: Wire, C: 
     pub ticked: u64,
     /// What is counted of the datagrams that were taken in.
     pub stats: BridgeStats,
+    /// Whom it is to ask for pictures, and when it wakes its lanes.
+    pub kept: FrontKept,
 }
 
 impl<N: PublisherName, P: Pace, S: Sink, I: Inlet, W: Wire, C: Watch> Model
@@ -56,7 +59,8 @@ impl<N: PublisherName, P: Pace, S: Sink, I: Inlet, W: Wire, C: Watch> Model
 
     ghost Value = { History P S };
 
-    ghost view = { λ f. history f.media (I.came f.inlet) (C.told f.watch) (W.attempts f.wire) f.ticked f.stats };
+    ghost view = { λ f.
+        history f.media (I.came f.inlet) (C.told f.watch) (W.attempts f.wire) f.ticked f.stats f.kept };
 }
 
 /// What a front did at a read.
@@ -221,20 +225,22 @@ impl<N: PublisherName, P: Pace, S: Sink, I: Inlet, W: Wire, C: Watch> FrontState
         Ok(due)
     }
 
-    /// Asks a sender for a picture, if its address has tokens for the request. Returns whether it had.
+    /// Asks a sender for a picture, if its address has tokens for the request, and then notes that it was asked at this
+    /// moment. Returns whether it had.
     pub(crate) fn ask_picture(
         &mut self,
         alloc: Global,
         source: &VideoSource,
+        now: u64,
     ) -> Result<bool, FrontFault>
-        ensures ok { IfOk result (λ sent. Does self.old (asked_picture
-            (record { address = member_address source.now; ssrc = source.now.ssrc }) sent) self.new) }
+        ensures ok { IfOk result (λ sent. Does self.old (asked_picture (asked_origin source.now) now sent) self.new) }
         ensures err { OnErr result (self.new ≡ self.old) }
     {
         let to = source.address();
         let sent = self
             .media
             .ask_picture(alloc, &to, source.ssrc, &mut self.wire)?;
+        self.kept.note_picture(source, now, sent);
         Ok(sent)
     }
 

@@ -1,10 +1,9 @@
 //! Pictures for slots that were given another source, and of sources that are accepted for the first time.
 
 ghost use Rattle.std.specs.Prelude.{◌≡◌, ◌∷◌, [], Bool, List, IfOk, OnOk};
-ghost use Rattle.std.specs.List.{AllByRecursion};
-ghost use Rattle.picture_requests.specs.Sources.{member_address};
+ghost use Rattle.event_loop.specs.Kept.{asked_origin};
 ghost use Rattle.event_loop.specs.Turns.{Turn, HaveDone, asked_picture};
-ghost use Rattle.event_loop.specs.Shapes.{IsPicture, AsksFirst};
+ghost use Rattle.event_loop.specs.Shapes.{AreAsked, AsksDue, AsksFirst};
 
 use crate::inlet::Inlet;
 use crate::rounds::Rounds;
@@ -24,31 +23,18 @@ impl<N: PublisherName, P: Pace, S: Sink, I: Inlet, W: Wire, C: Watch> Rounds<N, 
         now: u64,
     ) -> Result<(), FrontFault>
         ensures { (turns : List Turn) × HaveDone turns self.old.state self.new.state
-            × AllByRecursion IsPicture turns }
+            × OnOk result (AsksDue version rows.now now turns) }
     {
-        self.see(version, rows, now)?;
+        self.state.see_desk(self.alloc, version, rows, now)?;
         self.ask_pictures(now)
-    }
-
-    /// Sees the rows of this version, if it is not the one that was seen last: the senders of the sources that slots
-    /// were given since then are to be asked for a picture.
-    fn see(&mut self, version: u64, rows: &Rows, now: u64) -> Result<(), FrontFault>
-        ensures { self.new ≡ record self.old { pictures = self.new.pictures; version = self.new.version } }
-    {
-        if version == self.version {
-            return Ok(());
-        }
-        self.pictures.see(self.alloc, rows, now)?;
-        self.version = version;
-        Ok(())
     }
 
     /// Asks the senders that may be asked at this moment for pictures.
     fn ask_pictures(&mut self, now: u64) -> Result<(), FrontFault>
         ensures { (turns : List Turn) × HaveDone turns self.old.state self.new.state
-            × AllByRecursion IsPicture turns }
+            × OnOk result (AreAsked now turns) }
     {
-        let due = self.pictures.due(self.alloc, now)?;
+        let due = self.state.due_pictures(self.alloc, now)?;
         for source in due.iter() {
             self.ask_picture(source, now)?;
         }
@@ -66,45 +52,25 @@ impl<N: PublisherName, P: Pace, S: Sink, I: Inlet, W: Wire, C: Watch> Rounds<N, 
         moment: u64,
     ) -> Result<(), FrontFault>
         ensures { (turns : List Turn) × HaveDone turns self.old.state self.new.state
-            × OnOk result (AsksFirst from.now ended turns) }
+            × OnOk result (AsksFirst from.now moment ended turns) }
     {
         match ended {
             None => Ok(()),
             Some(ssrc) => {
                 let source = VideoSource::at(ssrc, from);
-                self.want(&source, moment)?;
+                self.state.want_picture(self.alloc, &source, moment)?;
                 self.ask_picture(&source, moment)
             }
         }
     }
 
-    /// Lets a source wait to be asked for a picture.
-    fn want(&mut self, source: &VideoSource, moment: u64) -> Result<(), FrontFault>
-        ensures { self.new ≡ record self.old { pictures = self.new.pictures } }
-    {
-        self.pictures.want(self.alloc, source, moment)?;
-        Ok(())
-    }
-
     /// Asks a sender for a picture. If its address had tokens for the request, the source was asked at this moment.
     fn ask_picture(&mut self, source: &VideoSource, now: u64) -> Result<(), FrontFault>
         ensures { (turns : List Turn) × HaveDone turns self.old.state self.new.state
-            × AllByRecursion IsPicture turns
-            × OnOk result ((sent : Bool) × (turns ≡ asked_picture
-            (record { address = member_address source.now; ssrc = source.now.ssrc }) sent ∷ [])) }
+            × OnOk result ((sent : Bool) × (turns ≡ asked_picture (asked_origin source.now) now sent ∷ [])) }
     {
-        let sent = self.state.ask_picture(self.alloc, source)?;
-        self.note_asked(source, now, sent);
+        let sent = self.state.ask_picture(self.alloc, source, now)?;
         self.trace.tell_picture(sent, source);
         Ok(())
-    }
-
-    /// Notes that a source was asked at this moment, if it was.
-    fn note_asked(&mut self, source: &VideoSource, now: u64, sent: bool)
-        ensures { self.new ≡ record self.old { pictures = self.new.pictures } }
-    {
-        if sent {
-            self.pictures.asked(source, now);
-        }
     }
 }

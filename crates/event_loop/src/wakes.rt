@@ -7,6 +7,7 @@ ghost use Rattle.udp_wire.specs.Pacing.{tick_gap, most_ticks};
 ghost use Rattle.media_workers.specs.Ports.{ring_places};
 ghost use Rattle.media_front.specs.PlacesLeft.{left_by_media};
 ghost use Rattle.event_loop.specs.Sleeps.{samples_last, awake_for, asleep_for};
+ghost use Rattle.event_loop.specs.Kept.{is_wake_due};
 
 /// For how long lanes are still woken in each round once the desk has no members, in nanoseconds: 2 s. After that no
 /// samples wait in a jitter buffer, so that waiting ticks bring nothing, whichever members join.
@@ -53,6 +54,7 @@ impl Wakes {
 
     /// Whether the lanes are woken in this round. If so, it notes the moment.
     pub fn is_due(&mut self, now: u64, has_members: bool) -> bool
+        ensures due { result ≡ is_wake_due now has_members self.old }
         ensures members { has_members ≡ true → result ≡ true }
         ensures often { self.old.wake + asleep_for ≤ now → result ≡ true }
         ensures awake { IfSome self.old.member (λ m. now < m + awake_for → result ≡ true) }

@@ -26,7 +26,8 @@ use Rattle.media_front.specs.FedLanes.{IsFresh, ports_in}
 use Rattle.media_front.specs.Fronts.{FrontOf, HasReported}
 use Rattle.media_front.specs.Waits.{OnWire, HasWaitedOnce, video_origins}
 use Rattle.event_loop.specs.Turns.{Turn, History, Does, HaveDone, HasCaughtUp, owed, passed, took, lost, looked}
-use Rattle.event_loop.specs.Turns.{gave_ticks, let_wait, let_some_wait, asked_picture, made_report, signalled}
+use Rattle.event_loop.specs.Turns.{gave_ticks, let_wait, let_some_wait, entered_desk, saw_desk, wanted_picture}
+use Rattle.event_loop.specs.Turns.{chose_sources, asked_picture, made_report, judged_wake, signalled}
 use Rattle.whole_laws.specs.Given.{Fed, kept, drops_among, inputs_of, HasKept, caught, ticks_at, granted_by}
 use Rattle.whole_laws.specs.Given.{given_waits}
 use Rattle.whole_laws.specs.Given.{given_report, given_by, given_by_turns}
@@ -168,12 +169,14 @@ report_keep true desk now before after old new made = fed_keep (Input.report now
 report_keep {P} {S} false desk now before after old new same =
     no_keep old.feed new.feed (ap (λ (f : FrontOf P S). f.feed) same.0)
 
+as_before : {P S : Type 0} (old new : History P S) → new.front ≡ old.front → AllKeep [] old.front.feed new.front.feed
+as_before {P} {S} old new same = no_keep old.front.feed new.front.feed (ap (λ (f : FrontOf P S). f.feed) same)
+
 turn_keeps : {P S : Type 0} (t : Turn) (old new : History P S) (did : Does old t new)
     → AllKeep (given_by t old new did) old.front.feed new.front.feed
 turn_keeps {P} {S} (owed notice) old new did =
     subst (λ (h : History P S). AllKeep [] old.front.feed h.front.feed) (sym did) (owed_keep notice old.front.feed)
-turn_keeps {P} {S} (passed came) old new did =
-    no_keep old.front.feed new.front.feed (ap (λ (h : History P S). h.front.feed) did)
+turn_keeps {P} {S} (passed came) old new did = as_before old new (ap (λ (h : History P S). h.front) did)
 turn_keeps (took late arrival outcome ended) old new did =
     both_keep (caught late arrival.moment old.front) _ old.front.feed did.mid.feed new.front.feed
     (caught_keep late arrival.moment old.front did.mid did.time.caught)
@@ -182,8 +185,7 @@ turn_keeps {P} {S} (lost late arrival) old new did =
     subst (λ (l : List (FedLane P S)). AllKeep (caught late arrival.moment old.front) old.front.feed l)
     (sym (ap (λ (f : FrontOf P S). f.feed) did.same))
     (caught_keep late arrival.moment old.front did.mid did.time.caught)
-turn_keeps {P} {S} (looked moment) old new did =
-    no_keep old.front.feed new.front.feed (ap (λ (h : History P S). h.front.feed) did.same)
+turn_keeps {P} {S} (looked moment) old new did = as_before old new (ap (λ (h : History P S). h.front) did.same)
 turn_keeps (gave_ticks due moment) old new did =
     all_fed_keep (ticks_at moment old.front) old.front.feed new.front.feed did.given.given
 turn_keeps (let_wait desk moment) old new did =
@@ -194,10 +196,16 @@ turn_keeps {P} {S} (let_some_wait desk moment) old new did =
     AllKeep (given_by (let_some_wait desk moment) old new did) old.front.feed l)
     (sym (ap (λ (f : FrontOf P S). f.feed) did.waited.unfed))
     (waits_keep desk moment did.waited.first (old.front, old.tried) (did.waited.behind, new.tried) did.waited.waited)
-turn_keeps {P} {S} (asked_picture o sent) old new did =
+turn_keeps {P} {S} (entered_desk desk) old new did = as_before old new (ap (λ (h : History P S). h.front) did)
+turn_keeps {P} {S} (saw_desk later version desk moment) old new did =
+    as_before old new (ap (λ (h : History P S). h.front) did.same)
+turn_keeps {P} {S} (wanted_picture s m) old new did = as_before old new (ap (λ (h : History P S). h.front) did)
+turn_keeps {P} {S} (chose_sources m all) old new did = as_before old new (ap (λ (h : History P S). h.front) did.same)
+turn_keeps {P} {S} (asked_picture o moment sent) old new did =
     no_keep old.front.feed new.front.feed (ap (λ (f : FrontOf P S). f.feed) did.asked.same)
 turn_keeps (made_report due desk moment) old new did =
     report_keep due desk moment old.tried new.tried old.front new.front did.made
+turn_keeps {P} {S} (judged_wake m raised) old new did = as_before old new (ap (λ (h : History P S). h.front) did.same)
 turn_keeps {P} {S} signalled old new did =
     subst (λ (h : History P S). AllKeep [] old.front.feed h.front.feed) (sym did) (signal_keep old.front.feed)
 

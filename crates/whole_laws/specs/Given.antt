@@ -16,7 +16,8 @@ use Rattle.media_front.specs.Granted.{granted_of}
 use Rattle.media_front.specs.Prices.{pli_octets}
 use Rattle.media_front.specs.Waits.{OnWire, HasWaitedOnce, silence, video_origins}
 use Rattle.event_loop.specs.Turns.{Turn, History, Does, HaveDone, owed, passed, took, lost, looked, gave_ticks}
-use Rattle.event_loop.specs.Turns.{let_wait, let_some_wait, asked_picture, made_report, signalled}
+use Rattle.event_loop.specs.Turns.{let_wait, let_some_wait, entered_desk, saw_desk, wanted_picture, chose_sources}
+use Rattle.event_loop.specs.Turns.{asked_picture, made_report, judged_wake, signalled}
 
 -- the ticks that are due at a moment
 abbrev pub ticks_at : {P S : Type 0} → (moment : ℕ) → FrontOf P S → List Input
@@ -57,7 +58,12 @@ given_by (made_report due desk moment) old new did = given_report due moment
 given_by (owed notice) old new did = []
 given_by (passed came) old new did = []
 given_by (looked moment) old new did = []
-given_by (asked_picture o sent) old new did = []
+given_by (entered_desk desk) old new did = []
+given_by (saw_desk later version desk moment) old new did = []
+given_by (wanted_picture source moment) old new did = []
+given_by (chose_sources moment sources) old new did = []
+given_by (asked_picture o moment sent) old new did = []
+given_by (judged_wake moment raised) old new did = []
 given_by signalled old new did = []
 
 -- what these turns gave every lane, in order

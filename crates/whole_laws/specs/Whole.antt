@@ -28,6 +28,7 @@ use Rattle.lane_laws.specs.OneList.{IsOneList, SendByVersions}
 use Rattle.media_front.specs.FedLanes.{FedLane, IsFresh, AreGiven}
 use Rattle.media_front.specs.LeftOut.{none_limited}
 use Rattle.event_loop.specs.Came.{Came}
+use Rattle.event_loop.specs.Kept.{fresh_kept}
 use Rattle.event_loop.specs.Turns.{Turn, History, HaveDone}
 use Rattle.event_loop.specs.Shapes.{AreRounds}
 use Rattle.event_loop.specs.Runs.{FrontAt}
@@ -57,12 +58,14 @@ IsAsked lane = WasAsked lane.taken lane.asked lane.counts
 abbrev pub sent_in : List LaneLeft → List (List Sent)
 sent_in lanes = map (λ (l : LaneLeft). map sent_of l.taken) lanes
 
--- The front has read, told, tried, counted and left out nothing, and knows no source.
+-- The front has read, told, tried, counted and left out nothing, and knows no source. It has seen no desk, and nobody
+-- waits to be asked for a picture.
 pub record HasDoneNothing {P S : Type 0} (h : History P S) : Type 0 where
   pub came : h.came ≡ []
   pub told : h.told ≡ []
   pub tried : h.tried ≡ Some []
   pub stats : h.stats ≡ no_stats
+  pub kept : h.kept ≡ fresh_kept h.ticked
   pub limiter : h.front.limiter ≡ []
   pub limited : h.front.limited ≡ none_limited
   pub sources : Knows h.front.ingress no_sources

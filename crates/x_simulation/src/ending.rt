@@ -49,6 +49,7 @@ where
         media,
         ticked: _,
         stats: _,
+        kept: _,
     } = rounds.into_state();
     let left = FrontLists {
         read: inlet.queue.all,

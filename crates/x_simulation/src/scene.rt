@@ -19,7 +19,7 @@ use crate::tally::Tally;
 use crate::wakes::Wakes;
 use bridge_core::{Ingress, Settings};
 use bridge_stats::BridgeStats;
-use event_loop::{BegunRound, FrontState, FrontTrace, Rounds};
+use event_loop::{BegunRound, FrontKept, FrontState, FrontTrace, Rounds};
 use media_front::{LaneFeed, MediaFront, PublisherOf, pli_octets};
 use media_workers::SleepPace;
 use operator_desk::{DeskBrand, DeskNames, Log, SharedDesk};
@@ -215,6 +215,7 @@ where
         media,
         ticked: START,
         stats,
+        kept: FrontKept::begin(alloc, START),
     };
     Rounds::new(alloc, state, reader, chunk, FrontTrace::off())
 }

@@ -24,7 +24,7 @@ is_something Nothing = false
 abbrev pub IsTakenBy : Desk → ReadTurn → List Turn → Type 0
 IsTakenBy desk (taken.Datagram received ended octets) turns =
     (late : Bool) × (arrival : Arrival) × (arrival.desk ≡ desk) × (received.from ≡ arrival.from)
-    × (turns ≡ took late arrival received.outcome ended ∷ [])
+    × (received.moment ≡ arrival.moment) × (turns ≡ took late arrival received.outcome ended ∷ [])
 IsTakenBy desk taken.Other turns = turns ≡ passed other ∷ []
 IsTakenBy desk taken.Nothing turns = turns ≡ passed nothing ∷ []
 

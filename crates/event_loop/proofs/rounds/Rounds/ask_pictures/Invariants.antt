@@ -1,12 +1,13 @@
-use Rattle.std.proofs.Common.{List}
-use Rattle.std.specs.List.{AllByRecursion}
-use Rattle.event_loop.specs.Turns.{Turn, HaveDone}
-use Rattle.event_loop.specs.Shapes.{IsPicture}
+use Rattle.std.proofs.Common.{◌≡◌, List, map, take}
+use Rattle.std.specs.Prelude.{Bool}
+use Rattle.picture_requests.specs.declared.source.VideoSource.{VideoSource}
+use Rattle.event_loop.specs.Turns.{HaveDone}
+use Rattle.event_loop.specs.Shapes.{picture_at}
 use Rattle.event_loop.proofs.rounds.Rounds.ask_pictures.Given as goal
 
--- so far only pictures were asked for
+-- so far the first of the sources were asked for pictures
 abbrev pub invariant-loop-source : goal.invariant-loop-source
 invariant-loop-source g l =
-    (turns : List Turn)
-    × HaveDone turns l.fn.self.state l.self.state
-    × AllByRecursion IsPicture turns
+    (asked : List (VideoSource × Bool))
+    × (map (λ (a : VideoSource × Bool). a.0) asked ≡ take l.source-index l.source-items)
+    × HaveDone (map (picture_at l.now) asked) l.fn.self.state l.self.state

@@ -1,4 +1,4 @@
-use Rattle.std.proofs.Common.{◌∷◌, ◌++◌, List, ap, subst, inl, inr}
+use Rattle.std.proofs.Common.{◌∷◌, ◌++◌, ℕ, List, ap, subst, inl, inr}
 use Rattle.rtp_codec.specs.declared.address.Address.{Address}
 use Rattle.event_loop.specs.declared.state.ReadTurn.{ReadTurn}
 use Rattle.event_loop.specs.Turns.{Turn}
@@ -46,8 +46,9 @@ returns-in_ok-ask_first-in-Datagram g c =
         asked = e.0;
         rows = k.2;
         first =
-            subst (λ (a : Address). AsksFirst a c.in-Datagram.ended e.0) k.3
-            (on_ok c.ask_first.result (tt {0}) c.in_ok-ask_first-in-Datagram.was e.2);
-        are = ap (λ (l : List Turn). l ++ e.0) k.4;
+            subst (λ (a : Address). AsksFirst a (k.1).moment c.in-Datagram.ended e.0) k.3
+            (subst (λ (m : ℕ). AsksFirst c.in-Datagram.received.from m c.in-Datagram.ended e.0) k.4
+            (on_ok c.ask_first.result (tt {0}) c.in_ok-ask_first-in-Datagram.was e.2));
+        are = ap (λ (l : List Turn). l ++ e.0) k.5;
       }),
     )

@@ -15,9 +15,10 @@ returns-in_err-want_pictures g c =
 pub returns : goal.returns
 returns g c =
     let b = c.in_ok-beat.ensures in
-    let p = c.want_pictures.ensures in
+    let p = c.in_ok-want_pictures.ensures in
     let r = c.report.ensures in (
       b.0 ++ (p.0 ++ r.0),
       done_both b.0 (p.0 ++ r.0) _ _ _ b.1 (done_both p.0 r.0 _ _ _ p.1 r.1),
-      on_ok_map c.report.result (λ k. are_due c.args.rows.now c.args.now b.0 p.0 r.0 b.2.0 k.0 b.2.1 p.2 k.1) r.2,
+      on_ok_map c.report.result
+          (λ k. are_due c.args.version c.args.rows.now c.args.now b.0 p.0 r.0 b.2.0 k.0 b.2.1 p.2 k.1) r.2,
     )

@@ -11,10 +11,10 @@ returns-clause-ok g c =
     let came = g.I.Inlet.came a.inlet in
     let told = g.C.Watch.told a.watch in
     let tried = g.W.Wire.attempts a.wire in
-    let new = history a.media (g.I.Inlet.came c.read.new.self) told tried a.ticked a.stats in
+    let new = history a.media (g.I.Inlet.came c.read.new.self) told tried a.ticked a.stats a.kept in
     if_ok_map c.read.result (λ read is.
     subst (λ (h : History g.row.P.Denot g.row.S.Denot). Does h (passed (came_by read c.read.new.chunk.items)) new)
-    c.self.view_is (ap (λ (l : List Came). history a.media l told tried a.ticked a.stats) is)) c.read.ensures.ok
+    c.self.view_is (ap (λ (l : List Came). history a.media l told tried a.ticked a.stats a.kept) is)) c.read.ensures.ok
 
 pub returns-clause-err : goal.returns-clause-err
 returns-clause-err g c =
@@ -22,4 +22,5 @@ returns-clause-err g c =
     let told = g.C.Watch.told a.watch in
     let tried = g.W.Wire.attempts a.wire in
     on_err_weaker c.read.result (λ same.
-    ap (λ (l : List Came). history a.media l told tried a.ticked a.stats) same ∙ c.self.view_is) c.read.ensures.err
+    ap (λ (l : List Came). history a.media l told tried a.ticked a.stats a.kept) same ∙ c.self.view_is)
+    c.read.ensures.err

@@ -12,9 +12,9 @@ returns-clause-ok g c =
     let tried = g.W.Wire.attempts a.wire in
     if_ok_both c.now.result (λ now is rising.
     subst (λ (h : History g.row.P.Denot g.row.S.Denot).
-    Does h (looked now) (history a.media came (g.C.Watch.told c.now.new.self) tried a.ticked a.stats))
+    Does h (looked now) (history a.media came (g.C.Watch.told c.now.new.self) tried a.ticked a.stats a.kept))
     c.self.view_is
-    (record { rising = rising; same = ap (λ (t : List ℕ). history a.media came t tried a.ticked a.stats) is }))
+    (record { rising = rising; same = ap (λ (t : List ℕ). history a.media came t tried a.ticked a.stats a.kept) is }))
     c.now.ensures.ok c.now.ensures.rising
 
 pub returns-clause-err : goal.returns-clause-err
@@ -23,4 +23,4 @@ returns-clause-err g c =
     let came = g.I.Inlet.came a.inlet in
     let tried = g.W.Wire.attempts a.wire in
     on_err_weaker c.now.result (λ same.
-    ap (λ (t : List ℕ). history a.media came t tried a.ticked a.stats) same ∙ c.self.view_is) c.now.ensures.err
+    ap (λ (t : List ℕ). history a.media came t tried a.ticked a.stats a.kept) same ∙ c.self.view_is) c.now.ensures.err

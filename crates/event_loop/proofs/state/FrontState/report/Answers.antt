@@ -10,7 +10,7 @@ returns-clause-ok g c =
     let told = g.C.Watch.told a.watch in
     let tried = g.W.Wire.attempts a.wire in
     let due = c.in_ok-due.due in
-    let new = history c.report.new.self came told (g.W.Wire.attempts c.report.new.wire) a.ticked a.stats in
+    let new = history c.report.new.self came told (g.W.Wire.attempts c.report.new.wire) a.ticked a.stats a.kept in
     subst (λ (h : History g.row.P.Denot g.row.S.Denot). Does h (made_report due c.args.rows.now c.args.now) new)
     c.self.view_is (record {
       right = c.in_ok-due.ensures.due;
@@ -29,5 +29,5 @@ returns-in_err-due-clause-err g c =
     let tried = g.W.Wire.attempts a.wire in
     let same = c.in_err-due.ensures.err in
     on_err c.from_residual.result
-    (ap (λ f. history f came told (g.W.Wire.attempts c.report.new.wire) a.ticked a.stats) same.0
-    ∙ (ap (λ t. history a.media came told t a.ticked a.stats) same.1 ∙ c.self.view_is))
+    (ap (λ f. history f came told (g.W.Wire.attempts c.report.new.wire) a.ticked a.stats a.kept) same.0
+    ∙ (ap (λ t. history a.media came told t a.ticked a.stats a.kept) same.1 ∙ c.self.view_is))

@@ -9,5 +9,5 @@ returns g c =
     let told = g.C.Watch.told a.watch in
     let tried = g.W.Wire.attempts a.wire in
     subst (λ (h : History g.row.P.Denot g.row.S.Denot).
-    Does h signalled (history c.signal.new.self came told tried a.ticked a.stats))
-    c.self.view_is (ap (λ f. history f came told tried a.ticked a.stats) c.signal.ensures)
+    Does h signalled (history c.signal.new.self came told tried a.ticked a.stats a.kept))
+    c.self.view_is (ap (λ f. history f came told tried a.ticked a.stats a.kept) c.signal.ensures)

@@ -21,10 +21,10 @@ returns-in-Other-clause-done g c =
     let told = g.C.Watch.told a.watch in
     let tried = g.W.Wire.attempts a.wire in
     let more = g.I.Inlet.came c.read.new.self in
-    let new = history a.media more told tried a.ticked a.stats in (
+    let new = history a.media more told tried a.ticked a.stats a.kept in (
       passed other ∷ [],
       subst (λ (h : History g.row.P.Denot g.row.S.Denot). HaveDone (passed other ∷ []) h new) c.self.view_is
-          (passed_at a.media came more told told tried a.ticked a.stats other
+          (passed_at a.media came more told told tried a.ticked a.stats a.kept other
           (c.in_ok-from.ensures.ok ∙ ap (λ r. came ++ came_by r c.read.new.chunk.items ∷ []) c.in-Other.is) refl),
       refl,
     )
@@ -36,10 +36,10 @@ returns-in-Nothing-clause-done g c =
     let told = g.C.Watch.told a.watch in
     let tried = g.W.Wire.attempts a.wire in
     let more = g.I.Inlet.came c.read.new.self in
-    let new = history a.media more told tried a.ticked a.stats in (
+    let new = history a.media more told tried a.ticked a.stats a.kept in (
       passed nothing ∷ [],
       subst (λ (h : History g.row.P.Denot g.row.S.Denot). HaveDone (passed nothing ∷ []) h new) c.self.view_is
-          (passed_at a.media came more told told tried a.ticked a.stats nothing
+          (passed_at a.media came more told told tried a.ticked a.stats a.kept nothing
           (c.in_ok-from.ensures.ok ∙ ap (λ r. came ++ came_by r c.read.new.chunk.items ∷ []) c.in-Nothing.is) refl),
       refl,
     )
@@ -52,11 +52,11 @@ returns-in_err-moment-clause-done g c =
     let tried = g.W.Wire.attempts a.wire in
     let more = g.I.Inlet.came c.read.new.self in
     let later = g.C.Watch.told c.now.new.self in
-    let new = history a.media more later tried a.ticked a.stats in
+    let new = history a.media more later tried a.ticked a.stats a.kept in
     let one = datagram c.in-Datagram.from (take c.in-Datagram.octets c.read.new.chunk.items) in (
       passed one ∷ [],
       subst (λ (h : History g.row.P.Denot g.row.S.Denot). HaveDone (passed one ∷ []) h new) c.self.view_is
-          (passed_at a.media came more told later tried a.ticked a.stats one
+          (passed_at a.media came more told later tried a.ticked a.stats a.kept one
           (c.in_ok-from.ensures.ok ∙ ap (λ r. came ++ came_by r c.read.new.chunk.items ∷ []) c.in-Datagram.is)
           c.in_err-moment.ensures.err),
       err_if_ok _ c.from_residual-in_err-moment.result c.from_residual-in_err-moment.ensures.0,
@@ -76,10 +76,10 @@ returns-in_err-received-clause-done g c =
       octets = take c.in-Datagram.octets c.deref.result.now;
     } in
     let turn = lost c.catch_up.result arrival in
-    let old = history a.media came told tried a.ticked a.stats in
+    let old = history a.media came told tried a.ticked a.stats a.kept in
     let new =
     history c.datagram.new.self (g.I.Inlet.came c.read.new.self) (g.C.Watch.told c.now.new.self)
-    (g.W.Wire.attempts c.datagram.new.wire) c.catch_up.new.ticked a.stats in (
+    (g.W.Wire.attempts c.datagram.new.wire) c.catch_up.new.ticked a.stats a.kept in (
       turn ∷ [],
       subst (λ (h : History g.row.P.Denot g.row.S.Denot). HaveDone (turn ∷ []) h new) c.self.view_is
           (done_one turn old new (record {
@@ -103,6 +103,7 @@ returns-in_err-received-clause-done g c =
             asker = c.datagram.ensures.asker;
             tried = c.in_err-received.ensures.unsent;
             stats = refl;
+            kept = refl;
           })),
       err_if_ok _ c.from_residual-in_err-received.result c.from_residual-in_err-received.ensures.0,
     )
@@ -126,10 +127,10 @@ returns-clause-done g c =
     let counted : TakenIn = taken_of received in
     let ended = c.ended_by-ended.result in
     let turn = took c.catch_up.result arrival received.outcome ended in
-    let old = history a.media came told tried a.ticked a.stats in
+    let old = history a.media came told tried a.ticked a.stats a.kept in
     let new =
     history c.datagram.new.self (g.I.Inlet.came c.read.new.self) (g.C.Watch.told c.now.new.self)
-    (g.W.Wire.attempts c.datagram.new.wire) c.catch_up.new.ticked c.note.new.self in
+    (g.W.Wire.attempts c.datagram.new.wire) c.catch_up.new.ticked c.note.new.self a.kept in
     let does : TakesArrival c.catch_up.result arrival received.outcome ended old new = record {
       read = record {
         came = c.in_ok-from.ensures.ok
@@ -168,9 +169,17 @@ returns-clause-done g c =
                 ∙ ap (λ (l : Limited). all_pass mid.limited l) c.limited.ensures))
                 (c.note.ensures.reports arrival.octets is.reports);
           };
+      kept = refl;
     } in (
       turn ∷ [],
       subst (λ (h : History g.row.P.Denot g.row.S.Denot). HaveDone (turn ∷ []) h new) c.self.view_is
           (done_one turn old new does),
-      (c.catch_up.result, arrival, refl, ap (λ (r : Received Global). r.from) is.rest, refl),
+      (
+        c.catch_up.result,
+        arrival,
+        refl,
+        ap (λ (r : Received Global). r.from) is.rest,
+        ap (λ (r : Received Global). r.moment) is.rest,
+        refl,
+      ),
     )

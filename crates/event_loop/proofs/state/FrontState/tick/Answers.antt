@@ -11,10 +11,10 @@ returns g c =
     let due = c.give_ticks.result in
     let media = c.give_ticks.new.media in
     subst (λ (h : History g.row.P.Denot g.row.S.Denot).
-    Does h (gave_ticks due c.args.now) (history media came told tried c.give_ticks.new.ticked a.stats))
+    Does h (gave_ticks due c.args.now) (history media came told tried c.give_ticks.new.ticked a.stats a.kept))
     c.self.view_is
     (record {
       right = c.give_ticks.ensures.due;
       given = c.give_ticks.ensures.did;
-      same = ap (λ (k : ℕ). history media came told tried k a.stats) c.give_ticks.ensures.last;
+      same = ap (λ (k : ℕ). history media came told tried k a.stats a.kept) c.give_ticks.ensures.last;
     })

@@ -10,11 +10,11 @@ returns g c =
     let told = g.C.Watch.told a.watch in
     let tried = g.W.Wire.attempts a.wire in
     let rows = c.args.rows.now in
-    let new = history c.wait_all.new.self came told (g.W.Wire.attempts c.wait_all.new.wire) a.ticked a.stats in
+    let new = history c.wait_all.new.self came told (g.W.Wire.attempts c.wait_all.new.wire) a.ticked a.stats a.kept in
     subst
     (λ (h : History g.row.P.Denot g.row.S.Denot).
     (turns : List Turn) × HaveDone turns h new
     × OnOk c.wait_all.result (turns ≡ let_wait rows c.args.now ∷ []))
     c.self.view_is
-    (waits_by c.wait_all.result rows c.args.now (history a.media came told tried a.ticked a.stats) new
+    (waits_by c.wait_all.result rows c.args.now (history a.media came told tried a.ticked a.stats a.kept) new
     c.wait_all.ensures.waited c.wait_all.ensures.err c.wait_all.ensures.same c.wait_all.ensures.asker refl)
