@@ -267,10 +267,10 @@ whole_run {N} {P} {S} answers taken sent who many start publisher log last front
       last = front_at has.last (Some reader);
       fresh = has.fresh;
       turns = turns;
-      front = record ran { done = done };
+      front = ran;
       lists = last.lists;
       desks = tells.1;
       knew = λ other at_end. known_at_end last reader other known at_end;
-      lanes = lanes_law turns done h lanes (has.fresh).feed (drops_left dropped sent same ∙ moved.3)
+      lanes = lanes_law turns ran.done h lanes (has.fresh).feed (drops_left dropped sent same ∙ moved.3)
           (sent_left dropped sent same ∙ took_all taken sent ends are) (asked_left dropped sent asked);
     }

@@ -23,7 +23,8 @@ use Rattle.event_loop.specs.Turns.{Turn, History, Does, HaveDone, HasCaughtUp, o
 use Rattle.event_loop.specs.Turns.{gave_ticks, let_wait, let_some_wait, entered_desk, saw_desk, wanted_picture}
 use Rattle.event_loop.specs.Turns.{chose_sources, asked_picture, made_report, judged_wake, signalled}
 use Rattle.event_loop.specs.Tries.{Try, Why, answers, asks_again, reports, asks_picture, HasDone, AsksAgain, IsMeant}
-use Rattle.event_loop.specs.Tries.{AreMeant, time_passes}
+use Rattle.event_loop.specs.Tries.{AreMeant, time_passes, tries_for, waits_tried, reports_tried, tries_by}
+use Rattle.event_loop.specs.Tries.{tries_by_turns}
 use Rattle.event_loop.proofs.TurnLemmas.{all_both, done_both, done_one}
 use Rattle.event_loop.proofs.LaneLemmas.{asker_by_one}
 
@@ -47,9 +48,6 @@ all_mapped P Q f (x ∷ xs) k all = (k x all.0, all_mapped P Q f xs k all.1)
 
 -- ---- what is tried for one reason
 
-abbrev tries_for : Why → List (Address × List ℕ) → List Try
-tries_for why ds = map (λ d. record { what = d; why = why }) ds
-
 what_for : (why : Why) (ds : List (Address × List ℕ)) → map (λ (t : Try). t.what) (tries_for why ds) ≡ ds
 what_for why [] = refl
 what_for why (d ∷ ds) = ap (λ (l : List (Address × List ℕ)). d ∷ l) (what_for why ds)
@@ -66,33 +64,33 @@ paid_in all (d ∷ ds) buckets f =
     [ true ↦ (f d (in_head d ds), tt) | false ↦ tt ])
     (paid_in all ds (after_one d buckets) (λ e c. f e (in_tail d ds e c)))
 
--- what was tried and why, between two states of a front that began at a third
-abbrev Meant : {P S : Type 0} → List Turn → History P S → Option (List Attempt) → Option (List Attempt) → Type 0
-Meant all start before after =
-    (tries : List Try) × WereTried (map (λ (t : Try). t.what) tries) before after
+-- these were tried, and why, between two states of a front that began at a third
+abbrev Meant : {P S : Type 0} → List Turn → History P S → List Try → Option (List Attempt) → Option (List Attempt)
+    → Type 0
+Meant all start tries before after =
+    WereTried (map (λ (t : Try). t.what) tries) before after
     × AllByRecursion (λ (t : Try). IsMeant all start t.what t.why) tries
 
 no_tries : {P S : Type 0} (all : List Turn) (start : History P S) (before after : Option (List Attempt))
-    → after ≡ before → Meant all start before after
+    → after ≡ before → Meant all start [] before after
 no_tries all start before after same =
-    ([], subst (λ (o : Option (List Attempt)). WereTried [] before o) (sym same) (tried_none before), tt)
+    (subst (λ (o : Option (List Attempt)). WereTried [] before o) (sym same) (tried_none before), tt)
 
-both_meant : {P S : Type 0} (all : List Turn) (start : History P S) (a b c : Option (List Attempt))
-    → Meant all start a b → Meant all start b c → Meant all start a c
-both_meant all start a b c first rest = (
-  first.0 ++ rest.0,
-  subst (λ (l : List (Address × List ℕ)). WereTried l a c) (sym (map-append (λ (t : Try). t.what) first.0 rest.0))
-      (tried_both (map (λ (t : Try). t.what) first.0) (map (λ (t : Try). t.what) rest.0) a b c first.1 rest.1),
-  all_both (λ (t : Try). IsMeant all start t.what t.why) first.0 rest.0 first.2 rest.2,
+both_meant : {P S : Type 0} (all : List Turn) (start : History P S) (xs ys : List Try)
+    (a b c : Option (List Attempt))
+    → Meant all start xs a b → Meant all start ys b c → Meant all start (xs ++ ys) a c
+both_meant all start xs ys a b c first rest = (
+  subst (λ (l : List (Address × List ℕ)). WereTried l a c) (sym (map-append (λ (t : Try). t.what) xs ys))
+      (tried_both (map (λ (t : Try). t.what) xs) (map (λ (t : Try). t.what) ys) a b c first.0 rest.0),
+  all_both (λ (t : Try). IsMeant all start t.what t.why) xs ys first.1 rest.1,
 )
 
 for_one_reason : {P S : Type 0} (all : List Turn) (start : History P S) (before after : Option (List Attempt))
     (why : Why) (asked ds : List (Address × List ℕ))
     → WereTried ds before after → AllByRecursion (λ (d : Address × List ℕ). Contains asked d) ds
     → ((d : Address × List ℕ) → Contains asked d → IsMeant all start d why)
-    → Meant all start before after
+    → Meant all start (tries_for why ds) before after
 for_one_reason all start before after why asked ds tried some meant = (
-  tries_for why ds,
   subst (λ (l : List (Address × List ℕ)). WereTried l before after) (sym (what_for why ds)) tried,
   all_mapped (λ (t : Try). IsMeant all start t.what t.why) (λ (d : Address × List ℕ). Contains asked d)
       (λ d. record { what = d; why = why }) ds meant some,
@@ -105,8 +103,9 @@ meant_waits : {P S : Type 0} (all : List Turn) (start : History P S) (whole : Bo
     → HasDone all start (time_passes whole desk moment) old new
     → (first os rest : List Origin) (front last : FrontOf P S) (before after : Option (List Attempt))
     → video_origins desk ≡ first ++ (os ++ rest)
-    → HaveWaited desk moment first old.front front old.tried before → HaveWaited desk moment os front last before after
-    → Meant all start before after
+    → HaveWaited desk moment first old.front front old.tried before
+    → (waited : HaveWaited desk moment os front last before after)
+    → Meant all start (waits_tried desk moment os (front, before) (last, after) waited) before after
 meant_waits {P} {S} all start whole desk moment old new here first [] rest front last before after order far done =
     no_tries all start before after (ap (λ (w : OnWire P S). w.1) (sym done))
 meant_waits {P} {S} all start whole desk moment old new here first (o ∷ os) rest front last before after order far done
@@ -124,9 +123,10 @@ meant_waits {P} {S} all start whole desk moment old new here first (o ∷ os) re
       new = mid.0.ingress;
       waits = one.waited.waits;
     } in
-    both_meant all start before mid.1 after
-    (for_one_reason all start before mid.1 (asks_again desk moment o ingested) ingested.up
-    (paid_of ingested.up (once_refilled (silence desk o.address moment) ingested front.limiter)) one.waited.handled.up
+    let paid = paid_of ingested.up (once_refilled (silence desk o.address moment) ingested front.limiter) in
+    both_meant all start (tries_for (asks_again desk moment o ingested) paid)
+    (waits_tried desk moment os mid (last, after) done.2) before mid.1 after
+    (for_one_reason all start before mid.1 (asks_again desk moment o ingested) ingested.up paid one.waited.handled.up
     (paid_in ingested.up ingested.up _ (λ d c. c)) (λ d c. (whole, old, new, here, again, c)))
     (meant_waits all start whole desk moment old new here (first ++ o ∷ []) os rest mid.0 last mid.1 after
     (order ∙ sym (append_assoc first (o ∷ []) (os ++ rest)))
@@ -144,22 +144,20 @@ meant_picture : {P S : Type 0} (all : List Turn) (start : History P S) (who : As
     (sent : Bool) (old new : History P S) (before after : Option (List Attempt))
     → start.front.ingress.asker ≡ who → HasDone all start (asked_picture o moment sent) old new
     → WereTried ((if sent then picture_request who o ∷ [] else []) ++ []) before after
-    → Meant all start before after
-meant_picture all start who o moment true old new before after same here tried = (
-  record { what = picture_request who o; why = asks_picture o moment } ∷ [],
-  tried,
-  ((old, new, here, ap (λ (w : Asker). picture_request w o) (sym same)), tt),
-)
-meant_picture all start who o moment false old new before after same here tried = ([], tried, tt)
+    → Meant all start
+    (if sent then record { what = picture_request who o; why = asks_picture o moment } ∷ [] else []) before after
+meant_picture all start who o moment true old new before after same here tried =
+    (tried, ((old, new, here, ap (λ (w : Asker). picture_request w o) (sym same)), tt))
+meant_picture all start who o moment false old new before after same here tried = (tried, tt)
 
 -- ---- turns
 
 meant_report : {P S : Type 0} (all : List Turn) (start : History P S) (due : Bool) (desk : Desk) (moment : ℕ)
     (old new : History P S)
     → HasDone all start (made_report due desk moment) old new
-    → MatchBool due (HasReported desk moment old.front new.front old.tried new.tried)
-    ((new.front ≡ old.front) × (new.tried ≡ old.tried))
-    → Meant all start old.tried new.tried
+    → (made : MatchBool due (HasReported desk moment old.front new.front old.tried new.tried)
+    ((new.front ≡ old.front) × (new.tried ≡ old.tried)))
+    → Meant all start (reports_tried due desk moment old.front new.front old.tried new.tried made) old.tried new.tried
 meant_report all start true desk moment old new here h =
     for_one_reason all start old.tried new.tried (reports desk moment) h.told h.told h.up
     (all_in h.told h.told (λ d c. c)) (λ d c. (old, new, here, (h.told, h.tells, c)))
@@ -172,7 +170,7 @@ late_ingress {P} {S} false moment old new h = ap (λ (f : FrontOf P S). f.ingres
 
 meant_by_one : {P S : Type 0} (all : List Turn) (start : History P S) (t : Turn) (old new : History P S)
     → start.front.ingress.asker ≡ old.front.ingress.asker → HasDone all start t old new
-    → Does old t new → Meant all start old.tried new.tried
+    → (d : Does old t new) → Meant all start (tries_by t old new d) old.tried new.tried
 meant_by_one {P} {S} all start (owed notice) old new same here d =
     no_tries all start old.tried new.tried (ap (λ (s : History P S). s.tried) d)
 meant_by_one {P} {S} all start (passed came) old new same here d =
@@ -219,19 +217,20 @@ meant_by_one {P} {S} all start signalled old new same here d =
 
 meant_from : {P S : Type 0} (all first turns : List Turn) (start old new : History P S) → all ≡ first ++ turns
     → start.front.ingress.asker ≡ old.front.ingress.asker
-    → HaveDone first start old → HaveDone turns old new → Meant all start old.tried new.tried
+    → HaveDone first start old → (g : HaveDone turns old new)
+    → Meant all start (tries_by_turns turns old new g) old.tried new.tried
 meant_from {P} {S} all first [] start old new order same far g =
     no_tries all start old.tried new.tried (ap (λ (s : History P S). s.tried) (sym g))
 meant_from {P} {S} all first (t ∷ ts) start old new order same far g =
     let mid = g.0 in
-    both_meant all start old.tried mid.tried new.tried
+    both_meant all start (tries_by t old mid g.1) (tries_by_turns ts mid new g.2) old.tried mid.tried new.tried
     (meant_by_one all start t old mid same (first, ts, order, far, g.1) g.1)
     (meant_from all (first ++ t ∷ []) ts start mid new (order ∙ sym (append_assoc first (t ∷ []) ts))
     (same ∙ sym (asker_by_one t old mid g.1))
     (done_both first (t ∷ []) start old mid far (done_one t old mid g.1)) g.2)
 
-pub meant_by_all : {P S : Type 0} (turns : List Turn) (old new : History P S) → HaveDone turns old new
-    → (tries : List Try) × AreMeant turns old new tries
-meant_by_all turns old new g =
-    let m = meant_from turns [] turns old old new refl refl refl g in
-    (m.0, (m.1, m.2))
+pub meant_by_all : {P S : Type 0} (turns : List Turn) (old new : History P S) (done : HaveDone turns old new)
+    → (tries : List Try) × AreMeant turns old new done tries
+meant_by_all turns old new done =
+    let m = meant_from turns [] turns old old new refl refl refl done in
+    (tries_by_turns turns old new done, (refl, m.0, m.1))

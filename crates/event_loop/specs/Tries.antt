@@ -1,6 +1,7 @@
 -- Why a front tried to send what it tried (own).
-use Rattle.std.specs.Prelude.{◌≡◌, ℕ, true, false, Bool, List, [], ◌∷◌, ◌++◌, map, Option}
-use Rattle.std.specs.List.{AllByRecursion, Contains}
+use Rattle.std.specs.Prelude.{◌≡◌, ℕ, true, false, Bool, if◌then◌else◌, List, [], ◌∷◌, ◌++◌, map, Option}
+use Rattle.std.specs.Bool.{MatchBool}
+use Rattle.std.specs.List.{AllByRecursion, Contains, FoldsTo}
 use Rattle.rtp_codec.specs.declared.address.Address.{Address}
 use Rattle.desk_rows.specs.Desk.{Desk}
 use Rattle.ingress.specs.Ingested.{Ingested}
@@ -10,8 +11,9 @@ use Rattle.ingress.specs.Taking.{picture_request}
 use Rattle.ingress.specs.inner.Holding.{IngressOf}
 use Rattle.media_front.specs.Tries.{WereTried}
 use Rattle.udp_wire.specs.Attempts.{Attempt}
-use Rattle.media_front.specs.Fronts.{FrontOf, Arrival, HasIngested}
-use Rattle.media_front.specs.Waits.{HaveWaited, video_origins}
+use Rattle.media_front.specs.Paid.{paid_of}
+use Rattle.media_front.specs.Fronts.{FrontOf, Arrival, HasIngested, HasReported, once_refilled}
+use Rattle.media_front.specs.Waits.{OnWire, HasWaitedOnce, HaveWaited, video_origins, silence}
 use Rattle.event_loop.specs.Came.{Came, datagram}
 use Rattle.event_loop.specs.Turns.{Turn, History, Does, HaveDone, owed, passed, took, lost, looked, gave_ticks}
 use Rattle.event_loop.specs.Turns.{let_wait, let_some_wait, entered_desk, saw_desk, wanted_picture, chose_sources}
@@ -74,10 +76,67 @@ IsMeant {P} {S} turns start what (asks_picture o moment) =
     (old : History P S) × (new : History P S) × HasDone turns start (asked_picture o moment true) old new
     × (what ≡ picture_request start.front.ingress.asker o)
 
--- Over these turns the front tried to send these datagrams alone, each once and in this order, each for its reason.
-abbrev pub AreMeant : {P S : Type 0} → List Turn → History P S → History P S → List Try → Type 0
-AreMeant turns old new tries =
-    WereTried (map (λ t. t.what) tries) old.tried new.tried
+-- datagrams that are tried for one reason
+abbrev pub tries_for : Why → List (Address × List ℕ) → List Try
+tries_for why datagrams = map (λ d. record { what = d; why = why }) datagrams
+
+-- what the waits of these sources tried, one after another: of what asks their senders again, what could be paid for
+abbrev pub waits_tried : {P S : Type 0} (desk : Desk) (moment : ℕ) (origins : List Origin) (old new : OnWire P S)
+    → FoldsTo (HasWaitedOnce desk moment) old origins new → List Try
+waits_tried desk moment [] old new waited = []
+waits_tried desk moment (o ∷ os) old new waited =
+    tries_for (asks_again desk moment o waited.1.waited.ingested)
+    (paid_of waited.1.waited.ingested.up
+    (once_refilled (silence desk o.address moment) waited.1.waited.ingested old.0.limiter))
+    ++ waits_tried desk moment os waited.0 new waited.2
+
+-- what the reports tried, if they were due
+abbrev pub reports_tried : {P S : Type 0} (due : Bool) (desk : Desk) (moment : ℕ) (old new : FrontOf P S)
+    (before after : Option (List Attempt))
+    → MatchBool due (HasReported desk moment old new before after) ((new ≡ old) × (after ≡ before)) → List Try
+reports_tried true desk moment old new before after made = tries_for (reports desk moment) made.told
+reports_tried false desk moment old new before after made = []
+
+-- what a turn tried, in order, and why
+abbrev pub tries_by : {P S : Type 0} (turn : Turn) (old new : History P S) → Does old turn new → List Try
+tries_by (took late arrival outcome ended) old new did =
+    tries_for (answers late arrival did.takes.ingested)
+    (paid_of did.takes.ingested.up (once_refilled arrival did.takes.ingested did.mid.limiter))
+tries_by (let_wait desk moment) old new did =
+    waits_tried desk moment (video_origins desk) (old.front, old.tried) (new.front, new.tried) did.waited
+tries_by (let_some_wait desk moment) old new did =
+    waits_tried desk moment did.waited.first (old.front, old.tried) (did.waited.behind, new.tried) did.waited.waited
+tries_by (asked_picture o moment sent) old new did =
+    if sent
+    then record { what = picture_request old.front.ingress.asker o; why = asks_picture o moment } ∷ []
+    else []
+tries_by (made_report due desk moment) old new did =
+    reports_tried due desk moment old.front new.front old.tried new.tried did.made
+tries_by (owed notice) old new did = []
+tries_by (passed came) old new did = []
+tries_by (lost late arrival) old new did = []
+tries_by (looked moment) old new did = []
+tries_by (gave_ticks due moment) old new did = []
+tries_by (entered_desk desk) old new did = []
+tries_by (saw_desk later version desk moment) old new did = []
+tries_by (wanted_picture source moment) old new did = []
+tries_by (chose_sources moment sources) old new did = []
+tries_by (judged_wake moment raised) old new did = []
+tries_by signalled old new did = []
+
+-- what these turns tried, in order, and why
+abbrev pub tries_by_turns : {P S : Type 0} (turns : List Turn) (old new : History P S) → HaveDone turns old new
+    → List Try
+tries_by_turns [] old new done = []
+tries_by_turns (turn ∷ turns) old new done = tries_by turn old done.0 done.1 ++ tries_by_turns turns done.0 new done.2
+
+-- Over these turns the front tried to send these datagrams alone, each for its reason: what each of the turns tried,
+-- once and in order.
+abbrev pub AreMeant : {P S : Type 0} (turns : List Turn) (old new : History P S) → HaveDone turns old new → List Try
+    → Type 0
+AreMeant turns old new done tries =
+    (tries ≡ tries_by_turns turns old new done)
+    × WereTried (map (λ t. t.what) tries) old.tried new.tried
     × AllByRecursion (λ (t : Try). IsMeant turns old t.what t.why) tries
 
 -- what a turn read

@@ -38,10 +38,10 @@ pub fn moments_never_go_back<P: Pace, S: Sink>()
 
 /// Whatever a front does, each datagram that it tries to send is a compound of the receive side to the sender of a
 /// datagram that it took in, one that asks a sender again as time passes, a receiver report of a report that was due,
-/// or the PLI that asks a source for a picture.
+/// or the PLI that asks a source for a picture. Each turn tries what is listed of it once, in order.
 pub fn all_that_is_tried_is_meant<P: Pace, S: Sink>()
-    ensures { (turns : List Turn) (old new : History P S) → HaveDone turns old new
-        → (tries : List Try) × AreMeant turns old new tries }
+    ensures { (turns : List Turn) (old new : History P S) (done : HaveDone turns old new)
+        → (tries : List Try) × AreMeant turns old new done tries }
 {}
 
 /// Whatever a front does, it counts each datagram that it took in once, in order, with the outcome that its ingress

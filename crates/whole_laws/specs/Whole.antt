@@ -99,7 +99,7 @@ pub record IsFrontRun {P S : Type 0} (first last : FrontAt P S) (turns : List Tu
   pub came : left.read ≡ flat_map came_in turns
   pub moments : left.told ≡ flat_map moments_in turns
   pub tries : List Try
-  pub meant : AreMeant turns first.history last.history tries
+  pub meant : AreMeant turns first.history last.history done tries
   pub tried : map tried_of left.tried ≡ map (λ t. t.what) tries
 
 -- What its lanes did: each handled a beginning of what the turns gave it, and one list of these calls and of just these

@@ -16,5 +16,5 @@ returns g c first last turns left rounds done nothing read told tried =
           (c.all_that_came_is_in_turns.ensures.told turns first.history last.history done) told;
       tries = m.0;
       meant = m.1;
-      tried = tried_all left.tried first.history.tried last.history.tried _ nothing.tried tried m.1.0;
+      tried = tried_all left.tried first.history.tried last.history.tried _ nothing.tried tried m.1.1;
     }

@@ -9,7 +9,7 @@ returns-in_err-take_datagrams g c =
     let d = c.take_datagrams.ensures in (
       entered_desk c.args.rows.now ∷ d.0,
       (c.enter.new.self, c.enter.ensures, d.1),
-      err_on_ok _ c.from_residual-in_err-take_datagrams.result c.from_residual-in_err-take_datagrams.ensures.0,
+      err_on_ok _ c.from_residual.result c.from_residual.ensures.0,
     )
 
 pub returns-in_err-now : goal.returns-in_err-now
