@@ -30,6 +30,7 @@ mod front;
 mod listener;
 mod opening;
 mod parts;
+mod rest;
 mod rounds;
 mod serving;
 mod setup;

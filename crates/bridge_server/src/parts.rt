@@ -22,6 +22,7 @@ use mio::net::UdpSocket;
 use operator_threads::Lobby;
 use std::alloc::{AllocError, Global};
 use std::sync::{Arc, Wait};
+use std::time::Clock;
 use trace_ring::TraceSender;
 use udp_wire::{FrontFault, Moments};
 
@@ -47,12 +48,12 @@ pub(crate) struct Records {
 }
 
 /// The socket for datagrams of a front, the connection of its trace, if there is one, and its other parts.
-pub(crate) fn sockets_of<R: Wait>(
+pub(crate) fn sockets_of<R: Wait + Clock + Copy + Drop>(
     rt: &R,
     alloc: Global,
     front: Front,
     teller: &Teller,
-) -> Result<(Sockets, Option<TraceStream>, FrontParts), FrontFault>
+) -> Result<(Sockets<R>, Option<TraceStream>, FrontParts), FrontFault>
     ensures settings { IfOk result (λ r. r.2.settings ≡ front.settings) }
     ensures read { IfOk result (λ r. read_list (r.0).inlet.log ≡ []) }
     ensures tried { IfOk result (λ r. tried_list (r.0).wire.log ≡ []) }
@@ -81,7 +82,7 @@ pub(crate) fn sockets_of<R: Wait>(
         chunk,
         settings,
     };
-    let sockets = Sockets::new(alloc, poll, udp, parts.settings.udp)?;
+    let sockets = Sockets::new(rt, alloc, poll, udp, parts.settings.udp)?;
     Ok((sockets, trace, parts))
 }
 

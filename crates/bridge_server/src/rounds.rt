@@ -31,7 +31,7 @@ pub(crate) type ServerRounds<H, R> = Rounds<
     PublisherOf<H>,
     SleepPace<R, ()>,
     WireSink<LaneSocket>,
-    UdpInlet,
+    UdpInlet<R>,
     FrontSocket,
     SystemWatch<R>,
 >;

@@ -7,6 +7,7 @@ ghost use Rattle.event_loop.specs.Came.{octets_read};
 ghost use Rattle.event_loop.specs.Logs.{read_list, tried_list};
 
 use crate::front::{TCP, UDP};
+use crate::rest::Rest;
 use crate::system_socket::SystemSocket;
 use event_lines::{Cause, ServerPart, WhyFailed};
 use event_loop::{Inlet, Read, ReadLog, TryLog, read_datagram};
@@ -14,9 +15,9 @@ use mio::net::UdpSocket;
 use mio::{Events, Poll};
 use rtp_codec::Address;
 use std::alloc::{AllocError, Global};
-use std::io;
 use std::sync::Arc;
-use std::time::Duration;
+use std::time::{Clock, Duration};
+use std::{io, thread};
 use udp_wire::{FrontFault, Wire, send_octets, send_parts};
 
 /// How many of the system's events are taken at a time.
@@ -35,7 +36,8 @@ pub(crate) fn chunk(alloc: Global) -> Result<Vec<u8>, AllocError>
 
 /// The socket for datagrams as an inlet, with what the system last reported of the sockets.
 #[derive(Drop)]
-pub(crate) struct UdpInlet {
+pub(crate) struct UdpInlet<R: Clock + Drop> {
+    rt: R,
     poll: Poll,
     events: Events,
     /// Lanes have handles of it, too.
@@ -44,15 +46,17 @@ pub(crate) struct UdpInlet {
     at: Address,
     /// Datagrams may wait.
     has_datagrams: bool,
+    rest: Rest,
     /// What failed last.
     trouble: Option<Cause>,
     /// What was read, in proofs alone.
     log: ReadLog,
 }
 
-impl UdpInlet {
+impl<R: Clock + Copy + Drop> UdpInlet<R> {
     /// An inlet from which nothing was read yet. Datagrams may wait.
     fn new(
+        rt: &R,
         alloc: Global,
         poll: Poll,
         udp: &Arc<UdpSocket, Global>,
@@ -65,16 +69,20 @@ impl UdpInlet {
         let events = Events::with_capacity(alloc, EVENTS)?;
         let udp = Arc::try_clone(udp)?;
         Ok(Self {
+            rt: *rt,
             poll,
             events,
             udp,
             at,
             has_datagrams: true,
+            rest: Rest::new(),
             trouble: None,
             log: ReadLog::new(),
         })
     }
+}
 
+impl<R: Clock + Drop> UdpInlet<R> {
     /// What failed last.
     pub(crate) fn trouble(&self) -> Option<Cause>
         ensures { result ≡ self.now.trouble }
@@ -107,7 +115,12 @@ impl UdpInlet {
     {
         let mut socket = SystemSocket(&self.udp);
         match read_datagram(&mut socket, &mut self.has_datagrams, chunk) {
-            Ok(read) => Ok(read),
+            Ok(read) => {
+                if matches!(read, Read::Datagram { .. }) {
+                    self.rest.note_read();
+                }
+                Ok(read)
+            }
             Err(error) => {
                 let at = ServerPart::Udp(self.at);
                 Err(self.fails(at, error))
@@ -116,7 +129,7 @@ impl UdpInlet {
     }
 }
 
-impl Inlet for UdpInlet {
+impl<R: Clock + Drop> Inlet for UdpInlet<R> {
     ghost use Rattle.event_loop.specs.Logs.{read_list};
 
     ghost came = { λ inlet. read_list inlet.log };
@@ -127,10 +140,14 @@ impl Inlet for UdpInlet {
         Ok(read)
     }
 
-    /// It doesn't wait if datagrams may be there already.
+    /// It doesn't wait if datagrams may be there already. Where they came close to one another, it rests first.
     fn wait(&mut self, longest: u64) -> Result<bool, FrontFault> {
         let longest = if self.has_datagrams { 0 } else { longest };
-        let longest = Some(Duration::from_nanos(longest));
+        let rest = self.rest.begin_wait(longest);
+        if rest > 0 {
+            thread::sleep(&self.rt, Duration::from_nanos(rest));
+        }
+        let longest = Some(Duration::from_nanos(longest - rest));
         if let Err(error) = self.poll.poll(&mut self.events, longest) {
             return Err(self.fails(ServerPart::Poll, error));
         }
@@ -213,16 +230,17 @@ impl Wire for FrontSocket {
 
 /// The socket for datagrams of a front, from which nothing was read yet.
 #[derive(Drop)]
-pub(crate) struct Sockets {
-    pub(crate) inlet: UdpInlet,
+pub(crate) struct Sockets<R: Clock + Drop> {
+    pub(crate) inlet: UdpInlet<R>,
     pub(crate) wire: FrontSocket,
     /// For the lanes.
     pub(crate) udp: Arc<UdpSocket, Global>,
 }
 
-impl Sockets {
+impl<R: Clock + Copy + Drop> Sockets<R> {
     /// From these nothing was read yet. The only error is out of memory.
     pub(crate) fn new(
+        rt: &R,
         alloc: Global,
         poll: Poll,
         udp: UdpSocket,
@@ -233,7 +251,7 @@ impl Sockets {
     {
         let udp = Arc::new(alloc, udp)?;
         let wire = FrontSocket::new(alloc, &udp)?;
-        let inlet = UdpInlet::new(alloc, poll, &udp, at)?;
+        let inlet = UdpInlet::new(rt, alloc, poll, &udp, at)?;
         Ok(Self { inlet, wire, udp })
     }
 }
