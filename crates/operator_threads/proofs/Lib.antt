@@ -1,2 +1,5 @@
 mod FreeLemmas
+mod LearnLemmas
+mod LeaseLemmas
+mod LeaseSteps
 mod WatchLemmas

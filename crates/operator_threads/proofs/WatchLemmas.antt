@@ -23,7 +23,9 @@ use Rattle.operator_desk.specs.PastCalls.{stamped_from, stamped_of}
 use Rattle.operator_desk.specs.Seats.{SeatOf}
 use Rattle.operator_desk.proofs.StampLemmas.{stamped-append, length-stamped}
 use Rattle.operator_threads.specs.Watches.{SittingOf, SeatAnswers, SeatWatches, SeatNews, AreSeatAnswers, TellsNews}
-use Rattle.operator_threads.specs.Watches.{AnswersCall, IsClosed}
+use Rattle.operator_threads.specs.Lease.{leases_after}
+use Rattle.operator_threads.specs.Told.{shown_name}
+use Rattle.operator_threads.specs.Watches.{AnswersCall, IsClosed, after_learning}
 use Rattle.operator_threads.specs.Watches.{news_of, news_among, TellsEach, WasTold}
 
 -- a seat that has seen a legal log has caught up with it
@@ -45,6 +47,7 @@ no_news start told s legal is known seen =
       named = refl;
       name = refl;
       trouble = refl;
+      learnt = refl;
       text = ap (told_text s.is_named) (sym (drop_all told (stamped_of s.seat.seen) (omega (arith, many, seen))));
     }
 
@@ -149,7 +152,7 @@ step : (start : Desk) (publisher : Book) (asked : List (DeskAsk × List ℕ)) (t
     → old.told ≡ Some told → told ≤ length old.seat.seen → GoesOn start publisher asked new
     → Goes told old new (news_of ask text ++ news_among asked)
 step start publisher asked told moment old mid new (calls line call) text a done is few goes =
-    let stays = called start publisher moment old mid line call text _ a.2 in
+    let stays = called start publisher moment (after_learning mid.learnt old) mid line call text _ a.3 in
     let begins = stays.begins in
     let longer = prefix_few old.seat.seen mid.seat.seen begins in
     let more = goes told mid done (stays.told ∙ is) (omega (arith, few, longer)) in
@@ -178,7 +181,9 @@ step start publisher asked told moment old mid new (renames name) text a done is
     (subst (λ (s : SittingOf). AreSeatAnswers start publisher asked s new) a.0 done) is few in
     record { was = more.was; least = more.least; begins = more.begins }
 step start publisher asked told moment old mid new (leases ask) text a done is few goes =
-    let more = goes told old (subst (λ (s : SittingOf). AreSeatAnswers start publisher asked s new) a.0 done) is few in
+    let next = after_learning (leases_after ask a.at (shown_name old.name) a.before) old in
+    let more = goes told next (subst (λ (s : SittingOf). AreSeatAnswers start publisher asked s new) a.after done) is
+    few in
     record { was = more.was; least = more.least; begins = more.begins }
 step start publisher asked told moment old mid new (faults line word fault) text a done is few goes =
     let more = goes told (record old { trouble = Some (record { line = line; wrong = Faulty word fault }) })

@@ -1,8 +1,10 @@
 -- The lease of a desk (own).
 use Rattle.std.specs.Prelude.{◌≡◌, ◌≤◌, ℕ, ◌+◌, ◌-◌, ◌/◌, min, max, Bool, true, not, ◌&&◌}
-use Rattle.std.specs.Prelude.{◌||◌, nat_le, List, [], ◌∷◌, codes}
+use Rattle.std.specs.Prelude.{◌||◌, nat_le, List, [], ◌∷◌, ◌++◌, codes, fold}
 use Rattle.std.specs.Prelude.{Option, Some, None}
 use Rattle.std.specs.Str.{bytes_eq}
+use mathlib.Core.List.{IsPrefix}
+use Rattle.logbook.specs.Pages.{Book}
 use Rattle.desk_edit.specs.Told.{Told}
 use Rattle.desk_edit.specs.declared.refusal.Carried.TheVariants.{Nothing}
 use Rattle.desk_text.specs.declared.value.Value.TheVariants.{U64}
@@ -16,12 +18,26 @@ pub record LeaseOf : Type 0 where
   pub until : ℕ
   pub holder : List ℕ
 
--- the lease of a desk, if it has one, and the latest moment at which it was looked at, in nanoseconds
+-- the leases that a desk was told, one after another, and the book in which they stand: each was given, or is none
+-- where the one before was taken back
+pub record LeasesOf : Type 0 where
+  pub book : Book
+  pub list : List (Option LeaseOf)
+
+-- the lease that was told last; none where none was told
+abbrev pub last_lease : List (Option LeaseOf) → Option LeaseOf
+last_lease list = fold (λ (before next : Option LeaseOf). next) None list
+
+-- The leases go on from those that were known, if they stand in the same book.
+pub record HasLearnt (known now : LeasesOf) : Type 0 where
+  pub goes_on : now.book ≡ known.book → IsPrefix known.list now.list
+
+-- the leases that a desk was told, and the latest moment at which they were looked at, in nanoseconds
 pub record DeskLeaseOf : Type 0 where
-  pub held : Option LeaseOf
+  pub told : LeasesOf
   pub latest : ℕ
 
--- it is looked at, at a moment of a connection: that of another one may have been later
+-- they are looked at, at a moment of a connection: that of another one may have been later
 abbrev pub looked_at : (moment : ℕ) → DeskLeaseOf → DeskLeaseOf
 looked_at moment lease = record lease { latest = max moment lease.latest }
 
@@ -46,17 +62,21 @@ abbrev pub takes_calls : Option LeaseOf → (moment : ℕ) → (name : List ℕ)
 takes_calls None moment name = true
 takes_calls (Some lease) moment name = not (has_ended lease moment) || is_holder lease name
 
--- whether the desk takes a call of this moment, by some lease and as of this moment or a later one
-abbrev pub IsJudged : (moment : ℕ) → (name : List ℕ) → (takes : Bool) → Type 0
-IsJudged moment name takes =
-    (at : ℕ) × (lease : Option LeaseOf) × (takes ≡ takes_calls lease at name) × (moment ≤ at)
+-- whether the desk takes a call of this moment, by the last of these leases and as of this moment or a later one
+abbrev pub IsJudged : List (Option LeaseOf) → (moment : ℕ) → (name : List ℕ) → (takes : Bool) → Type 0
+IsJudged list moment name takes = (at : ℕ) × (takes ≡ takes_calls (last_lease list) at name) × (moment ≤ at)
 
--- the lease after a connection of this name has asked so
-abbrev pub lease_after : LeaseAsk → (moment : ℕ) → (name : List ℕ) → Option LeaseOf → Option LeaseOf
-lease_after Tell moment name before = before
-lease_after Off moment name before = None
-lease_after (Lasts milliseconds) moment name before =
-    Some (record { until = min (millisecond_of moment + milliseconds) last_millisecond; holder = name })
+-- one more lease was told
+abbrev pub told_lease : Option LeaseOf → LeasesOf → LeasesOf
+told_lease lease before = record before { list = before.list ++ lease ∷ [] }
+
+-- the leases after a connection of this name has asked so
+abbrev pub leases_after : LeaseAsk → (moment : ℕ) → (name : List ℕ) → LeasesOf → LeasesOf
+leases_after Tell moment name before = before
+leases_after Off moment name before = told_lease None before
+leases_after (Lasts milliseconds) moment name before =
+    told_lease (Some (record { until = min (millisecond_of moment + milliseconds) last_millisecond; holder = name }))
+    before
 
 -- the line of what is left of it, in milliseconds, and of who holds it
 abbrev pub lease_line : Option LeaseOf → (moment : ℕ) → List ℕ

@@ -18,12 +18,13 @@ use Rattle.operator_desk.specs.declared.answer.Answer.{Answer}
 use Rattle.operator_desk.specs.Answers.{IsAnswered, HasCaughtUp}
 use Rattle.operator_desk.specs.PastCalls.{stamped_of}
 use Rattle.operator_desk.specs.Seats.{SeatOf}
-use Rattle.operator_threads.specs.Lease.{LeaseOf, IsJudged, lease_after, lease_line, closed_line}
+use Rattle.operator_threads.specs.Lease.{LeasesOf, HasLearnt, IsJudged, last_lease, leases_after, lease_line}
+use Rattle.operator_threads.specs.Lease.{closed_line}
 use Rattle.operator_threads.specs.Told.{answer_text, IsKnown, stamp_at, shown_name, name_line, trouble_after}
 
 -- an operator at the desk: the seat; the latest notice that is known; of a watch how many calls of the log it has told,
--- or were accepted before it, and whether it tells moments and names; the connection's name; and the last line that was
--- faulty or refused
+-- or were accepted before it, and whether it tells moments and names; the connection's name; the last line that was
+-- faulty or refused; and the leases that it has learnt of
 pub record SittingOf : Type 0 where
   pub seat : SeatOf
   pub known : NoticeOf
@@ -31,9 +32,11 @@ pub record SittingOf : Type 0 where
   pub is_named : Bool
   pub name : List ℕ
   pub trouble : Option TroubleOf
+  pub learnt : LeasesOf
 
 -- The call of a line is answered, and its line is told. An accepted one has the moment and the name, and its notice is
--- known from then on; a refused one is the last line that was faulty or refused. The watch and the name stay.
+-- known from then on; a refused one is the last line that was faulty or refused. The watch, the name and the leases
+-- stay.
 pub record AnswersCall (start : Desk) (publisher : Book) (moment : ℕ) (old new : SittingOf) (line : List ℕ)
     (call : CallOf) (said : List ℕ) : Type 0 where
   pub answer : Answer
@@ -44,6 +47,7 @@ pub record AnswersCall (start : Desk) (publisher : Book) (moment : ℕ) (old new
   pub named : new.is_named ≡ old.is_named
   pub name : new.name ≡ old.name
   pub trouble : new.trouble ≡ trouble_after line answer old.trouble
+  pub learnt : new.learnt ≡ old.learnt
 
 -- The call of a line is refused at a version no earlier than the last call known, and its line is told: the desk
 -- doesn't take it. It is the last line that was faulty or refused, and nothing else has changed.
@@ -53,18 +57,29 @@ pub record IsClosed (old new : SittingOf) (line said : List ℕ) : Type 0 where
   pub text : said ≡ closed_line version
   pub noted : new ≡ record old { trouble = Some (record { line = line; wrong = Closed }) }
 
--- some lease says whether the desk takes the call: then that is answered, and else refused
+-- it has learnt of these leases
+abbrev pub after_learning : LeasesOf → SittingOf → SittingOf
+after_learning learnt old = record old { learnt = learnt }
+
+-- the last lease that it has learnt of by then says whether the desk takes the call: then that is answered, and else
+-- refused
 abbrev pub SeatCalls :
     Desk → Book → (moment : ℕ) → (old new : SittingOf) → (line : List ℕ) → CallOf → (said : List ℕ) → Type 0
 SeatCalls start publisher moment old new line call said =
-    (takes : Bool) × IsJudged moment (shown_name old.name) takes
-    × MatchBool takes (AnswersCall start publisher moment old new line call said) (IsClosed old new line said)
+    HasLearnt old.learnt new.learnt
+    × (takes : Bool) × IsJudged new.learnt.list moment (shown_name old.name) takes
+    × MatchBool takes (AnswersCall start publisher moment (after_learning new.learnt old) new line call said)
+    (IsClosed (after_learning new.learnt old) new line said)
 
--- the desk's lease changes as it is asked, and what is left of it is told, as of this moment or a later one
-abbrev pub TellsLease : (moment : ℕ) → (name : List ℕ) → LeaseAsk → (said : List ℕ) → Type 0
-TellsLease moment name ask said =
-    (at : ℕ) × (moment ≤ at) × (lease : Option LeaseOf)
-    × (said ≡ lease_line (lease_after ask at (shown_name name) lease) at)
+-- It has learnt of leases, the desk is told what is asked behind them, as of this moment or a later one, and what is
+-- left of the last lease is told.
+pub record TellsLease (moment : ℕ) (ask : LeaseAsk) (old new : SittingOf) (said : List ℕ) : Type 0 where
+  pub at : ℕ
+  pub least : moment ≤ at
+  pub before : LeasesOf
+  pub learnt : HasLearnt old.learnt before
+  pub after : new ≡ after_learning (leases_after ask at (shown_name old.name) before) old
+  pub text : said ≡ lease_line (last_lease new.learnt.list) at
 
 -- A watch begins behind all calls of a legal log, the known ones among them, and their number is told.
 pub record BeginsWatch (start : Desk) (is_named : Bool) (old new : SittingOf) (said : List ℕ) : Type 0 where
@@ -75,6 +90,7 @@ pub record BeginsWatch (start : Desk) (is_named : Bool) (old new : SittingOf) (s
   pub named : new.is_named ≡ is_named
   pub name : new.name ≡ old.name
   pub trouble : new.trouble ≡ old.trouble
+  pub learnt : new.learnt ≡ old.learnt
   pub text : said ≡ end_line (length new.seat.seen)
 
 -- a watch begins so; where there is one, it goes on in this form, and how many calls it has told or passed over is told
@@ -92,6 +108,7 @@ pub record TellsNews (start : Desk) (passed : ℕ) (old new : SittingOf) (said :
   pub named : new.is_named ≡ old.is_named
   pub name : new.name ≡ old.name
   pub trouble : new.trouble ≡ old.trouble
+  pub learnt : new.learnt ≡ old.learnt
   pub text : said ≡ told_text old.is_named (drop passed (stamped_of new.seat.seen))
 
 -- a watch tells those that it hasn't told; without one there are no news
@@ -108,6 +125,7 @@ pub record ListsCalls (start : Desk) (most : ℕ) (old new : SittingOf) (said : 
   pub named : new.is_named ≡ old.is_named
   pub name : new.name ≡ old.name
   pub trouble : new.trouble ≡ old.trouble
+  pub learnt : new.learnt ≡ old.learnt
   pub text : said ≡ calls_text (last_few most (stamped_of new.seat.seen)) (length new.seat.seen)
 
 -- what an operator's desk is asked at a moment is answered
@@ -119,7 +137,7 @@ SeatAnswers start publisher moment old new news text = SeatNews start old new ol
 SeatAnswers start publisher moment old new (lists most) text = ListsCalls start most old new text
 SeatAnswers start publisher moment old new (renames name) text =
     (new ≡ record old { name = name }) × (text ≡ name_line name)
-SeatAnswers start publisher moment old new (leases ask) text = (new ≡ old) × TellsLease moment old.name ask text
+SeatAnswers start publisher moment old new (leases ask) text = TellsLease moment ask old new text
 SeatAnswers start publisher moment old new (faults line word fault) text =
     (new ≡ record old { trouble = Some (record { line = line; wrong = Faulty word fault }) }) × (text ≡ [])
 
@@ -170,10 +188,16 @@ abbrev pub AppendsClosed : (old new : SittingOf) → (line before after : List �
 AppendsClosed old new line before after =
     (text : List ℕ) × (after ≡ before ++ text) × IsClosed old new line text
 
--- the desk's lease changes, and the text is appended
-abbrev pub AppendsLease : (moment : ℕ) → (name : List ℕ) → LeaseAsk → (before after : List ℕ) → Type 0
-AppendsLease moment name ask before after =
-    (text : List ℕ) × (after ≡ before ++ text) × TellsLease moment name ask text
+-- a call is judged, and answered or refused, and the text is appended
+abbrev pub AppendsJudged :
+    Desk → Book → (moment : ℕ) → (old new : SittingOf) → (line : List ℕ) → CallOf → (before after : List ℕ) → Type 0
+AppendsJudged start publisher moment old new line call before after =
+    (text : List ℕ) × (after ≡ before ++ text) × SeatCalls start publisher moment old new line call text
+
+-- the desk is told a lease or asked for it, and the text is appended
+abbrev pub AppendsLease : (moment : ℕ) → LeaseAsk → (old new : SittingOf) → (before after : List ℕ) → Type 0
+AppendsLease moment ask old new before after =
+    (text : List ℕ) × (after ≡ before ++ text) × TellsLease moment ask old new text
 
 -- a watch begins, and its text is appended
 abbrev pub AppendsWatch : Desk → (is_named : Bool) → (old new : SittingOf) → (before after : List ℕ) → Type 0

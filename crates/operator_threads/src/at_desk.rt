@@ -3,6 +3,7 @@
 ghost use Rattle.std.specs.Prelude.{◌≡◌, ◌≤◌, ◌++◌, ℕ, List, length, OnOk, OnErr};
 ghost use Rattle.operator_threads.specs.Told.{SeatShows, SeatTellsPast};
 
+use crate::leases::Leases;
 use crate::operators::Operators;
 use crate::printed::Printed;
 use crate::printed_past::PrintedPast;
@@ -37,6 +38,8 @@ pub struct AtDesk<'b, 'a, H: DeskBrand, R: Wait, F: Wake> {
     pub(crate) name: Vec<u8>,
     /// The last line that was faulty or refused.
     pub(crate) trouble: Option<Trouble>,
+    /// The leases that it has learnt of.
+    pub(crate) learnt: Leases,
 }
 
 impl<'b, 'a, H: DeskBrand, R: Wait, F: Wake> AtDesk<'b, 'a, H, R, F> {
@@ -52,6 +55,7 @@ impl<'b, 'a, H: DeskBrand, R: Wait, F: Wake> AtDesk<'b, 'a, H, R, F> {
             is_named: _,
             name: _,
             trouble: _,
+            learnt: _,
         } = self;
         operators.give(rt, taken);
     }
@@ -157,6 +161,7 @@ impl<'b, 'a, H: DeskBrand, R: Wait, F: Wake> LineDesk for AtDesk<'b, 'a, H, R, F
           is_named = old.is_named;
           name = old.name.items;
           trouble = old.trouble;
+          learnt = old.learnt;
         })
         (record {
           seat = new.taken.seat;
@@ -165,6 +170,7 @@ impl<'b, 'a, H: DeskBrand, R: Wait, F: Wake> LineDesk for AtDesk<'b, 'a, H, R, F
           is_named = new.is_named;
           name = new.name.items;
           trouble = new.trouble;
+          learnt = new.learnt;
         })
         ask text };
 
@@ -182,11 +188,7 @@ impl<'b, 'a, H: DeskBrand, R: Wait, F: Wake> LineDesk for AtDesk<'b, 'a, H, R, F
         let (operators, rt) = (self.operators, self.rt);
         // It is locked until the call is answered, so that none is accepted behind the answer that it has ended.
         let mut lease = operators.lease.lock(rt);
-        let answer = if lease.takes_calls(moment, self.shown_name()) {
-            self.give_call(alloc, moment, line, call, out)
-        } else {
-            self.refuse_call(alloc, line, out)
-        };
+        let answer = self.judge_call(alloc, moment, line, call, &mut lease, out);
         MutexGuard::unlock(lease);
         answer
     }
@@ -250,7 +252,11 @@ impl<'b, 'a, H: DeskBrand, R: Wait, F: Wake> LineDesk for AtDesk<'b, 'a, H, R, F
         ask: LeaseAsk,
         out: &mut Vec<u8>,
     ) -> Result<(), AllocError> {
-        self.change_lease(alloc, moment, ask, out)
+        let (operators, rt) = (self.operators, self.rt);
+        let mut lease = operators.lease.lock(rt);
+        let answer = self.ask_lease(alloc, moment, ask, &mut lease, out);
+        MutexGuard::unlock(lease);
+        answer
     }
 
     fn note_fault(

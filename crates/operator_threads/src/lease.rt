@@ -1,17 +1,20 @@
 //! The lease of a desk: how long it takes the calls of all.
 
-ghost use Rattle.std.specs.Prelude.{◌≡◌, ◌++◌, None, OnOk, OnErr, IfOk};
+ghost use Rattle.std.specs.Prelude.{◌≡◌, ◌++◌, [], OnOk, OnErr};
 ghost use Rattle.operator_threads.specs.Lease.{
   IsJudged,
   has_ended,
   is_holder,
-  lease_after,
+  last_lease,
   lease_line,
+  leases_after,
   looked_at,
   millisecond_of,
   takes_calls,
+  told_lease,
 };
 
+use crate::leases::{LeaseHead, Leases};
 use desk_text::{Value, Word, print_line};
 use operator_lines::LeaseAsk;
 use std::alloc::{AllocError, Global};
@@ -60,7 +63,8 @@ impl Held {
     }
 }
 
-/// The lease of a desk, if it has one, and the latest moment at which it was looked at. Contracts see both.
+/// The lease of a desk, if it has one, and the latest moment at which it was looked at. Contracts see all leases that
+/// the desk was told, of which it is the last, and that moment.
 ///
 /// Connections look at it in the order of its lock, which isn't that of their moments. It is judged by the latest one,
 /// so that a lease which was told as ended stays ended.
@@ -69,25 +73,42 @@ pub(crate) struct Lease {
     held: Option<Held>,
     /// In nanoseconds.
     latest: u64,
+    told: Leases,
+    head: LeaseHead,
 }
 
 impl Model for Lease {
-    ghost use Rattle.operator_threads.specs.Lease.{DeskLeaseOf};
+    ghost use Rattle.std.specs.Prelude.{◌≡◌};
+    ghost use Rattle.published_desk.specs.inner.BookRule.{head_of};
+    ghost use Rattle.operator_threads.specs.Lease.{DeskLeaseOf, last_lease};
 
     ghost Value = { DeskLeaseOf };
 
-    ghost view = { λ l. record { held = l.held; latest = l.latest } };
+    ghost view = { λ l. record { told = l.told; latest = l.latest } };
+
+    ghost invariant = { λ l. (l.held ≡ last_lease l.told.list) × (l.head ≡ head_of l.told.book) };
 }
 
 impl Lease {
-    /// There is none.
+    /// There is none, and none was told.
     pub fn none() -> Self
-        ensures { result ≡ record { held = None; latest = 0 } }
+        ensures told { result.told.list ≡ [] }
+        ensures latest { result.latest ≡ 0 }
     {
+        let (head, told) = Leases::none();
         Self {
             held: None,
             latest: 0,
+            told,
+            head,
         }
+    }
+
+    /// The leases that the desk was told.
+    pub fn told(&self) -> &Leases
+        ensures { result.now ≡ self.now.told }
+    {
+        &self.told
     }
 
     /// It is looked at, at a moment in nanoseconds.
@@ -99,7 +120,7 @@ impl Lease {
 
     /// Whether the desk takes the calls of a connection that is told by this name, as of the latest look.
     fn is_open_to(&self, name: &[u8]) -> bool
-        ensures { result ≡ takes_calls self.now.held self.now.latest name.now }
+        ensures { result ≡ takes_calls (last_lease self.now.told.list) self.now.latest name.now }
     {
         match &self.held {
             None => true,
@@ -110,35 +131,50 @@ impl Lease {
     /// Whether the desk takes a call of this moment, in nanoseconds, of a connection that is told by this name.
     pub fn takes_calls(&mut self, moment: u64, name: &[u8]) -> bool
         ensures looked { self.new ≡ looked_at moment self.old }
-        ensures takes { result ≡ takes_calls self.new.held self.new.latest name.now }
-        ensures judged { IsJudged moment name.now result }
+        ensures takes { result ≡ takes_calls (last_lease self.new.told.list) self.new.latest name.now }
+        ensures judged { IsJudged self.old.told.list moment name.now result }
     {
         self.look(moment);
         self.is_open_to(name)
     }
 
+    /// It is this one from now on. An `Err` changes nothing.
+    // No clause says that the book is written here alone, so it has an error where the book has another lease.
+    #[tactic(auto, using(crate::proofs::LeaseLemmas::last_told))]
+    fn become_lease(&mut self, lease: Option<Held>) -> Result<(), AllocError>
+        ensures ok { OnOk result (self.new ≡ record self.old { told = told_lease lease self.old.told }) }
+        ensures err { OnErr result (self.new ≡ self.old) }
+    {
+        let mut told = self.told.again();
+        if !told.add(&self.head, &lease) {
+            return Err(AllocError);
+        }
+        self.told = told;
+        self.held = lease;
+        Ok(())
+    }
+
     /// What a connection that is told by this name asks. An `Err` changes nothing.
     pub fn change(&mut self, alloc: Global, name: &[u8], ask: LeaseAsk) -> Result<(), AllocError>
         ensures ok { OnOk result (self.new
-            ≡ record self.old { held = lease_after ask self.old.latest name.now self.old.held }) }
+            ≡ record self.old { told = leases_after ask self.old.latest name.now self.old.told }) }
         ensures err { OnErr result (self.new ≡ self.old) }
     {
         match ask {
-            LeaseAsk::Tell => {}
-            LeaseAsk::Off => self.held = None,
+            LeaseAsk::Tell => Ok(()),
+            LeaseAsk::Off => self.become_lease(None),
             LeaseAsk::Lasts { milliseconds } => {
                 let holder = Vec::from_slice(alloc, name)?;
                 let until = millisecond_of(self.latest).saturating_add(milliseconds);
-                self.held = Some(Held { until, holder });
+                self.become_lease(Some(Held { until, holder }))
             }
         }
-        Ok(())
     }
 
     /// Appends the line of what is left of it. An `Err` appends nothing.
     pub fn print(&self, out: &mut Vec<u8>) -> Result<(), AllocError>
         ensures ok { OnOk result (out.new.items
-            ≡ out.old.items ++ lease_line self.now.held self.now.latest) }
+            ≡ out.old.items ++ lease_line (last_lease self.now.told.list) self.now.latest) }
         ensures err { OnErr result (out.new.items ≡ out.old.items) }
     {
         match &self.held {

@@ -36,7 +36,9 @@ mod at_desk;
 mod follower;
 mod latest;
 mod laws;
+mod learning;
 mod lease;
+mod leases;
 mod leasing;
 mod lobby;
 mod making;
@@ -54,7 +56,7 @@ mod watching;
 
 pub use self::at_desk::AtDesk;
 pub use self::follower::Follower;
-pub use self::laws::a_watch_tells_each_call_once;
+pub use self::laws::{a_watch_tells_each_call_once, without_a_lease_each_call_is_taken};
 pub use self::lobby::{Guest, Lobby, turn_away};
 pub use self::operators::Operators;
 pub use self::printing::print_answer;

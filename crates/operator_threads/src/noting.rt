@@ -40,6 +40,7 @@ impl<'b, 'a, H: DeskBrand, R: Wait, F: Wake> AtDesk<'b, 'a, H, R, F> {
         ensures named { self.new.is_named ≡ self.old.is_named }
         ensures name { self.new.name ≡ self.old.name }
         ensures trouble { self.new.trouble ≡ self.old.trouble }
+        ensures learnt { self.new.learnt ≡ self.old.learnt }
     {
         if let Answer::Accepted { notice, .. } = answer {
             self.known = self.operators.learn(self.rt, notice);
@@ -55,6 +56,7 @@ impl<'b, 'a, H: DeskBrand, R: Wait, F: Wake> AtDesk<'b, 'a, H, R, F> {
         ensures told { self.new.told ≡ self.old.told }
         ensures named { self.new.is_named ≡ self.old.is_named }
         ensures name { self.new.name ≡ self.old.name }
+        ensures learnt { self.new.learnt ≡ self.old.learnt }
     {
         if let Answer::Refused { why, .. } = answer {
             self.trouble = Some(Trouble::new(line, wrong_by(*why)));

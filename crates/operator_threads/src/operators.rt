@@ -8,6 +8,7 @@ ghost use Rattle.operator_desk.specs.Opening.{most_operators};
 use crate::at_desk::AtDesk;
 use crate::latest::Latest;
 use crate::lease::Lease;
+use crate::leases::Leases;
 use crate::printed::Printed;
 use crate::printed_past::PrintedPast;
 use crate::seats::{FreeSeats, TakenSeat};
@@ -136,6 +137,7 @@ impl<'a, H: DeskBrand> Operators<'a, H> {
         ensures trouble { result.trouble ≡ None }
     {
         let known = self.latest(rt);
+        let learnt = self.leases(rt);
         AtDesk {
             operators: self,
             rt,
@@ -146,7 +148,16 @@ impl<'a, H: DeskBrand> Operators<'a, H> {
             is_named: false,
             name: Vec::new(alloc),
             trouble: None,
+            learnt,
         }
+    }
+
+    /// The leases that the desk was told so far.
+    fn leases<R: Wait>(&self, rt: &R) -> Leases {
+        let lease = self.lease.lock(rt);
+        let leases = lease.told().again();
+        MutexGuard::unlock(lease);
+        leases
     }
 
     /// Learns the notice of an accepted call, and returns the latest one.

@@ -26,6 +26,7 @@ impl<'b, 'a, H: DeskBrand, R: Wait, F: Wake> AtDesk<'b, 'a, H, R, F> {
         ensures named { self.new.is_named ≡ self.old.is_named }
         ensures name { self.new.name ≡ self.old.name }
         ensures trouble { self.new.trouble ≡ self.old.trouble }
+        ensures learnt { self.new.learnt ≡ self.old.learnt }
     {
         let desk = &self.operators.desk;
         if desk.catch_up(self.rt, &mut self.taken.seat).is_err() {
@@ -51,6 +52,7 @@ impl<'b, 'a, H: DeskBrand, R: Wait, F: Wake> AtDesk<'b, 'a, H, R, F> {
               is_named = self.old.is_named;
               name = self.old.name.items;
               trouble = self.old.trouble;
+              learnt = self.old.learnt;
             })
             (record {
               seat = self.new.taken.seat;
@@ -59,6 +61,7 @@ impl<'b, 'a, H: DeskBrand, R: Wait, F: Wake> AtDesk<'b, 'a, H, R, F> {
               is_named = self.new.is_named;
               name = self.new.name.items;
               trouble = self.new.trouble;
+              learnt = self.new.learnt;
             })
             out.old.items out.new.items) }
         ensures err { OnErr result (out.new.items ≡ out.old.items) }
@@ -100,6 +103,7 @@ impl<'b, 'a, H: DeskBrand, R: Wait, F: Wake> AtDesk<'b, 'a, H, R, F> {
               is_named = self.old.is_named;
               name = self.old.name.items;
               trouble = self.old.trouble;
+              learnt = self.old.learnt;
             })
             (record {
               seat = self.new.taken.seat;
@@ -108,6 +112,7 @@ impl<'b, 'a, H: DeskBrand, R: Wait, F: Wake> AtDesk<'b, 'a, H, R, F> {
               is_named = self.new.is_named;
               name = self.new.name.items;
               trouble = self.new.trouble;
+              learnt = self.new.learnt;
             })
             out.old.items out.new.items) }
         ensures err { OnErr result (out.new.items ≡ out.old.items) }
@@ -144,6 +149,7 @@ impl<'b, 'a, H: DeskBrand, R: Wait, F: Wake> AtDesk<'b, 'a, H, R, F> {
               is_named = self.old.is_named;
               name = self.old.name.items;
               trouble = self.old.trouble;
+              learnt = self.old.learnt;
             })
             (record {
               seat = self.new.taken.seat;
@@ -152,6 +158,7 @@ impl<'b, 'a, H: DeskBrand, R: Wait, F: Wake> AtDesk<'b, 'a, H, R, F> {
               is_named = self.new.is_named;
               name = self.new.name.items;
               trouble = self.new.trouble;
+              learnt = self.new.learnt;
             })
             out.old.items out.new.items) }
         ensures err { OnErr result (out.new.items ≡ out.old.items) }
@@ -178,6 +185,7 @@ impl<'b, 'a, H: DeskBrand, R: Wait, F: Wake> AtDesk<'b, 'a, H, R, F> {
               is_named = self.old.is_named;
               name = self.old.name.items;
               trouble = self.old.trouble;
+              learnt = self.old.learnt;
             })
             (record {
               seat = self.new.taken.seat;
@@ -186,6 +194,7 @@ impl<'b, 'a, H: DeskBrand, R: Wait, F: Wake> AtDesk<'b, 'a, H, R, F> {
               is_named = self.new.is_named;
               name = self.new.name.items;
               trouble = self.new.trouble;
+              learnt = self.new.learnt;
             })
             out.old.items out.new.items) }
         ensures err { OnErr result (out.new.items ≡ out.old.items) }

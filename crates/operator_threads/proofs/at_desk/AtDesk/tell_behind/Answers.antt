@@ -14,6 +14,7 @@ returns-then-not-has_news-clause-ok g c =
       is_named = c.args.self.now.is_named;
       name = c.args.self.now.name.items;
       trouble = c.args.self.now.trouble;
+      learnt = c.args.self.now.learnt;
     } in (
       [],
       sym (append-nil c.args.out.now.items),
