@@ -57,8 +57,8 @@ from lab.waits import carried_out, within
 from operators.shared import add_program, fail
 
 NEEDS = "the program, rtpengine, and what it names where it skips; a quarter of an hour, half on a loaded machine"
-# In seconds: the most that a step may take, and its callers until all are in the room.
-STEP, GATHERING = 180, 300
+# The most that a step's callers may take until all are in the room, in seconds.
+GATHERING = 300
 
 
 def options(parser):
@@ -101,7 +101,7 @@ def carry_out(trial, one, args):
     desk."""
     begun, callers = time.monotonic(), one.gathers(args)
     joined = not callers or carried_out(trial.check, f"{one}: callers join", GATHERING, lambda: trial.gather(callers))
-    ended = joined and carried_out(trial.check, str(one), STEP, getattr(trial, one.method))
+    ended = joined and carried_out(trial.check, str(one), one.seconds, getattr(trial, one.method))
     if not ended:
         trial.begin_anew()
     print(f"      {one}: {time.monotonic() - begun:.0f} s", flush=True)

@@ -26,9 +26,13 @@ NEEDS = {
 }
 
 
+# The most that a step may take, in seconds; and one by README's commands, for which a person has ten minutes.
+MOST, BY_README = 180, 700
+
+
 class Step(typing.NamedTuple):
     """A step of a part: its name there, the method of the call that carries it out, what it needs, the callers that are
-    in room 1 before it, and the step of its part that has to be done by then."""
+    in room 1 before it, the step of its part that has to be done by then, and the most seconds that it may take."""
 
     part: str
     name: str
@@ -36,6 +40,7 @@ class Step(typing.NamedTuple):
     needs: tuple
     callers: str = ""
     after: str = ""
+    seconds: int = MOST
 
     def __str__(self):
         return f"{self.part}.{self.name}"
@@ -54,13 +59,13 @@ class Step(typing.NamedTuple):
         return "kamailio" in self.needs or bool({*self.callers} & {*"DE"})
 
 
-def steps(part, needs, *names, callers="", after=""):
+def steps(part, needs, *names, callers="", after="", seconds=MOST):
     """Steps of a part that need the same. A name may have the needs of its own step behind a colon."""
     prefix, needs = "step" if callers or part in IN_CALL else "try", tuple(needs.split())
     for line in names:
         name, _, more = line.partition(": ")
         method = f"{prefix}_{name.replace('-', '_')}"
-        yield Step(part, name, method, (*needs, *more.split()), callers, after)
+        yield Step(part, name, method, (*needs, *more.split()), callers, after, seconds)
 
 
 # Parts whose steps bring callers of their own, and end those that there are.
@@ -83,7 +88,7 @@ STEPS = [
     *steps("recipes", f"{PHONES} sipp ffmpeg", "recording", "picture: gstreamer", "music-alone"),
     *steps("phones", "kamailio", "bad-phones", "holds: media"),
     *steps("gone", "", "without-rtpengine", "without-bridge"),
-    *steps("readme", f"{PHONES} browser baresip", "package: git", "clone"),
+    *steps("readme", f"{PHONES} browser baresip", "package: git", "clone", seconds=BY_README),
     *steps("pages", "browser", "pages"),
     *steps("turn", "browser coturn", "turn", "wrong-secret"),
     *steps("network", "browser namespaces", "network-joins"),
