@@ -78,6 +78,7 @@ def never():
 TAKES = {
     "RT_JOBS=": ("all proofs; its last line is compared with the crates and edits that are there", never),
     "confbridge-tools demo": ("a package, which `check package` installs, and a sound card", never),
+    "sudo cp /usr/share/confbridge/": ("a package, which `check package` installs", never),
     "examples/demo.sh --hear": ("a sound card; the demo runs until it is stopped", never),
     "(cd crates/desk_page && rt run": ("the page's program, which `rt ci` builds, and its port", may_have_page),
     "cd crates/confbridge && rt run --cpu": ("the program, which `rt ci` builds", lambda: is_built("confbridge")),
